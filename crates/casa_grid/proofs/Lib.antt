@@ -1,0 +1,4 @@
+pub mod Faults
+pub mod Windows
+pub mod Slots
+pub mod Equal

@@ -1,0 +1,4 @@
+pub mod Profile
+pub mod ProfileFaults
+pub mod Slots
+pub mod TimeOver

@@ -1,0 +1,118 @@
+ghost use Rattle.std.specs.Prelude.{◌≡◌, ◌≤◌, ◌<◌, ◌++◌, IfOk, OnOk, length};
+ghost use Rattle.casa_grid.specs.Profile.{highest_rate};
+ghost use Rattle.casa_grid.specs.Slots.{slots, slots_of_period, slot_count, window_at, begin_at, wanted, window_of};
+
+use crate::period::Period;
+use crate::profile::Profile;
+use crate::slot::Window;
+use casa_time::Moment;
+use std::alloc::{AllocError, Global};
+use std::marker::Model;
+
+/// A rate counts the flights in this many seconds.
+const SECONDS_PER_HOUR: u32 = 3_600;
+
+/// The slots of a profile.
+///
+/// Contracts see a grid as the profile that it was made of.
+#[derive(Drop)]
+pub struct Grid {
+    profile: Profile,
+    windows: Vec<Window>,
+}
+
+impl Model for Grid {
+    ghost use Rattle.std.specs.Prelude.{List, ◌≡◌};
+    ghost use Rattle.casa_grid.specs.declared.period.Period.{Period};
+    ghost use Rattle.casa_grid.specs.Slots.{slots};
+
+    ghost Value = { List Period };
+
+    ghost view = { λ g. g.profile };
+
+    ghost invariant = { λ g. g.windows.items ≡ slots g.profile };
+}
+
+impl Grid {
+    /// The grid of this profile, or `AllocError` where there is no memory for its slots.
+    pub fn of(alloc: Global, profile: &Profile) -> Result<Grid, AllocError>
+        ensures { IfOk result (λ grid. grid ≡ profile.now) }
+    {
+        let mut windows = Vec::new(alloc);
+        for period in profile.periods() {
+            push_slots(&mut windows, period)?;
+        }
+        let profile = profile.clone()?;
+        Ok(Grid { profile, windows })
+    }
+
+    /// The profile that the grid was made of.
+    pub fn profile(&self) -> &Profile
+        ensures { result.now ≡ self.now }
+    {
+        &self.profile
+    }
+
+    /// How many slots there are.
+    pub fn len(&self) -> usize
+        ensures { result ≡ length (slots self.now) }
+    {
+        self.windows.len()
+    }
+
+    /// Where slot `k` begins.
+    pub fn begin(&self, k: usize) -> Moment
+        requires { k < length (slots self.now) }
+        ensures { result ≡ begin_at (slots self.now) k }
+    {
+        self.windows[k].begin
+    }
+
+    /// The slot that a flight with this estimated time over asks for, the first whose window ends after it;
+    /// `None` where every window has ended by then.
+    pub fn wanted(&self, eto: Moment) -> Option<usize>
+        ensures { result ≡ wanted (slots self.now) eto }
+    {
+        let windows = self.windows.as_slice();
+        windows.iter().position(|window| eto < window.until)
+    }
+
+    /// The slot whose window holds this moment; `None` where no window does.
+    pub fn window_of(&self, at: Moment) -> Option<usize>
+        ensures { result ≡ window_of (slots self.now) at }
+    {
+        let windows = self.windows.as_slice();
+        windows
+            .iter()
+            .position(|window| window.begin <= at && at < window.until)
+    }
+}
+
+/// Appends the slots of one period.
+fn push_slots(windows: &mut Vec<Window>, period: &Period) -> Result<(), AllocError>
+    requires filled { period.now.begin < period.now.until }
+    requires rate { period.now.rate ≤ highest_rate }
+    ensures ok { OnOk result (windows.new.items ≡ windows.old.items ++ slots_of_period period.now) }
+{
+    let length = period.until.secs() - period.begin.secs();
+    let count = (length * period.rate).div_ceil(SECONDS_PER_HOUR);
+    for j in 0..count {
+        windows.push(window_at(period, j))?;
+    }
+    Ok(())
+}
+
+/// The window of slot `j` of a period.
+fn window_at(period: &Period, j: u32) -> Window
+    requires slot { j < slot_count period.now }
+    requires rate { period.now.rate ≤ highest_rate }
+    ensures { result ≡ window_at period.now j }
+{
+    let (from, end) = (period.begin.secs(), period.until.secs());
+    let begin = from + j * SECONDS_PER_HOUR / period.rate;
+    let next = from + (j + 1) * SECONDS_PER_HOUR / period.rate;
+    Window {
+        begin: Moment::new(begin).unwrap(),
+        until: Moment::new(next.min(end)).unwrap(),
+    }
+}

@@ -1,0 +1,86 @@
+use crate::{Grid, Period, Profile, ProfileFault};
+use casa_time::Moment;
+use std::alloc::{AllocError, Global};
+use std::test::Fail;
+
+/// A period from `begin` to `until`, in seconds, with this rate.
+fn period(begin: u32, until: u32, rate: u32) -> Result<Period, Fail> {
+    Ok(Period {
+        begin: Moment::new(begin)?,
+        until: Moment::new(until)?,
+        rate,
+    })
+}
+
+/// The fault of these periods, if they have one.
+fn fault_of(alloc: Global, periods: &[Period]) -> Option<ProfileFault> {
+    Profile::new(alloc, periods).err()
+}
+
+#[test]
+fn rate_28_gives_56_slots_in_two_hours(rt: HostRuntime) -> Result<(), Fail> {
+    let profile = Profile::new(rt.alloc(), &[period(36000, 43200, 28)?])?;
+    let grid = Grid::of(rt.alloc(), &profile)?;
+    assert_eq!(rt; grid.len(), 56);
+    for (k, begin) in [(0, 36000), (1, 36128), (2, 36257), (3, 36385), (55, 43071)] {
+        assert!(rt; k < grid.len());
+        assert_eq!(rt; grid.begin(k).secs(), begin, "slot {k}");
+    }
+    for (eto, slot) in [
+        (36127, Some(0)),
+        (36128, Some(1)),
+        (43199, Some(55)),
+        (43200, None),
+    ] {
+        assert_eq!(rt; grid.wanted(Moment::new(eto)?), slot, "asked at {eto}");
+        assert_eq!(rt; grid.window_of(Moment::new(eto)?), slot, "held at {eto}");
+    }
+    assert_eq!(rt; grid.window_of(Moment::new(35999)?), None);
+    let (start, end) = profile.span();
+    assert_eq!(rt; (start.secs(), end.secs()), (36000, 43200));
+    assert!(rt; *grid.profile() == profile);
+    assert!(rt; profile.clone()? == profile);
+    assert_eq!(rt; profile.periods(), [period(36000, 43200, 28)?].as_slice());
+    Ok(())
+}
+
+#[test]
+fn each_fault_has_its_name(rt: HostRuntime) -> Result<(), Fail> {
+    let alloc = rt.alloc();
+    assert_eq!(rt; fault_of(alloc, &[]), Some(ProfileFault::NoPeriods));
+    let many = [period(0, 1, 1)?; 25];
+    assert_eq!(rt; fault_of(alloc, &many), Some(ProfileFault::TooManyPeriods));
+    let apart = [period(0, 10, 1)?, period(20, 30, 1)?];
+    assert_eq!(rt; fault_of(alloc, &apart), Some(ProfileFault::Gap));
+    let fast = [period(0, 10, 601)?];
+    assert_eq!(rt; fault_of(alloc, &fast), Some(ProfileFault::BadRate));
+    let long = [period(0, 86401, 1)?];
+    assert_eq!(rt; fault_of(alloc, &long), Some(ProfileFault::TooLong));
+    Ok(())
+}
+
+/// Run also with each allocation refused in turn: the refused call answers want of memory and nothing
+/// else, and is as good as new when it is made again.
+#[test]
+fn a_refused_growth_is_want_of_memory(rt: HostRuntime) -> Result<(), Fail> {
+    let alloc = rt.alloc();
+    let periods = [period(0, 60, 600)?, period(60, 120, 0)?];
+    let profile = match Profile::new(alloc, &periods) {
+        Ok(profile) => profile,
+        Err(fault) => {
+            assert_eq!(rt; fault, ProfileFault::NoMemory);
+            Profile::new(alloc, &periods)?
+        }
+    };
+    let grid = match Grid::of(alloc, &profile) {
+        Ok(grid) => grid,
+        Err(AllocError) => Grid::of(alloc, &profile)?,
+    };
+    let copy = match profile.clone() {
+        Ok(copy) => copy,
+        Err(AllocError) => profile.clone()?,
+    };
+    assert_eq!(rt; grid.len(), 10);
+    assert!(rt; copy == profile);
+    Ok(())
+}
