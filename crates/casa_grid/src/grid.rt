@@ -60,6 +60,13 @@ impl Grid {
         self.windows.len()
     }
 
+    /// The slots' windows, in order of time.
+    pub fn windows(&self) -> &[Window]
+        ensures { result.now ≡ slots self.now }
+    {
+        self.windows.as_slice()
+    }
+
     /// Where slot `k` begins.
     pub fn begin(&self, k: usize) -> Moment
         requires { k < length (slots self.now) }

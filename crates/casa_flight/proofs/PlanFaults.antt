@@ -1,0 +1,38 @@
+-- what has no fault is a valid plan
+use Rattle.std.proofs.Common.{◌≡◌, ℕ, ◌+◌, ◌≤◌, List, [], ◌∷◌, length, true, false, not, nat_lt, None, arith, subst}
+use Rattle.std.specs.List.{list_any, AllPairs}
+use Rattle.std.proofs.lemmas.Bool.{ltb-false, or_parts, both_ways}
+use Rattle.std.proofs.lemmas.List.Kept.{AllPairs-cons}
+use Rattle.std.proofs.lemmas.Cmp.{nat_list_eq_equiv}
+use Rattle.casa_grid.proofs.Faults.{passed, none_any}
+use Rattle.casa_flight.specs.declared.plan.Crossing.{Crossing}
+use Rattle.casa_flight.specs.declared.plan.PlanFault.TheVariants.{BadKey, TaxiTooLong, TooManyCrossings, SameLocation, EtoBeforeTakeOff, OutOfRange}
+use Rattle.casa_flight.specs.Text.{is_name, same_text}
+use Rattle.casa_flight.specs.FlightPlan.{IsValid, longest_taxi, most_crossings}
+use Rattle.casa_time.specs.Moment.{last_moment}
+use Rattle.casa_flight.specs.PlanFaults.{plan_fault, has_twice, has_early}
+
+unlike : (a b : List ℕ) → same_text a b ≡ false → a ≡ b → ⊥
+unlike a b h e = both_ways _ h (subst (λ (t : List ℕ). same_text a t ≡ true) e (nat_list_eq_equiv.refl a))
+
+apart : (via : List Crossing) → has_twice via ≡ false → AllPairs (λ (a b : Crossing). a.loc ≡ b.loc → ⊥) via
+apart [] h = λ i j d lt in'. absurd (omega arith)
+apart (c ∷ cs) h =
+    let parts = or_parts (list_any (λ (d : Crossing). same_text c.loc d.loc) cs) (has_twice cs) h in
+    AllPairs-cons (λ (a b : Crossing). a.loc ≡ b.loc → ⊥) c cs (none_any (λ (d : Crossing). same_text c.loc d.loc) (λ (d : Crossing). c.loc ≡ d.loc → ⊥) (λ d. unlike c.loc d.loc) cs parts.0) (apart cs parts.1)
+
+pub is_valid : (key : List ℕ) (eobt taxi : ℕ) (via : List Crossing) → plan_fault key eobt taxi via ≡ None → IsValid eobt taxi via
+is_valid key eobt taxi via h =
+    let a = passed (not (is_name key)) BadKey _ h in
+    let b = passed (nat_lt longest_taxi taxi) TaxiTooLong _ a.1 in
+    let c = passed (nat_lt most_crossings (length via)) TooManyCrossings _ b.1 in
+    let d = passed (has_twice via) SameLocation _ c.1 in
+    let e = passed (has_early (eobt + taxi) via) EtoBeforeTakeOff _ d.1 in
+    let f = passed (nat_lt last_moment (eobt + taxi)) OutOfRange _ e.1 in
+    record {
+      short_taxi = ltb-false longest_taxi taxi b.0;
+      few = ltb-false most_crossings (length via) c.0;
+      apart = apart via d.0;
+      later = none_any (λ (c : Crossing). nat_lt c.eto (eobt + taxi)) (λ (c : Crossing). eobt + taxi ≤ c.eto) (λ c t. ltb-false c.eto (eobt + taxi) t) via e.0;
+      in_range = ltb-false last_moment (eobt + taxi) f.0;
+    }

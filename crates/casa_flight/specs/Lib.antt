@@ -1,0 +1,13 @@
+pub mod Text
+pub mod NameInside
+pub mod FlightPlan
+pub mod PlanFaults
+pub mod PlanEquality
+pub mod Refusals
+pub mod State
+pub mod Assignment
+pub mod Listing
+pub mod Entry
+pub mod Steps
+pub mod Replies
+pub mod Good

@@ -1,0 +1,115 @@
+ghost use Rattle.std.specs.Prelude.{◌≡◌, IfOk};
+ghost use Rattle.casa_flight.specs.Refusals.{code_of, name_of};
+
+use crate::key::{Key, Loc, RegId};
+use crate::plan::Plan;
+use casa_grid::Profile;
+use casa_time::Moment;
+use std::alloc::AllocError;
+
+/// What a desk asks of the allocator.
+#[derive(Drop, Debug, PartialEq, Eq)]
+pub enum Call {
+    /// Adds a flight.
+    File(Plan),
+    /// Replaces a flight's plan.
+    Amend(Plan),
+    /// Removes a flight.
+    Cancel(Key),
+    /// Looks for a better slot.
+    Revise(Key),
+    /// Marks a flight as exempt.
+    Exempt(Key),
+    /// Opens a regulation.
+    OpenReg(RegId, Loc, Profile),
+    /// Closes a regulation.
+    CloseReg(RegId),
+    /// Changes a regulation's rates.
+    Rates(RegId, Profile),
+    /// Moves the clock.
+    Tick(Moment),
+    /// Answers a flight as it stands.
+    Show(Key),
+    /// Answers a regulation's list as it stands.
+    List(RegId),
+}
+
+impl Call {
+    /// The same call in memory of its own, or `AllocError` where there is no memory for it.
+    pub fn try_clone(&self) -> Result<Call, AllocError>
+        ensures { IfOk result (λ copy. copy ≡ self.now) }
+    {
+        Ok(match self {
+            Call::File(plan) => Call::File(plan.clone()?),
+            Call::Amend(plan) => Call::Amend(plan.clone()?),
+            Call::Cancel(key) => Call::Cancel(*key),
+            Call::Revise(key) => Call::Revise(*key),
+            Call::Exempt(key) => Call::Exempt(*key),
+            Call::OpenReg(id, loc, profile) => Call::OpenReg(*id, *loc, profile.clone()?),
+            Call::CloseReg(id) => Call::CloseReg(*id),
+            Call::Rates(id, profile) => Call::Rates(*id, profile.clone()?),
+            Call::Tick(at) => Call::Tick(*at),
+            Call::Show(key) => Call::Show(*key),
+            Call::List(id) => Call::List(*id),
+        })
+    }
+}
+
+/// Why the allocator refuses a call. A refused call changes nothing.
+#[derive(Clone, Copy, PartialEq, Eq, Debug)]
+pub enum Refusal {
+    /// The key of the filed plan is in use.
+    Duplicate,
+    /// No flight has this key.
+    NoFlight,
+    /// The plan's off-block time is before the clock.
+    Late,
+    /// The flight is exempt, by a mark or by its plan.
+    AlreadyExempt,
+    /// A regulation is open under this identifier.
+    DuplicateRegulation,
+    /// No regulation is open under this identifier.
+    NoRegulation,
+    /// 256 regulations are open.
+    TooManyRegulations,
+    /// The new profile has another start or end.
+    SpanChanged,
+    /// The new time is before the clock.
+    BackInTime,
+}
+
+impl Refusal {
+    /// The number of the refusal, 1 to 9.
+    pub fn code(self) -> u8
+        ensures { result ≡ code_of self }
+    {
+        match self {
+            Refusal::Duplicate => 1,
+            Refusal::NoFlight => 2,
+            Refusal::Late => 3,
+            Refusal::AlreadyExempt => 4,
+            Refusal::DuplicateRegulation => 5,
+            Refusal::NoRegulation => 6,
+            Refusal::TooManyRegulations => 7,
+            Refusal::SpanChanged => 8,
+            Refusal::BackInTime => 9,
+        }
+    }
+
+    /// The name of the refusal, as in `"NoFlight"`.
+    pub fn name(self) -> &'static str
+        ensures { result.now ≡ name_of self }
+    {
+        match self {
+            Refusal::Duplicate => "Duplicate",
+            Refusal::NoFlight => "NoFlight",
+            Refusal::Late => "Late",
+            Refusal::AlreadyExempt => "AlreadyExempt",
+            Refusal::DuplicateRegulation => "DuplicateRegulation",
+            Refusal::NoRegulation => "NoRegulation",
+            Refusal::TooManyRegulations => "TooManyRegulations",
+            Refusal::SpanChanged => "SpanChanged",
+            Refusal::BackInTime => "BackInTime",
+        }
+    }
+}

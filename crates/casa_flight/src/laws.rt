@@ -1,0 +1,105 @@
+//! Laws of the definitions, each on a function that does nothing: what the contracts of this crate mean.
+
+ghost use Rattle.std.specs.Prelude.{◌≡◌, ℕ, ◌-◌, List, ◌∷◌, ◌++◌, take, length, map, Option, Some, None, unwrap_or};
+ghost use Rattle.std.specs.Option.{option_map, option_and_then};
+ghost use Rattle.casa_grid.specs.Profile.{end_of};
+ghost use Rattle.casa_grid.specs.Slots.{slots};
+ghost use Rattle.casa_grid.specs.TimeOver.{cto};
+ghost use Rattle.casa_flight.specs.declared.comp.Comp.{Comp};
+ghost use Rattle.casa_flight.specs.declared.comp.Assigned.{Assigned};
+ghost use Rattle.casa_flight.specs.declared.regulation.Measure.{Measure};
+ghost use Rattle.casa_flight.specs.declared.row.Row.{Row};
+ghost use Rattle.casa_flight.specs.declared.row.Stance.{Stance};
+ghost use Rattle.casa_flight.specs.declared.state.State.{State};
+ghost use Rattle.casa_flight.specs.Text.{Text, put, without};
+ghost use Rattle.casa_flight.specs.State.{row_of, measure_of, with_row, regulation, subject};
+ghost use Rattle.casa_flight.specs.Assignment.{Occupancy, IsRight, assignment, Precedes};
+ghost use Rattle.casa_flight.specs.Listing.{Listing, listing, list_of, stance_in, stance_of, places, place_of};
+ghost use Rattle.casa_flight.specs.Listing.{cto_of, delay_of, governing_list};
+ghost use Rattle.casa_flight.specs.Entry.{Offer, situation, offer};
+ghost use Rattle.casa_flight.specs.Good.{AreInOrder, IsGood};
+ghost use Rattle.casa_flight.specs.State.{empty};
+ghost use Rattle.casa_flight.specs.Steps.{next};
+ghost use Rattle.casa_flight.specs.declared.call.Call.{Call};
+
+/// First planned, first served has one answer: `assignment` is right, and nothing else is.
+pub fn assignment_is_right()
+    ensures right { (o : Occupancy) (cs : List Comp) → IsRight o (assignment o cs) }
+    ensures whose { (o : Occupancy) (cs : List Comp) → map (λ (a : Assigned). a.comp) (assignment o cs) ≡ cs }
+    ensures only { (o : Occupancy) (all : List Assigned) → IsRight o all →
+        all ≡ assignment o (map (λ (a : Assigned). a.comp) all) }
+{}
+
+/// Later competitors change nothing for earlier ones.
+pub fn later_competitors_change_nothing()
+    ensures { (o : Occupancy) (cs ds : List Comp) →
+        take (length cs) (assignment o (cs ++ ds)) ≡ assignment o cs }
+{}
+
+/// Along the competitors of a list, in their order, places rise; behind one that is over all are over.
+pub fn places_rise()
+    ensures { (l : Listing) (before : List Assigned) (a : Assigned) (between : List Assigned) (b : Assigned)
+        (after : List Assigned) →
+        places l ≡ before ++ a ∷ between ++ b ∷ after → Precedes a.place b.place }
+{}
+
+/// A written or removed row changes the entry of its own flight in each list, and nothing else there. A flight
+/// stands in a list as its row says.
+pub fn written_row_changes_its_entries()
+    ensures puts { (m : State) (key id : Text) (row : Row) (measure : Measure) (l : Listing) (s : Stance) →
+        AreInOrder m.rows → measure_of m id ≡ Some measure → list_of m id ≡ Some l →
+        stance_in id measure row ≡ Some s →
+        list_of (with_row m key row) id ≡ Some (record l { flights = put l.flights key s }) }
+    ensures removes { (m : State) (key id : Text) (row : Row) (measure : Measure) (l : Listing) →
+        AreInOrder m.rows → measure_of m id ≡ Some measure → list_of m id ≡ Some l →
+        stance_in id measure row ≡ None →
+        list_of (with_row m key row) id ≡ Some (record l { flights = without l.flights key }) }
+    ensures spares { (m : State) (key id : Text) (row : Row) (measure : Measure) (l : Listing) →
+        AreInOrder m.rows → measure_of m id ≡ Some measure → list_of m id ≡ Some l →
+        stance_in id measure row ≡ None → stance_of l key ≡ None →
+        list_of (with_row m key row) id ≡ Some l }
+    ensures cancelled { (m : State) (key id : Text) (measure : Measure) (l : Listing) →
+        AreInOrder m.rows → measure_of m id ≡ Some measure → list_of m id ≡ Some l →
+        list_of (record m { rows = without m.rows key }) id ≡ Some (record l { flights = without l.flights key }) }
+    ensures found { (m : State) (key id : Text) (row : Row) (measure : Measure) (l : Listing) →
+        AreInOrder m.rows → measure_of m id ≡ Some measure → list_of m id ≡ Some l →
+        row_of m key ≡ Some row → stance_of l key ≡ stance_in id measure row }
+    ensures absent { (m : State) (key id : Text) (measure : Measure) (l : Listing) →
+        AreInOrder m.rows → measure_of m id ≡ Some measure → list_of m id ≡ Some l →
+        row_of m key ≡ None → stance_of l key ≡ None }
+{}
+
+/// A flight's delay is that of its issue or, before it is issued, of its place in its governing list. It has none
+/// where no regulation governs it.
+pub fn delay_is_of_the_place()
+    ensures governed { (m : State) (key id : Text) (row : Row) (measure : Measure) (eto : ℕ) →
+        AreInOrder m.rows → row_of m key ≡ Some row → row.governing ≡ Some id →
+        measure_of m id ≡ Some measure → subject row.plan (regulation id measure) ≡ Some eto →
+        let place = place_of (listing m.rows id measure) key in
+        delay_of m key row ≡
+        unwrap_or row.issued (cto (slots measure.profile) (end_of measure.profile) eto place) - eto }
+    ensures free { (m : State) (key : Text) (row : Row) → row.governing ≡ None → delay_of m key row ≡ 0 }
+{}
+
+/// A regulation offers a flight the delay and the calculated time over that the flight has once the regulation
+/// governs it.
+pub fn offer_is_the_delay_there()
+    ensures delay { (m : State) (key id : Text) (row : Row) (measure : Measure) (eto : ℕ) →
+        AreInOrder m.rows → measure_of m id ≡ Some measure →
+        subject row.plan (regulation id measure) ≡ Some eto →
+        let there : Row = record row { governing = Some id; issued = None } in
+        option_map (λ (o : Offer). o.delay) (offer (situation m) key row.plan (regulation id measure)) ≡
+        Some (delay_of (with_row m key there) key there) }
+    ensures time { (m : State) (key id : Text) (row : Row) (measure : Measure) (eto : ℕ) →
+        AreInOrder m.rows → measure_of m id ≡ Some measure →
+        subject row.plan (regulation id measure) ≡ Some eto →
+        let there : Row = record row { governing = Some id; issued = None } in
+        option_map (λ (o : Offer). o.cto) (offer (situation m) key row.plan (regulation id measure)) ≡
+        option_and_then (λ (l : Listing). cto_of l key) (governing_list (with_row m key there) there) }
+{}
+
+/// The empty state is good, and every call leads from a good state to a good one.
+pub fn good_states_are_kept()
+    ensures opening { IsGood empty }
+    ensures kept { (m : State) (call : Call) → IsGood m → IsGood (next m call) }
+{}

@@ -1,0 +1,34 @@
+//! Flights, regulations, calls and replies, and what the calls mean.
+//!
+//! The definitions in `specs/` are those of the sequential allocator: for every state and call, the reply and
+//! the next state. Whatever else in casa allocates is proved against them.
+#![tactic(auto)]
+
+mod call;
+mod comp;
+mod equality;
+mod key;
+mod laws;
+mod name;
+mod plan;
+mod regulation;
+mod reply;
+mod row;
+mod state;
+#[cfg(test)]
+mod tests;
+
+pub use call::{Call, Refusal};
+pub use comp::{Assigned, Comp};
+pub use equality::{call_equality, reply_equality};
+pub use key::{Key, Loc, RegId};
+pub use laws::{
+    assignment_is_right, delay_is_of_the_place, good_states_are_kept,
+    later_competitors_change_nothing, offer_is_the_delay_there, places_rise,
+    written_row_changes_its_entries,
+};
+pub use plan::{Crossing, Plan, PlanFault, Sts};
+pub use regulation::{Measure, Regulation};
+pub use reply::{Answer, FlightReply, Kind, ListReply, ListRow, Message, Messages, Reply, Rows};
+pub use row::{Row, Stance, subject};
+pub use state::State;

@@ -1,0 +1,123 @@
+ghost use Rattle.std.specs.Prelude.{◌≡◌, ◌==◌, ◌↔◌, true, IsSome, IfSome};
+ghost use Rattle.std.specs.List.{list_all};
+ghost use Rattle.std.specs.Ordering.{nat_cmp, as_partial_cmp};
+ghost use Rattle.std.specs.Cmp.{partial_order_from_own_ties};
+ghost use Rattle.std.specs.Cmp.Lexicographic.{pointwise, slice_cmp};
+ghost use Rattle.std.specs.Cmp.Rules.{comparing};
+ghost use Rattle.std.proofs.Common.{rules};
+ghost use Rattle.casa_flight.specs.Text.{is_name, is_name_byte};
+
+use std::cmp::Ordering;
+use std::marker::Model;
+
+/// The longest name, in characters.
+const MAX_LEN: usize = 10;
+
+/// A text of 1 to 10 characters of A to Z and 0 to 9.
+///
+/// Contracts see a name as the list of its bytes.
+#[derive(Clone, Copy, Debug)]
+pub struct Name {
+    bytes: [u8; MAX_LEN],
+    len: usize,
+}
+
+impl Model for Name {
+    ghost use Rattle.std.specs.Prelude.{List, ℕ, take};
+
+    ghost Value = { List ℕ };
+
+    ghost use Rattle.casa_flight.specs.NameInside.{IsInside, padded, inside_padded};
+
+    ghost view = { λ n. take n.len n.bytes };
+
+    ghost invariant = { IsInside };
+
+    ghost inverse = { padded };
+
+    ghost inverse_ok = { inside_padded };
+}
+
+/// Whether a text is a name: 1 to 10 characters of A to Z and 0 to 9.
+pub fn is_name(text: &[u8]) -> bool
+    ensures { result ≡ is_name text.now }
+{
+    0 < text.len() && text.len() <= MAX_LEN && are_name_bytes(text)
+}
+
+fn are_name_bytes(text: &[u8]) -> bool
+    ensures { result ≡ list_all is_name_byte text.now }
+{
+    text.iter().all(|byte| is_name_byte(*byte))
+}
+
+/// Whether a byte is one of A to Z and 0 to 9.
+fn is_name_byte(byte: u8) -> bool
+    ensures { result ≡ is_name_byte byte }
+{
+    (b'0' <= byte && byte <= b'9') || (b'A' <= byte && byte <= b'Z')
+}
+
+impl Name {
+    /// The name with these bytes, or `None` where they are no name.
+    pub fn new(text: &[u8]) -> Option<Name>
+        ensures valid { IsSome result ↔ (is_name text.now ≡ true) }
+        ensures value { IfSome result (λ name. name ≡ text.now) }
+    {
+        if !is_name(text) {
+            return None;
+        }
+        let mut bytes = [0; MAX_LEN];
+        let (front, _) = bytes.split_at_mut(text.len());
+        front.copy_from_slice(text);
+        Some(Name {
+            bytes,
+            len: text.len(),
+        })
+    }
+
+    /// The characters.
+    pub fn as_bytes(&self) -> &[u8]
+        ensures { result.now ≡ self.now }
+    {
+        &self.bytes[..self.len]
+    }
+}
+
+impl PartialEq for Name {
+    ghost eq = { pointwise ◌==◌ };
+
+    ghost laws = { Prim.search (comparing, rules) };
+
+    fn eq(&self, other: &Name) -> bool {
+        self.as_bytes() == other.as_bytes()
+    }
+}
+
+impl Eq for Name {
+    ghost laws = { Prim.search (comparing, rules) };
+}
+
+impl Ord for Name {
+    ghost cmp = { slice_cmp nat_cmp };
+
+    ghost total = { Prim.search (comparing, rules) };
+
+    ghost matches_partial_cmp = { Prim.search (comparing, rules) };
+
+    ghost matches_eq = { Prim.search (comparing, rules) };
+
+    fn cmp(&self, other: &Name) -> Ordering {
+        self.as_bytes().cmp(other.as_bytes())
+    }
+}
+
+impl PartialOrd for Name {
+    ghost partial_cmp = { as_partial_cmp (slice_cmp nat_cmp) };
+
+    ghost laws = { partial_order_from_own_ties (Prim.search (comparing, rules)) (Prim.search (comparing, rules)) };
+
+    fn partial_cmp(&self, other: &Name) -> Option<Ordering> {
+        Some(self.cmp(other))
+    }
+}

@@ -1,0 +1,37 @@
+ghost use Rattle.std.specs.Prelude.{◌≡◌, IfOk};
+
+use crate::key::{Loc, RegId};
+use casa_grid::Profile;
+use casa_time::Moment;
+use std::alloc::AllocError;
+
+/// An open regulation as the catalogue has it: the location that it protects, and its span from `start` to
+/// before `end`.
+#[derive(Clone, Copy, PartialEq, Eq, Debug)]
+pub struct Regulation {
+    pub id: RegId,
+    pub loc: Loc,
+    pub start: Moment,
+    pub end: Moment,
+}
+
+/// What a regulation does: it protects this location at the rates of this profile.
+#[derive(Drop, Debug)]
+pub struct Measure {
+    pub loc: Loc,
+    pub profile: Profile,
+}
+
+impl Clone for Measure {
+    ghost is_clone = { λ measure copy. copy ≡ measure };
+
+    /// The same measure in memory of its own, or `AllocError` where there is no memory for it.
+    fn clone(&self) -> Result<Measure, AllocError>
+        ensures { IfOk result (λ copy. copy ≡ self.now) }
+    {
+        Ok(Measure {
+            loc: self.loc,
+            profile: self.profile.clone()?,
+        })
+    }
+}
