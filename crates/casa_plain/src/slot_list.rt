@@ -1,0 +1,224 @@
+//! The slot allocation list of one regulation.
+
+ghost use Rattle.std.specs.Prelude.{◌≡◌, ◌-◌, ◌≤◌, IfOk, OnOk, length};
+ghost use Rattle.std.specs.List.{filter_map};
+ghost use Rattle.casa_time.specs.Moment.{last_moment};
+ghost use Rattle.casa_grid.specs.Profile.{end_of};
+ghost use Rattle.casa_grid.specs.Slots.{slots, window_of};
+ghost use Rattle.casa_grid.specs.TimeOver.{cto as time_over};
+ghost use Rattle.casa_flight.specs.declared.row.Stance.{Stance};
+ghost use Rattle.casa_flight.specs.Text.{Text};
+ghost use Rattle.casa_flight.specs.Listing.{listing, kept, stance_in, competitor, issued_cto, in_order, is_before};
+ghost use Rattle.casa_flight.specs.Listing.{places, place_of, stance_of, cto_as, cto_of, eto_as, delay_in};
+ghost use Rattle.casa_flight.specs.Entry.{with_competitor};
+
+use crate::assignment::{assignment, cto, place_among};
+use crate::order::in_order;
+use crate::standing::{competitor, eto_as, issued_cto, stance_in};
+use casa_flight::{Assigned, Comp, Key, Measure, RegId, Row, Stance};
+use casa_grid::{Grid, Place};
+use casa_time::Moment;
+use std::alloc::{AllocError, Global};
+use std::collections::BTreeMap;
+use std::marker::Model;
+
+/// A regulation's slots, and how each flight that is subject to it stands there.
+#[derive(Drop)]
+pub struct SlotList {
+    grid: Grid,
+    flights: BTreeMap<Key, Stance>,
+}
+
+impl Model for SlotList {
+    ghost use Rattle.casa_flight.specs.Listing.{Listing};
+
+    ghost Value = { Listing };
+
+    ghost view = { λ l. record { profile = l.grid; flights = l.flights.entries } };
+}
+
+/// How each of these flights stands that is subject to the regulation.
+fn stances(
+    alloc: Global,
+    rows: &BTreeMap<Key, Row>,
+    id: RegId,
+    measure: &Measure,
+) -> Result<BTreeMap<Key, Stance>, AllocError>
+    ensures { IfOk result (λ flights. flights.entries ≡ kept (stance_in id measure.now) rows.now.entries) }
+{
+    let mut flights = BTreeMap::new(alloc);
+    for (key, row) in rows.iter() {
+        if let Some(stance) = stance_in(id, measure, row) {
+            flights.insert(*key, stance)?;
+        }
+    }
+    Ok(flights)
+}
+
+/// The competitors among these flights, by key.
+fn competing(alloc: Global, flights: &BTreeMap<Key, Stance>) -> Result<Vec<Comp>, AllocError>
+    ensures { IfOk result (λ comps. comps.items ≡
+        filter_map (λ (e : Text × Stance). competitor e.0 e.1) flights.now.entries) }
+{
+    flights
+        .iter()
+        .filter_map(|(key, stance)| competitor(*key, stance))
+        .collect(alloc)
+}
+
+/// The competitors among these flights, in their order.
+fn competitors(alloc: Global, flights: &BTreeMap<Key, Stance>) -> Result<Vec<Comp>, AllocError>
+    ensures { IfOk result (λ comps. comps.items ≡ in_order is_before
+        (filter_map (λ (e : Text × Stance). competitor e.0 e.1) flights.now.entries)) }
+{
+    let comps = competing(alloc, flights)?;
+    in_order(alloc, comps.as_slice())
+}
+
+/// The times of the issued flights among these.
+fn issued_times(alloc: Global, flights: &BTreeMap<Key, Stance>) -> Result<Vec<Moment>, AllocError>
+    ensures { IfOk result (λ times. times.items ≡
+        filter_map (λ (e : Text × Stance). issued_cto e.1) flights.now.entries) }
+{
+    flights
+        .iter()
+        .filter_map(|(_, stance)| issued_cto(stance))
+        .collect(alloc)
+}
+
+/// The places of the competitors among these flights, in the slots of this grid.
+fn places(
+    alloc: Global,
+    grid: &Grid,
+    flights: &BTreeMap<Key, Stance>,
+) -> Result<Vec<Assigned>, AllocError>
+    ensures { IfOk result (λ all. all.items ≡ places (record { profile = grid.now; flights = flights.now.entries })) }
+{
+    let issued = issued_times(alloc, flights)?;
+    let comps = competitors(alloc, flights)?;
+    assignment(alloc, grid.windows(), issued.as_slice(), comps.as_slice())
+}
+
+/// The calculated time over at a place in this grid.
+fn cto_at(grid: &Grid, eto: Moment, place: Place) -> Moment
+    ensures { result ≡ time_over (slots grid.now) (end_of grid.now) eto place }
+{
+    let (_start, end) = grid.profile().span();
+    cto(grid.windows(), end, eto, place)
+}
+
+impl SlotList {
+    /// The list of a regulation, among these flights.
+    pub fn of(
+        alloc: Global,
+        rows: &BTreeMap<Key, Row>,
+        id: RegId,
+        measure: &Measure,
+    ) -> Result<SlotList, AllocError>
+        ensures { IfOk result (λ list. list ≡ listing rows.now.entries id measure.now) }
+    {
+        let grid = Grid::of(alloc, &measure.profile)?;
+        let flights = stances(alloc, rows, id, measure)?;
+        Ok(SlotList { grid, flights })
+    }
+
+    /// How many slots the list has.
+    pub fn len(&self) -> usize
+        ensures { result ≡ length (slots self.now.profile) }
+    {
+        self.grid.len()
+    }
+
+    /// The slot whose window holds this moment.
+    pub fn window_of(&self, at: Moment) -> Option<usize>
+        ensures { result ≡ window_of (slots self.now.profile) at }
+    {
+        self.grid.window_of(at)
+    }
+
+    /// How each flight stands.
+    pub fn flights(&self) -> &BTreeMap<Key, Stance>
+        ensures { result.now.entries ≡ self.now.flights }
+    {
+        &self.flights
+    }
+
+    /// Makes the flight a competitor.
+    pub fn add_competitor(&mut self, key: Key, eto: Moment) -> Result<(), AllocError>
+        ensures { OnOk result (self.new ≡ with_competitor self.old key eto) }
+    {
+        self.flights.insert(key, Stance::Competing { eto })?;
+        Ok(())
+    }
+
+    /// The places of the competitors.
+    fn places(&self, alloc: Global) -> Result<Vec<Assigned>, AllocError>
+        ensures { IfOk result (λ all. all.items ≡ places self.now) }
+    {
+        places(alloc, &self.grid, &self.flights)
+    }
+
+    /// The flight's place.
+    pub fn place_of(&self, alloc: Global, key: Key) -> Result<Place, AllocError>
+        ensures { IfOk result (λ place. place ≡ place_of self.now key) }
+    {
+        let all = self.places(alloc)?;
+        Ok(place_among(all.as_slice(), key))
+    }
+
+    /// How the flight stands, if it is subject to the regulation.
+    fn stance_of(&self, key: Key) -> Option<Stance>
+        ensures { result ≡ stance_of self.now key }
+    {
+        self.flights.get(&key).copied()
+    }
+
+    /// The calculated time over at a place in the list.
+    fn cto_at(&self, eto: Moment, place: Place) -> Moment
+        ensures { result ≡ time_over (slots self.now.profile) (end_of self.now.profile) eto place }
+    {
+        cto_at(&self.grid, eto, place)
+    }
+
+    /// The calculated time over of the flight where it stands so.
+    pub fn cto_as(&self, alloc: Global, key: Key, stance: &Stance) -> Result<Moment, AllocError>
+        ensures { IfOk result (λ cto. cto ≡ cto_as self.now key stance.now) }
+    {
+        match stance {
+            Stance::Competing { eto } => Ok(self.cto_at(*eto, self.place_of(alloc, key)?)),
+            Stance::Issued { cto, .. } => Ok(*cto),
+            Stance::Forced { eto } => Ok(*eto),
+        }
+    }
+
+    /// The flight's calculated time over, if it is subject to the regulation.
+    pub fn cto_of(&self, alloc: Global, key: Key) -> Result<Option<Moment>, AllocError>
+        ensures { IfOk result (λ cto. cto ≡ cto_of self.now key) }
+    {
+        match self.stance_of(key) {
+            Some(stance) => Ok(Some(self.cto_as(alloc, key, &stance)?)),
+            None => Ok(None),
+        }
+    }
+
+    /// The delay of the flight where it stands so, in seconds.
+    fn delay_as(&self, alloc: Global, key: Key, stance: &Stance) -> Result<u32, AllocError>
+        ensures value { IfOk result (λ delay. delay ≡ cto_as self.now key stance.now - eto_as stance.now) }
+        ensures in_range { IfOk result (λ delay. delay ≤ last_moment) }
+    {
+        let eto = eto_as(stance);
+        let cto = self.cto_as(alloc, key, stance)?;
+        Ok(cto.secs().saturating_sub(eto.secs()))
+    }
+
+    /// The flight's delay in the list, in seconds.
+    pub fn delay_in(&self, alloc: Global, key: Key) -> Result<u32, AllocError>
+        ensures value { IfOk result (λ delay. delay ≡ delay_in self.now key) }
+        ensures in_range { IfOk result (λ delay. delay ≤ last_moment) }
+    {
+        match self.stance_of(key) {
+            Some(stance) => self.delay_as(alloc, key, &stance),
+            None => Ok(0),
+        }
+    }
+}

@@ -1,0 +1,132 @@
+use crate::Plain;
+use casa_flight::{
+    Answer, Call, Crossing, FlightReply, Key, Kind, ListReply, ListRow, Loc, Message, Messages,
+    Plan, Refusal, RegId, Reply, Rows, Sts,
+};
+use casa_grid::{Period, Profile};
+use casa_time::Moment;
+use std::alloc::{AllocError, Global};
+use std::test::Fail;
+
+/// The key with this text.
+fn key(text: &[u8]) -> Result<Key, Fail> {
+    Key::new(text).ok_or_else(|| Fail::new("no key"))
+}
+
+/// The location with this text.
+fn loc(text: &[u8]) -> Result<Loc, Fail> {
+    Loc::new(text).ok_or_else(|| Fail::new("no location"))
+}
+
+/// The identifier with this text.
+fn reg(text: &[u8]) -> Result<RegId, Fail> {
+    RegId::new(text).ok_or_else(|| Fail::new("no identifier"))
+}
+
+/// The call that opens R1 at LA from 36000 to 37200, at 30 flights per hour.
+fn open(alloc: Global) -> Result<Call, Fail> {
+    let period = Period {
+        begin: Moment::new(36_000)?,
+        until: Moment::new(37_200)?,
+        rate: 30,
+    };
+    let profile = Profile::new(alloc, &[period])?;
+    Ok(Call::OpenReg(reg(b"R1")?, loc(b"LA")?, profile))
+}
+
+/// The call that files a flight over LA: off-block at 30000, ten minutes of taxi.
+fn file(alloc: Global, key: &[u8], over: u32) -> Result<Call, Fail> {
+    let crossing = Crossing {
+        loc: loc(b"LA")?,
+        eto: Moment::new(over)?,
+    };
+    let eobt = Moment::new(30_000)?;
+    let plan = Plan::new(alloc, key, eobt, 600, &[crossing], Sts::Plain)?;
+    Ok(Call::File(plan))
+}
+
+/// The reply with this answer and these messages.
+fn answered(alloc: Global, answer: Answer, messages: &[Message]) -> Result<Reply, AllocError> {
+    let messages = Messages::of(Vec::from_slice(alloc, messages)?);
+    Ok(Reply::Answered(answer, messages))
+}
+
+/// The answer with a flight that R1 governs.
+fn flight(text: &[u8], ctot: u32, delay: u32, issued: bool) -> Result<Answer, Fail> {
+    Ok(Answer::Flight(FlightReply {
+        key: key(text)?,
+        eobt: Moment::new(30_000)?,
+        etot: 30_600,
+        ctot,
+        delay,
+        exempt: false,
+        issued,
+        reg: Some(reg(b"R1")?),
+    }))
+}
+
+/// A row of a list.
+fn row(text: &[u8], eto: u32, cto: u32, kind: Kind, slot: usize) -> Result<ListRow, Fail> {
+    Ok(ListRow {
+        key: key(text)?,
+        eto: Moment::new(eto)?,
+        cto,
+        kind,
+        slot: Some(slot),
+    })
+}
+
+/// The answer with the list of R1 that has these rows.
+fn list(alloc: Global, rows: &[ListRow]) -> Result<Answer, Fail> {
+    Ok(Answer::List(ListReply {
+        reg: reg(b"R1")?,
+        loc: loc(b"LA")?,
+        start: Moment::new(36_000)?,
+        end: Moment::new(37_200)?,
+        slots: 10,
+        rows: Rows::of(Vec::from_slice(alloc, rows)?),
+    }))
+}
+
+#[test]
+fn two_flights_get_slots_two_minutes_apart(rt: HostRuntime) -> Result<(), Fail> {
+    let alloc = rt.alloc();
+    let mut plain = Plain::new(alloc);
+    let (a, b, r1) = (key(b"A")?, key(b"B")?, reg(b"R1")?);
+
+    let opened = plain.step(alloc, &open(alloc)?)?;
+    assert_eq!(rt; opened, answered(alloc, Answer::Done, &[])?);
+    let first = plain.step(alloc, &file(alloc, b"A", 36_010)?)?;
+    assert_eq!(rt;
+        first,
+        answered(alloc, flight(b"A", 30_600, 0, false)?, &[])?
+    );
+    let second = plain.step(alloc, &file(alloc, b"B", 36_005)?)?;
+    assert_eq!(rt;
+        second,
+        answered(alloc, flight(b"B", 30_600, 0, false)?, &[])?
+    );
+
+    let rows = [
+        row(b"B", 36_005, 36_005, Kind::Pre, 0)?,
+        row(b"A", 36_010, 36_120, Kind::Pre, 1)?,
+    ];
+    let listed = plain.step(alloc, &Call::List(r1))?;
+    assert_eq!(rt; listed, answered(alloc, list(alloc, &rows)?, &[])?);
+
+    let sent = [Message::Sam(a, 30_710, r1), Message::Sam(b, 30_600, r1)];
+    let ticked = plain.step(alloc, &Call::Tick(Moment::new(22_800)?))?;
+    assert_eq!(rt; ticked, answered(alloc, Answer::Done, &sent)?);
+    let shown = plain.step(alloc, &Call::Show(a))?;
+    assert_eq!(rt;
+        shown,
+        answered(alloc, flight(b"A", 30_710, 110, true)?, &[])?
+    );
+    let back = plain.step(alloc, &Call::Tick(Moment::new(22_799)?))?;
+    assert_eq!(rt; back, Reply::Refused(Refusal::BackInTime));
+
+    let closed = plain.step(alloc, &Call::CloseReg(r1))?;
+    let dropped = [Message::Slc(a), Message::Slc(b)];
+    assert_eq!(rt; closed, answered(alloc, Answer::Done, &dropped)?);
+    Ok(())
+}
