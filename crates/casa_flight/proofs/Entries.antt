@@ -3,6 +3,7 @@ use Rattle.std.proofs.Common.{◌≡◌, List, [], ◌∷◌, Bool, true, false,
 use Rattle.std.specs.declared.cmp.Ordering.{Ordering}
 use Rattle.std.specs.declared.cmp.Ordering.TheVariants.{Less, Equal, Greater}
 use Rattle.std.specs.Ordering.{is_eq, match_ordering, nat_cmp, ordering_reverse}
+use Rattle.std.specs.Option.{option_map}
 use Rattle.std.specs.List.{AllByRecursion, filter_map, cons_option}
 use Rattle.std.specs.List.Sorted.{IsStrictlySortedBy}
 use Rattle.std.specs.Map.{remove_entry, keys_of}
@@ -209,4 +210,17 @@ at-without_other {X} q k (e ∷ es) h =
           let apart : is_eq (text_cmp q e.0) ≡ false = ap (λ (p : Text). is_eq (text_cmp q p)) (sym (same_name k e.0 t)) ∙ h in
           sym (ap (λ b. cond b (Some e.1) (at_name es q)) apart)
       | false ↦ λ t. ap (λ (o : Option X). cond (is_eq (text_cmp q e.0)) (Some e.1) o) (at-without_other q k es h)
+    ] refl
+
+pub filter_map-each : {X Y : Type 0} (f g : X → Option Y) (xs : List X) → AllByRecursion (λ (x : X). f x ≡ g x) xs → filter_map f xs ≡ filter_map g xs
+filter_map-each f g [] h = refl
+filter_map-each {X} {Y} f g (x ∷ xs) h = λ i. cons_option (h.0 i) (filter_map-each f g xs h.1 i)
+
+-- a look-up among entries with other values under their names
+pub at-map : {X : Type 0} (f : Text → X → X) (k : Text) (es : List (Text × X)) → at_name (map (λ (e : Text × X). (e.0, f e.0 e.1)) es) k ≡ option_map (f k) (at_name es k)
+at-map f k [] = refl
+at-map {X} f k (e ∷ es) =
+    elim (is_eq (text_cmp k e.0)) as (λ b. is_eq (text_cmp k e.0) ≡ b → cond b (Some (f e.0 e.1)) (at_name (map (λ (e : Text × X). (e.0, f e.0 e.1)) es) k) ≡ option_map (f k) (cond b (Some e.1) (at_name es k))) [
+      | true ↦ λ p. ap (λ (q : Text). Some (f q e.1)) (sym (same_name k e.0 p))
+      | false ↦ λ p. at-map f k es
     ] refl

@@ -1,9 +1,9 @@
--- the kept entries of a map, once an entry of the map is written or removed
+-- the kept entries of a map, once an entry of the map is written or removed, and maps with the same look-ups
 use Rattle.std.proofs.Common.{◌≡◌, List, [], ◌∷◌, true, false, cond, refl, sym, ap, subst, ◌∙◌, Option, None, Some}
 use Rattle.std.specs.declared.cmp.Ordering.TheVariants.{Less, Equal, Greater}
-use Rattle.std.specs.Ordering.{is_eq, match_ordering}
+use Rattle.std.specs.Ordering.{is_eq, match_ordering, ordering_reverse}
 use Rattle.std.specs.Option.{option_map, option_and_then}
-use Rattle.std.specs.List.{AllByRecursion, cons_option}
+use Rattle.std.specs.List.{AllByRecursion, cons_option, filter_map}
 use Rattle.std.specs.List.Sorted.{IsStrictlySortedBy}
 use Rattle.std.specs.Map.{keys_of}
 use Rattle.casa_flight.specs.Text.{Text, at_name, put, without}
@@ -22,7 +22,7 @@ abbrev behind : {X : Type 0} → Text → Option X → List (Text × X) → List
 behind {X} k w es = cons_option (option_map (λ (x : X). (k, x)) w) es
 
 -- each name comes after k
-abbrev Above : {X : Type 0} → Text → List (Text × X) → Type 0
+abbrev pub Above : {X : Type 0} → Text → List (Text × X) → Type 0
 Above k es = AllByRecursion (λ q. text_cmp k q ≡ Less) (keys_of es)
 
 above-behind : {X : Type 0} (k q : Text) (w : Option X) (es : List (Text × X)) → text_cmp k q ≡ Less → Above k es → Above k (behind q w es)
@@ -40,7 +40,7 @@ set_above k (Some x) [] h = refl
 set_above k None (e ∷ es) h = ap (λ r. cond (is_eq r) es (e ∷ without es k)) h.0 ∙ ap (λ ys. e ∷ ys) (set_above k None es h.1)
 set_above k (Some x) (e ∷ es) h = ap (λ r. match_ordering r ((k, x) ∷ e ∷ es) ((e.0, x) ∷ es) (e ∷ put es k x)) h.0
 
-at_above : {X : Type 0} (k : Text) (es : List (Text × X)) → Above k es → at_name es k ≡ None
+pub at_above : {X : Type 0} (k : Text) (es : List (Text × X)) → Above k es → at_name es k ≡ None
 at_above k [] h = refl
 at_above k (e ∷ es) h = ap (λ r. cond (is_eq r) (Some e.1) (at_name es k)) h.0 ∙ at_above k es h.1
 
@@ -114,3 +114,65 @@ without_absent {X} k (e ∷ es) h =
       | true ↦ λ found. cc
       | false ↦ λ found. ap (λ ys. e ∷ ys) (without_absent k es found)
     ] h
+
+-- a removed name is not found
+pub at-without_same : {X : Type 0} (k : Text) (es : List (Text × X)) → AreInOrder es → at_name (without es k) k ≡ None
+unfolding IsStrictlySortedBy
+at-without_same k [] h = refl
+at-without_same {X} k (e ∷ es) h =
+    elim (is_eq (text_cmp k e.0)) as (λ b. is_eq (text_cmp k e.0) ≡ b → at_name (cond b es (e ∷ without es k)) k ≡ None) [
+      | true ↦ λ p. subst (λ t. at_name es t ≡ None) (sym (same_name k e.0 p)) (at_above e.0 es h.0)
+      | false ↦ λ p. ap (λ b. cond b (Some e.1) (at_name (without es k) k)) p ∙ at-without_same k es h.1
+    ] refl
+
+-- where h gives nothing at other names, all that it gives is what it gives at this one
+none_above : {X Z : Type 0} (h : Text × X → Option Z) (k : Text) (es : List (Text × X)) → Above k es → AllByRecursion (λ (e : Text × X). is_eq (text_cmp k e.0) ≡ false → h e ≡ None) es → filter_map h es ≡ []
+none_above h k [] above n = refl
+none_above h k (e ∷ es) above n = ap (λ w. cons_option w (filter_map h es)) (n.0 (ap is_eq above.0)) ∙ none_above h k es above.1 n.1
+
+pub filter_map-one : {X Z : Type 0} (h : Text × X → Option Z) (k : Text) (es : List (Text × X)) → AreInOrder es → AllByRecursion (λ (e : Text × X). is_eq (text_cmp k e.0) ≡ false → h e ≡ None) es
+    → filter_map h es ≡ cons_option (option_and_then (λ (x : X). h (k, x)) (at_name es k)) []
+unfolding IsStrictlySortedBy
+filter_map-one h k [] sorted n = refl
+filter_map-one {X} {Z} h k (e ∷ es) sorted n =
+    elim (is_eq (text_cmp k e.0)) as (λ b. is_eq (text_cmp k e.0) ≡ b → filter_map h (e ∷ es) ≡ cons_option (option_and_then (λ (x : X). h (k, x)) (cond b (Some e.1) (at_name es k))) []) [
+      | true ↦ λ p.
+          let here : k ≡ e.0 = same_name k e.0 p in
+          ap (λ (zs : List Z). cons_option (h e) zs) (none_above h k es (subst (λ t. Above t es) (sym here) sorted.0) n.1) ∙ ap (λ (t : Text). cons_option (h (t, e.1)) []) (sym here)
+      | false ↦ λ p. ap (λ (w : Option Z). cons_option w (filter_map h es)) (n.0 p) ∙ filter_map-one h k es sorted.1 n.1
+    ] refl
+
+-- maps in order with the same look-ups are the same
+found_head : {X : Type 0} (e : Text × X) (es : List (Text × X)) → at_name (e ∷ es) e.0 ≡ Some e.1
+found_head e es = ap (λ b. cond b (Some e.1) (at_name es e.0)) (itself e.0)
+
+some_or_none : {X : Type 0} {P : Type 0} (x : X) (w : Option X) → w ≡ Some x → w ≡ None → P
+some_or_none x w p q = let both : Some x ≡ None = sym p ∙ q in cc
+
+same_tails : {X : Type 0} (q a b : Text) → a ≡ b → (x y : X) (es fs : List (Text × X)) → Above a es → Above b fs → at_name ((a, x) ∷ es) q ≡ at_name ((b, y) ∷ fs) q → at_name es q ≡ at_name fs q
+same_tails {X} q a b same x y es fs above over found =
+    elim (is_eq (text_cmp q a)) as (λ t. is_eq (text_cmp q a) ≡ t → at_name es q ≡ at_name fs q) [
+      | true ↦ λ p.
+          subst (λ t. at_name es t ≡ at_name fs t) (sym (same_name q a p)) (at_above a es above ∙ sym (subst (λ t. at_name fs t ≡ None) (sym same) (at_above b fs over)))
+      | false ↦ λ p.
+          sym (ap (λ t. cond t (Some x) (at_name es q)) p) ∙ found ∙ ap (λ t. cond t (Some y) (at_name fs q)) (ap (λ c. is_eq (text_cmp q c)) (sym same) ∙ p)
+    ] refl
+
+pub same_entries : {X : Type 0} (es fs : List (Text × X)) → AreInOrder es → AreInOrder fs → ((q : Text) → at_name es q ≡ at_name fs q) → es ≡ fs
+unfolding IsStrictlySortedBy
+same_entries [] [] h g found = refl
+same_entries [] (f ∷ fs) h g found = some_or_none f.1 (at_name (f ∷ fs) f.0) (found_head f fs) (sym (found f.0))
+same_entries (e ∷ es) [] h g found = some_or_none e.1 (at_name (e ∷ es) e.0) (found_head e es) (found e.0)
+same_entries {X} (e ∷ es) (f ∷ fs) h g found =
+    elim (text_cmp e.0 f.0) as (λ r. text_cmp e.0 f.0 ≡ r → e ∷ es ≡ f ∷ fs) [
+      | Less ↦ λ p. some_or_none e.1 (at_name (e ∷ es) e.0) (found_head e es) (found e.0 ∙ at_above e.0 (f ∷ fs) (p, after_all e.0 f.0 p (keys_of fs) g.0))
+      | Greater ↦ λ p.
+          let less : text_cmp f.0 e.0 ≡ Less = nat_list_cmp_total.antisymm f.0 e.0 ∙ ap ordering_reverse p in
+          some_or_none f.1 (at_name (f ∷ fs) f.0) (found_head f fs) (sym (found f.0) ∙ at_above f.0 (e ∷ es) (less, after_all f.0 e.0 less (keys_of es) h.0))
+      | Equal ↦ λ p.
+          let names : e.0 ≡ f.0 = same_name e.0 f.0 (ap is_eq p) in
+          let values : Some e.1 ≡ Some f.1 = sym (found_head e es) ∙ found e.0 ∙ subst (λ t. at_name (f ∷ fs) t ≡ Some f.1) (sym names) (found_head f fs) in
+          let value : e.1 ≡ f.1 = cc in
+          let rest : es ≡ fs = same_entries es fs h.1 g.1 (λ q. same_tails q e.0 f.0 names e.1 f.1 es fs h.0 g.0 (found q)) in
+          λ i. (names i, value i) ∷ rest i
+    ] refl
