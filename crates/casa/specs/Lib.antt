@@ -1,0 +1,10 @@
+pub mod Fields
+pub mod Members
+pub mod Commands
+pub mod ReplyTexts
+pub mod Sending
+pub mod Lines
+pub mod LineReader
+pub mod Transcript
+pub mod Played
+pub mod First

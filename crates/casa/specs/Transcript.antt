@@ -1,0 +1,130 @@
+-- what a session writes for what it reads, whatever the desk answers
+use Rattle.std.specs.Prelude.{◌≡◌, ℕ, ◌+◌, ◌≤◌, List, [], ◌∷◌, ◌++◌, map, length, take, drop, true, false, Option, Result, Ok, Err, IfSome, if◌then◌else◌}
+use Rattle.std.specs.Io.KnownBytes.{Appends, Consumes, Keeps}
+use Rattle.casa_flight.specs.declared.call.Call.{Call}
+use Rattle.casa.specs.declared.fault.WireFault.{WireFault}
+use Rattle.casa.specs.declared.session.Receipt.{Receipt}
+use Rattle.casa.specs.declared.session.SessionFault.{SessionFault}
+use Rattle.casa.specs.declared.session.SessionFault.TheVariants.{LineTooLong, ReadFailed, WriteFailed, ForeignPass, NoMemory}
+use Rattle.casa.specs.Commands.{line_call}
+use Rattle.casa.specs.Lines.{ended_lines, lines_of, is_too_long, has_too_long}
+use Rattle.casa.specs.ReplyTexts.{reply_text, fault_text, too_long_text}
+use Rattle.casa.specs.Sending.{counted}
+
+abbrev pub calls_of : List Receipt → List Call
+calls_of receipts = map (λ (r : Receipt). r.call) receipts
+
+-- the call that a line is, if it is one
+abbrev pub call_list : Result Call WireFault → List Call
+call_list (Ok call) = call ∷ []
+call_list (Err fault) = []
+
+-- the calls of these lines; a line that is too long is the last one
+abbrev pub calls : List (List ℕ) → List Call
+calls [] = []
+calls (l ∷ ls) = if is_too_long l then [] else call_list (line_call l) ++ calls ls
+
+-- the text for a line, where these are the receipts of its call and of the calls after it
+abbrev pub answer_text : Result Call WireFault → List Receipt → List ℕ
+answer_text (Ok call) [] = []
+answer_text (Ok call) (r ∷ rs) = reply_text r.reply r.position
+answer_text (Err fault) rs = fault_text fault
+
+abbrev pub after_line : Result Call WireFault → List Receipt → List Receipt
+after_line (Ok call) rs = drop 1 rs
+after_line (Err fault) rs = rs
+
+-- the transcript of these lines, where their calls have these receipts; a line that is too long ends it
+abbrev pub transcript : List Receipt → List (List ℕ) → List ℕ
+transcript rs [] = []
+transcript rs (l ∷ ls) =
+    if is_too_long l then too_long_text
+    else answer_text (line_call l) rs ++ transcript (after_line (line_call l) rs) ls
+
+-- from the receipts a to b and the written bytes v to w: the calls of the lines were answered, and their transcript was
+-- written and nothing else
+pub record Answered (a b : List Receipt) (v w : Option (List ℕ)) (lines : List (List ℕ)) : Type 0 where
+  pub receipts : List Receipt
+  pub grows : b ≡ a ++ receipts
+  pub called : calls_of receipts ≡ calls lines
+  pub written : Appends v w (transcript receipts lines)
+
+-- the calls of the lines were answered, and the first n bytes of their transcript were written, where n is counted
+pub record Cut (a b : List Receipt) (v w : Option (List ℕ)) (lines : List (List ℕ)) (n : ℕ) : Type 0 where
+  pub receipts : List Receipt
+  pub grows : b ≡ a ++ receipts
+  pub called : calls_of receipts ≡ calls lines
+  pub count : ℕ
+  pub within : count ≤ length (transcript receipts lines)
+  pub told : n ≡ counted count
+  pub written : Appends v w (take count (transcript receipts lines))
+
+-- the calls of the lines were answered, and perhaps one more; the transcript of the lines was written and nothing else
+pub record Stopped (a b : List Receipt) (v w : Option (List ℕ)) (lines : List (List ℕ)) : Type 0 where
+  pub receipts : List Receipt
+  pub last : List Receipt
+  pub at_most_one : length last ≤ 1
+  pub grows : b ≡ (a ++ receipts) ++ last
+  pub called : calls_of receipts ≡ calls lines
+  pub written : Appends v w (transcript receipts lines)
+
+-- how a session ends, of an input with r to s left: with the transcript of all its lines, with that up to a line that is
+-- too long, with that of the lines ended before a read failed, within it where a write failed, or with that of the first
+-- lines where a call was refused for want of memory or for a pass of another engine
+abbrev pub Ends : Result ℕ SessionFault → (r s : Option (List ℕ)) (a b : List Receipt) (v w : Option (List ℕ)) → Type 0
+Ends (Ok n) r s a b v w =
+    IfSome r (λ xs. Answered a b v w (lines_of xs) × (has_too_long (lines_of xs) ≡ false) × (n ≡ length (lines_of xs)))
+Ends (Err LineTooLong) r s a b v w = IfSome r (λ xs. Answered a b v w (lines_of xs) × (has_too_long (lines_of xs) ≡ true))
+Ends (Err ReadFailed) r s a b v w =
+    (taken : List ℕ) × Consumes r s taken × Answered a b v w (ended_lines taken) × (has_too_long (ended_lines taken) ≡ false)
+Ends (Err (WriteFailed n)) r s a b v w =
+    IfSome r (λ xs. (lines rest : List (List ℕ)) × (lines_of xs ≡ lines ++ rest) × Cut a b v w lines n)
+Ends (Err ForeignPass) r s a b v w =
+    IfSome r (λ xs. (lines rest : List (List ℕ)) × (lines_of xs ≡ lines ++ rest) × Stopped a b v w lines)
+Ends (Err NoMemory) r s a b v w =
+    IfSome r (λ xs. (lines rest : List (List ℕ)) × (lines_of xs ≡ lines ++ rest) × Stopped a b v w lines)
+
+-- from the receipts a to b a line of this meaning was answered, by this text
+pub record Replied (a b : List Receipt) (meaning : Result Call WireFault) (text : List ℕ) : Type 0 where
+  pub receipts : List Receipt
+  pub grows : b ≡ a ++ receipts
+  pub called : calls_of receipts ≡ call_list meaning
+  pub told : text ≡ answer_text meaning receipts
+
+-- one receipt more at most
+pub record Kept (a b : List Receipt) : Type 0 where
+  pub last : List Receipt
+  pub grows : b ≡ a ++ last
+  pub at_most_one : length last ≤ 1
+
+-- the first k bytes of a text were written after `before` bytes, and n is how many these are
+pub record CutText (text : List ℕ) (before n : ℕ) (v w : Option (List ℕ)) : Type 0 where
+  pub count : ℕ
+  pub within : count ≤ length text
+  pub told : n ≡ counted (before + count)
+  pub written : Appends v w (take count text)
+
+abbrev pub IsRefused : SessionFault → Type 0
+IsRefused NoMemory = Unit {0}
+IsRefused ForeignPass = Unit {0}
+IsRefused LineTooLong = ⊥
+IsRefused ReadFailed = ⊥
+IsRefused (WriteFailed n) = ⊥
+
+-- how the answer to a line ends, after `before` written bytes
+abbrev pub LineEnds : Result ℕ SessionFault → ℕ → Result Call WireFault → (a b : List Receipt) (v w : Option (List ℕ)) → Type 0
+LineEnds (Ok n) before meaning a b v w =
+    (text : List ℕ) × Replied a b meaning text × Appends v w text × (n ≡ counted (before + length text))
+LineEnds (Err (WriteFailed n)) before meaning a b v w = (text : List ℕ) × Replied a b meaning text × CutText text before n v w
+LineEnds (Err LineTooLong) before meaning a b v w = ⊥
+LineEnds (Err ReadFailed) before meaning a b v w = ⊥
+LineEnds (Err ForeignPass) before meaning a b v w = Kept a b × Keeps v w
+LineEnds (Err NoMemory) before meaning a b v w = Kept a b × Keeps v w
+
+-- how the text for a line that is too long ends, after `before` written bytes
+abbrev pub TooLongEnds : SessionFault → ℕ → (v w : Option (List ℕ)) → Type 0
+TooLongEnds LineTooLong before v w = Appends v w too_long_text
+TooLongEnds (WriteFailed n) before v w = CutText too_long_text before n v w
+TooLongEnds ReadFailed before v w = ⊥
+TooLongEnds ForeignPass before v w = ⊥
+TooLongEnds NoMemory before v w = ⊥

@@ -1,0 +1,54 @@
+ghost use Rattle.std.specs.Prelude.{◌≡◌};
+ghost use Rattle.casa.specs.Fields.{field_name};
+
+use thiserror::Error;
+
+/// A member of a command.
+#[derive(Clone, Copy, PartialEq, Eq, Debug)]
+pub enum Field {
+    Key,
+    Eobt,
+    Taxi,
+    Via,
+    Sts,
+    Reg,
+    Loc,
+    Periods,
+    At,
+}
+
+impl Field {
+    /// The member's name in a command line.
+    pub fn name(self) -> &'static str
+        ensures { result.now ≡ field_name self }
+    {
+        match self {
+            Field::Key => "key",
+            Field::Eobt => "eobt",
+            Field::Taxi => "taxi",
+            Field::Via => "via",
+            Field::Sts => "sts",
+            Field::Reg => "reg",
+            Field::Loc => "loc",
+            Field::Periods => "periods",
+            Field::At => "at",
+        }
+    }
+}
+
+/// Why a line is no call, in the order of the checks.
+#[derive(Clone, Copy, PartialEq, Eq, Debug, Error)]
+pub enum WireFault {
+    /// The bytes are no JSON text.
+    #[error("NotJson")]
+    NotJson,
+    /// The value is no object, or its `cmd` is none of the commands.
+    #[error("NoCommand")]
+    NoCommand,
+    /// This member is absent or not what it must be, and those before it are.
+    #[error("BadField")]
+    BadField(Field),
+    /// There is no memory for the call.
+    #[error("NoMemory")]
+    NoMemory,
+}

@@ -1,0 +1,154 @@
+//! Answers the lines of an input, one after the other.
+
+ghost use Rattle.std.specs.Prelude.{◌≡◌, ◌∷◌, [], ◌++◌, List, IfOk, IfErr, OnErr};
+ghost use Rattle.casa.specs.declared.session.Receipt.{Receipt};
+ghost use Rattle.casa.specs.Commands.{line_call};
+ghost use Rattle.casa.specs.Transcript.{Ends, IsRefused, Kept, LineEnds, Replied, TooLongEnds};
+
+use crate::fault::WireFault;
+use crate::lines::{LineFault, LineReader, NextLine};
+use crate::reading::read_call;
+use crate::sending::send;
+use crate::texts::{fault_line, reply_line, too_long_line};
+use casa_flight::{Call, Reply};
+use std::alloc::Global;
+use std::io::{Read, Write};
+use thiserror::Error;
+
+/// What a desk answered to a call.
+#[derive(Drop, Debug)]
+pub struct Receipt {
+    /// The position of the entry in the history, from 1.
+    pub position: u64,
+    pub call: Call,
+    pub reply: Reply,
+}
+
+/// Why a desk gives no receipt.
+#[derive(Clone, Copy, PartialEq, Eq, Debug, Error)]
+pub enum CallFault {
+    /// The desk is none of this allocator's.
+    #[error("ForeignPass")]
+    ForeignPass,
+    /// There is no memory for the call.
+    #[error("NoMemory")]
+    NoMemory,
+}
+
+/// Why a session ended before its input did.
+#[derive(Clone, Copy, PartialEq, Eq, Debug, Error)]
+pub enum SessionFault {
+    /// A line has more than 65,536 bytes; its text was written.
+    #[error("LineTooLong")]
+    LineTooLong,
+    /// The reader failed, or was asked 4,294,967,295 times.
+    #[error("ReadFailed")]
+    ReadFailed,
+    /// The writer failed or took no byte, after it took this many in all, at most `u64::MAX`.
+    #[error("WriteFailed")]
+    WriteFailed(u64),
+    /// The desk is none of this allocator's.
+    #[error("ForeignPass")]
+    ForeignPass,
+    /// There is no memory for a line, its call or its reply.
+    #[error("NoMemory")]
+    NoMemory,
+}
+
+/// Answers calls, one at a time.
+pub trait Desk {
+    // The receipts so far.
+    ghost answered: { Self → List Receipt };
+
+    /// The receipt of the call. After a fault the desk has answered nothing more.
+    fn answer(&mut self, alloc: Global, call: &Call) -> Result<Receipt, CallFault>
+        ensures ok { IfOk result (λ receipt. answered self.new ≡ answered self.old ++ receipt ∷ []) }
+        ensures called { IfOk result (λ receipt. receipt.call ≡ call.now) }
+        ensures err { OnErr result (answered self.new ≡ answered self.old) };
+}
+
+/// Answers each line of the reader at the writer, and says how many there were.
+///
+/// Each reply is written before a read that may wait. A session ends at its first fault: what it had written
+/// and answered by then stands, and the call of a refused line may stand in the history.
+pub fn run<R: Read, W: Write, D: Desk>(
+    alloc: Global,
+    reader: &mut R,
+    writer: &mut W,
+    desk: &mut D,
+) -> Result<u64, SessionFault>
+    ensures { Ends result (R.remaining reader.old) (R.remaining reader.new) (D.answered desk.old) (D.answered desk.new) (W.contents writer.old) (W.contents writer.new) }
+{
+    let mut lines = LineReader::new();
+    let mut count = 0;
+    let mut written = 0;
+    'lines: loop {
+        match lines.next_line(alloc, reader) {
+            Ok(NextLine::Ended(line)) => {
+                written = answer_line(alloc, &line, writer, desk, written)?;
+                count += 1;
+            }
+            Ok(NextLine::Last(line)) => {
+                answer_line(alloc, &line, writer, desk, written)?;
+                return Ok(count + 1);
+            }
+            Ok(NextLine::End) => return Ok(count),
+            Err(LineFault::LineTooLong) => return Err(send_too_long(writer, written)),
+            Err(LineFault::ReadFailed) => return Err(SessionFault::ReadFailed),
+            Err(LineFault::NoMemory) => return Err(SessionFault::NoMemory),
+        }
+    }
+}
+
+/// Writes the answer to one line, after `written` bytes; how many bytes the writer has taken in all.
+fn answer_line<W: Write, D: Desk>(
+    alloc: Global,
+    line: &[u8],
+    writer: &mut W,
+    desk: &mut D,
+    written: u64,
+) -> Result<u64, SessionFault>
+    ensures { LineEnds result written (line_call line.now) (D.answered desk.old) (D.answered desk.new) (W.contents writer.old) (W.contents writer.new) }
+{
+    let text = match line_reply(alloc, desk, line) {
+        Ok(text) => text,
+        Err(fault) => return Err(fault),
+    };
+    match send(writer, &text, written) {
+        Ok(count) => Ok(count),
+        Err(unsent) => Err(SessionFault::WriteFailed(unsent.written)),
+    }
+}
+
+/// The text for one line: the reply to its call, or its fault.
+fn line_reply<D: Desk>(alloc: Global, desk: &mut D, line: &[u8]) -> Result<Vec<u8>, SessionFault>
+    ensures ok { IfOk result (λ text. Replied (D.answered desk.old) (D.answered desk.new) (line_call line.now) text.items) }
+    ensures err { OnErr result (Kept (D.answered desk.old) (D.answered desk.new)) }
+    ensures refused { IfErr result IsRefused }
+{
+    match read_call(alloc, line) {
+        Ok(call) => match desk.answer(alloc, &call) {
+            Ok(receipt) => match reply_line(alloc, &receipt.reply, receipt.position) {
+                Ok(text) => Ok(text),
+                Err(_) => Err(SessionFault::NoMemory),
+            },
+            Err(CallFault::ForeignPass) => Err(SessionFault::ForeignPass),
+            Err(CallFault::NoMemory) => Err(SessionFault::NoMemory),
+        },
+        Err(WireFault::NoMemory) => Err(SessionFault::NoMemory),
+        Err(fault) => match fault_line(alloc, fault) {
+            Ok(text) => Ok(text),
+            Err(_) => Err(SessionFault::NoMemory),
+        },
+    }
+}
+
+/// Writes the text for a line that is too long, after `written` bytes; the fault of the session.
+fn send_too_long<W: Write>(writer: &mut W, written: u64) -> SessionFault
+    ensures { TooLongEnds result written (W.contents writer.old) (W.contents writer.new) }
+{
+    match send(writer, too_long_line(), written) {
+        Ok(_) => SessionFault::LineTooLong,
+        Err(unsent) => SessionFault::WriteFailed(unsent.written),
+    }
+}
