@@ -23,11 +23,16 @@ AnsweredFirst r v w =
 -- where a write failed; with that of the first lines where memory was refused
 abbrev pub FirstEnds : Result ℕ SessionFault → (r s : Option (List ℕ)) (v w : Option (List ℕ)) → Type 0
 FirstEnds (Ok n) r s v w =
-    IfSome r (λ xs. Appends v w (transcript_of (lines_of xs)) × (has_too_long (lines_of xs) ≡ false) × (n ≡ length (lines_of xs)))
-FirstEnds (Err LineTooLong) r s v w = IfSome r (λ xs. Appends v w (transcript_of (lines_of xs)) × (has_too_long (lines_of xs) ≡ true))
-FirstEnds (Err ReadFailed) r s v w = (taken : List ℕ) × Consumes r s taken × Appends v w (transcript_of (ended_lines taken))
+    IfSome r (λ xs.
+    Appends v w (transcript_of (lines_of xs)) × (has_too_long (lines_of xs) ≡ false) × (n ≡ length (lines_of xs)))
+FirstEnds (Err LineTooLong) r s v w =
+    IfSome r (λ xs. Appends v w (transcript_of (lines_of xs)) × (has_too_long (lines_of xs) ≡ true))
+FirstEnds (Err ReadFailed) r s v w =
+    (taken : List ℕ) × Consumes r s taken × Appends v w (transcript_of (ended_lines taken))
+    × (has_too_long (ended_lines taken) ≡ false)
 FirstEnds (Err (WriteFailed n)) r s v w =
     IfSome r (λ xs. (lines rest : List (List ℕ)) × (lines_of xs ≡ lines ++ rest)
-    × ((count : ℕ) × (count ≤ length (transcript_of lines)) × (n ≡ counted count) × Appends v w (take count (transcript_of lines))))
+    × ((count : ℕ) × (count ≤ length (transcript_of lines)) × (n ≡ counted count)
+    × Appends v w (take count (transcript_of lines))))
 FirstEnds (Err ForeignPass) r s v w = AnsweredFirst r v w
 FirstEnds (Err NoMemory) r s v w = AnsweredFirst r v w

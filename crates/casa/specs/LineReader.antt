@@ -39,7 +39,8 @@ IsNext End old new = Consumes old new [] × IsAtEnd new
 
 -- what is left begins with a line that is too long
 abbrev pub BeginsTooLong : Option (List ℕ) → Type 0
-BeginsTooLong known = IfSome known (λ xs. (line rest : List ℕ) × HasNoLf line × (is_too_long line ≡ true) × (xs ≡ line ++ rest))
+BeginsTooLong known =
+    IfSome known (λ xs. (line rest : List ℕ) × HasNoLf line × (is_too_long line ≡ true) × (xs ≡ line ++ rest))
 
 -- why no line is given, of what was left: before a read that failed all pending bytes and all that was read are no line
 abbrev pub IsFault : LineFault → Option (List ℕ) → Option (List ℕ) → Type 0

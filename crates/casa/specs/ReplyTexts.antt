@@ -86,12 +86,16 @@ list_data l = object_of (
 
 -- an answer with its messages and the position of its entry in the history
 abbrev pub answer_data : Answer → List Message → ℕ → Data
-answer_data Done ms n = object_of ((codes "done", boolean true) ∷ (codes "msgs", messages_data ms) ∷ (codes "n", count n) ∷ [])
-answer_data (Flight f) ms n = object_of ((codes "flight", flight_data f) ∷ (codes "msgs", messages_data ms) ∷ (codes "n", count n) ∷ [])
-answer_data (Listing l) ms n = object_of ((codes "list", list_data l) ∷ (codes "msgs", messages_data ms) ∷ (codes "n", count n) ∷ [])
+answer_data Done ms n =
+    object_of ((codes "done", boolean true) ∷ (codes "msgs", messages_data ms) ∷ (codes "n", count n) ∷ [])
+answer_data (Flight f) ms n =
+    object_of ((codes "flight", flight_data f) ∷ (codes "msgs", messages_data ms) ∷ (codes "n", count n) ∷ [])
+answer_data (Listing l) ms n =
+    object_of ((codes "list", list_data l) ∷ (codes "msgs", messages_data ms) ∷ (codes "n", count n) ∷ [])
 
 abbrev pub reply_data : Reply → ℕ → Data
-reply_data (Refused r) n = object_of ((codes "code", count (code_of r)) ∷ (codes "n", count n) ∷ (codes "refused", string (name_of r)) ∷ [])
+reply_data (Refused r) n =
+    object_of ((codes "code", count (code_of r)) ∷ (codes "n", count n) ∷ (codes "refused", string (name_of r)) ∷ [])
 reply_data (Answered answer ms) n = answer_data answer ms n
 
 -- a line of output: the value in compact form, and LF
@@ -104,7 +108,8 @@ reply_text reply n = line_text (reply_data reply n)
 abbrev pub fault_data : WireFault → Data
 fault_data NotJson = object_of ((codes "fault", string (codes "NotJson")) ∷ [])
 fault_data NoCommand = object_of ((codes "fault", string (codes "NoCommand")) ∷ [])
-fault_data (BadField field) = object_of ((codes "fault", string (codes "BadField")) ∷ (codes "field", string (field_name field)) ∷ [])
+fault_data (BadField field) =
+    object_of ((codes "fault", string (codes "BadField")) ∷ (codes "field", string (field_name field)) ∷ [])
 fault_data NoMemory = null
 
 -- the line of a fault; want of memory is never written

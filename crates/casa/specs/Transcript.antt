@@ -73,10 +73,13 @@ pub record Stopped (a b : List Receipt) (v w : Option (List ℕ)) (lines : List 
 -- lines where a call was refused for want of memory or for a pass of another engine
 abbrev pub Ends : Result ℕ SessionFault → (r s : Option (List ℕ)) (a b : List Receipt) (v w : Option (List ℕ)) → Type 0
 Ends (Ok n) r s a b v w =
-    IfSome r (λ xs. Answered a b v w (lines_of xs) × (has_too_long (lines_of xs) ≡ false) × (n ≡ length (lines_of xs)))
-Ends (Err LineTooLong) r s a b v w = IfSome r (λ xs. Answered a b v w (lines_of xs) × (has_too_long (lines_of xs) ≡ true))
+    IfSome r (λ xs.
+    Answered a b v w (lines_of xs) × (has_too_long (lines_of xs) ≡ false) × (n ≡ length (lines_of xs)))
+Ends (Err LineTooLong) r s a b v w =
+    IfSome r (λ xs. Answered a b v w (lines_of xs) × (has_too_long (lines_of xs) ≡ true))
 Ends (Err ReadFailed) r s a b v w =
-    (taken : List ℕ) × Consumes r s taken × Answered a b v w (ended_lines taken) × (has_too_long (ended_lines taken) ≡ false)
+    (taken : List ℕ) × Consumes r s taken × Answered a b v w (ended_lines taken)
+    × (has_too_long (ended_lines taken) ≡ false)
 Ends (Err (WriteFailed n)) r s a b v w =
     IfSome r (λ xs. (lines rest : List (List ℕ)) × (lines_of xs ≡ lines ++ rest) × Cut a b v w lines n)
 Ends (Err ForeignPass) r s a b v w =

@@ -79,7 +79,8 @@ pub fn run<R: Read, W: Write>(
     reader: &mut R,
     writer: &mut W,
 ) -> Result<u64, SessionFault>
-    ensures { FirstEnds result (R.remaining reader.old) (R.remaining reader.new) (W.contents writer.old) (W.contents writer.new) }
+    ensures { FirstEnds result
+        (R.remaining reader.old) (R.remaining reader.new) (W.contents writer.old) (W.contents writer.new) }
 {
     let mut desk = PlainDesk::new(alloc);
     session::run(alloc, reader, writer, &mut desk)

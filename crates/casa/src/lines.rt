@@ -75,9 +75,11 @@ impl LineReader {
         alloc: Global,
         source: &mut R,
     ) -> Result<NextLine, LineFault>
-        ensures next { IfOk result (λ next. IsNext next (left self.old (R.remaining source.old)) (left self.new (R.remaining source.new))) }
+        ensures next { IfOk result (λ next.
+            IsNext next (left self.old (R.remaining source.old)) (left self.new (R.remaining source.new))) }
         ensures fewer { IfOk result (λ next. TakesSteps next (steps_left self.old) (steps_left self.new)) }
-        ensures err { IfErr result (λ fault. IsFault fault (left self.old (R.remaining source.old)) (R.remaining source.new)) }
+        ensures err { IfErr result (λ fault.
+            IsFault fault (left self.old (R.remaining source.old)) (R.remaining source.new)) }
     {
         let mut line = Vec::new(alloc);
         if self.take_part(&mut line)? {
@@ -113,13 +115,16 @@ impl LineReader {
     /// Whether there was one.
     fn take_part(&mut self, line: &mut Vec<u8>) -> Result<bool, LineFault>
         requires { is_too_long line.old.items ≡ false }
-        ensures ok { IfOk result (λ is_ended. (part : List ℕ) × HasNoLf part × IsPart is_ended (pending self.old) part (pending self.new) × (line.new.items ≡ line.old.items ++ part)) }
+        ensures ok { IfOk result (λ is_ended. (part : List ℕ) × HasNoLf part ×
+            IsPart is_ended (pending self.old) part (pending self.new) × (line.new.items ≡ line.old.items ++ part)) }
         ensures short { OnOk result (is_too_long line.new.items ≡ false) }
         ensures kept { OnOk result (steps_left self.new ≤ steps_left self.old) }
         ensures fewer { IfOk result (λ is_ended. is_ended ≡ true → steps_left self.new < steps_left self.old) }
         ensures emptied { IfOk result (λ is_ended. is_ended ≡ false → self.new.start ≡ self.new.end) }
         ensures reads { self.new.reads_left ≡ self.old.reads_left }
-        ensures too_long { IfErr result (λ fault. fault ≡ LineFault.LineTooLong → (part rest : List ℕ) × HasNoLf part × (pending self.old ≡ part ++ rest) × (is_too_long (line.old.items ++ part) ≡ true)) }
+        ensures too_long { IfErr result (λ fault. fault ≡ LineFault.LineTooLong →
+            (part rest : List ℕ) × HasNoLf part × (pending self.old ≡ part ++ rest) ×
+            (is_too_long (line.old.items ++ part) ≡ true)) }
         ensures not_read { IfErr result (λ fault. fault ≢ LineFault.ReadFailed) }
     {
         let (part, is_ended) = first_part(&self.buffer[self.start..self.end]);

@@ -20,7 +20,9 @@ pub struct Unsent {
 pub fn send<W: Write>(writer: &mut W, bytes: &[u8], written: u64) -> Result<u64, Unsent>
     ensures ok { OnOk result (Appends (W.contents writer.old) (W.contents writer.new) bytes.now) }
     ensures count { IfOk result (λ n. n ≡ counted (written + length bytes.now)) }
-    ensures err { IfErr result (λ e. (k : ℕ) × (k ≤ length bytes.now) × Appends (W.contents writer.old) (W.contents writer.new) (take k bytes.now) × (e.written ≡ counted (written + k))) }
+    ensures err { IfErr result (λ e. (k : ℕ) × (k ≤ length bytes.now) ×
+        Appends (W.contents writer.old) (W.contents writer.new) (take k bytes.now) ×
+        (e.written ≡ counted (written + k))) }
 {
     let mut at = 0;
     let mut count = written;

@@ -77,7 +77,9 @@ pub fn run<R: Read, W: Write, D: Desk>(
     writer: &mut W,
     desk: &mut D,
 ) -> Result<u64, SessionFault>
-    ensures { Ends result (R.remaining reader.old) (R.remaining reader.new) (D.answered desk.old) (D.answered desk.new) (W.contents writer.old) (W.contents writer.new) }
+    ensures { Ends result
+        (R.remaining reader.old) (R.remaining reader.new) (D.answered desk.old) (D.answered desk.new)
+        (W.contents writer.old) (W.contents writer.new) }
 {
     let mut lines = LineReader::new();
     let mut count = 0;
@@ -108,7 +110,8 @@ fn answer_line<W: Write, D: Desk>(
     desk: &mut D,
     written: u64,
 ) -> Result<u64, SessionFault>
-    ensures { LineEnds result written (line_call line.now) (D.answered desk.old) (D.answered desk.new) (W.contents writer.old) (W.contents writer.new) }
+    ensures { LineEnds result written (line_call line.now)
+        (D.answered desk.old) (D.answered desk.new) (W.contents writer.old) (W.contents writer.new) }
 {
     let text = match line_reply(alloc, desk, line) {
         Ok(text) => text,
@@ -122,7 +125,8 @@ fn answer_line<W: Write, D: Desk>(
 
 /// The text for one line: the reply to its call, or its fault.
 fn line_reply<D: Desk>(alloc: Global, desk: &mut D, line: &[u8]) -> Result<Vec<u8>, SessionFault>
-    ensures ok { IfOk result (λ text. Replied (D.answered desk.old) (D.answered desk.new) (line_call line.now) text.items) }
+    ensures ok { IfOk result (λ text.
+        Replied (D.answered desk.old) (D.answered desk.new) (line_call line.now) text.items) }
     ensures err { OnErr result (Kept (D.answered desk.old) (D.answered desk.new)) }
     ensures refused { IfErr result IsRefused }
 {

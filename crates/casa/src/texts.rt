@@ -65,7 +65,8 @@ fn answer_value(
     messages: Value,
     position: u64,
 ) -> Result<Value, AllocError>
-    ensures { IfOk result (λ value. (ms : List Message) → view messages ≡ messages_data ms → view value ≡ answer_data answer.now ms position) }
+    ensures { IfOk result (λ value. (ms : List Message) →
+        view messages ≡ messages_data ms → view value ≡ answer_data answer.now ms position) }
 {
     match answer {
         Answer::Done => json!(in alloc; {"done": true, "msgs": messages, "n": position}),
@@ -215,7 +216,8 @@ fn fault_value(alloc: Global, fault: WireFault) -> Result<Value, AllocError>
 }
 
 fn value_line(alloc: Global, value: &Value) -> Result<Vec<u8>, AllocError>
-    ensures { IfOk result (λ line. has_float (view value.now) ≡ false → line.items ≡ line_text (view value.now)) }
+    ensures { IfOk result (λ line.
+        has_float (view value.now) ≡ false → line.items ≡ line_text (view value.now)) }
 {
     let mut line = value.to_vec(alloc)?;
     line.push(b'\n')?;
