@@ -6,6 +6,7 @@ pub mod Same
 pub mod SameReply
 pub mod Assignment
 pub mod Rising
+pub mod Competitors
 pub mod Lists
 pub mod Times
 pub mod Choice

@@ -35,14 +35,14 @@ put_at {X} precedes x xs =
       | false ↦ λ p. let at_least : length xs ≤ n = ltb-false _ _ p in omega (arith, at_most, at_least)
     ] refl)
 
-put_first : {X : Type 0} (precedes : X → X → Bool) (x y : X) (ys : List X) → precedes y x ≡ false → put_by precedes x (y ∷ ys) ≡ x ∷ y ∷ ys
+pub put_first : {X : Type 0} (precedes : X → X → Bool) (x y : X) (ys : List X) → precedes y x ≡ false → put_by precedes x (y ∷ ys) ≡ x ∷ y ∷ ys
 put_first precedes x y ys p =
     put_at precedes x (y ∷ ys) ∙ ap (λ b. insert (y ∷ ys) (cond (not (not b)) (1 + position_or_len (λ z. not (precedes z x)) ys) 0) x) p
 
 one-add : (n : ℕ) → 1 + n ≡ suc n
 one-add n = omega arith
 
-put_later : {X : Type 0} (precedes : X → X → Bool) (x y : X) (ys : List X) → precedes y x ≡ true → put_by precedes x (y ∷ ys) ≡ y ∷ put_by precedes x ys
+pub put_later : {X : Type 0} (precedes : X → X → Bool) (x y : X) (ys : List X) → precedes y x ≡ true → put_by precedes x (y ∷ ys) ≡ y ∷ put_by precedes x ys
 put_later precedes x y ys p =
     put_at precedes x (y ∷ ys)
     ∙ ap (λ b. insert (y ∷ ys) (cond (not (not b)) (1 + position_or_len (λ z. not (precedes z x)) ys) 0) x) p
