@@ -24,13 +24,14 @@ pub struct Grid {
 impl Model for Grid {
     ghost use Rattle.std.specs.Prelude.{List, ◌≡◌};
     ghost use Rattle.casa_grid.specs.declared.period.Period.{Period};
+    ghost use Rattle.casa_grid.specs.Profile.{IsProfile};
     ghost use Rattle.casa_grid.specs.Slots.{slots};
 
     ghost Value = { List Period };
 
     ghost view = { λ g. g.profile };
 
-    ghost invariant = { λ g. g.windows.items ≡ slots g.profile };
+    ghost invariant = { λ g. (g.windows.items ≡ slots g.profile) × IsProfile g.profile };
 }
 
 impl Grid {
@@ -81,17 +82,16 @@ impl Grid {
         ensures { result ≡ wanted (slots self.now) eto }
     {
         let windows = self.windows.as_slice();
-        windows.iter().position(|window| eto < window.until)
+        let ended = windows.partition_point(|window| window.until <= eto);
+        (ended < windows.len()).then_some(ended)
     }
 
     /// The slot whose window holds this moment; `None` where no window does.
     pub fn window_of(&self, at: Moment) -> Option<usize>
         ensures { result ≡ window_of (slots self.now) at }
     {
-        let windows = self.windows.as_slice();
-        windows
-            .iter()
-            .position(|window| window.begin <= at && at < window.until)
+        let slot = self.wanted(at)?;
+        (self.windows[slot].begin <= at).then_some(slot)
     }
 }
 
