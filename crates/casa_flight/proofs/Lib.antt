@@ -7,6 +7,9 @@ pub mod SameReply
 pub mod Assignment
 pub mod Rising
 pub mod Competitors
+pub mod Issue
+pub mod Blocked
+pub mod MovesNobody
 pub mod Lists
 pub mod Times
 pub mod Choice

@@ -116,7 +116,7 @@ wanted_rises e f le [] = omega arith
 wanted_rises e f le (w ∷ ws) =
     wanted_step (nat_lt e w.until) (nat_lt f w.until) _ _ (λ h. lt-ltb _ _ (let lt : f < w.until = ltb-true _ _ h in omega arith)) (wanted_rises e f le ws)
 
-from_parts : (n size k : ℕ) → is_from (cond (nat_lt n size) (Some n) None) k ≡ true → (n < size) × (n ≤ k)
+pub from_parts : (n size k : ℕ) → is_from (cond (nat_lt n size) (Some n) None) k ≡ true → (n < size) × (n ≤ k)
 from_parts n size k =
     elim (nat_lt n size) as (λ b. nat_lt n size ≡ b → is_from (cond b (Some n) None) k ≡ true → (n < size) × (n ≤ k)) [
       | true ↦ λ e h. (ltb-true _ _ e, leb-true _ _ h)

@@ -1,8 +1,9 @@
 //! Laws of the definitions, each on a function that does nothing: what the contracts of this crate mean.
 
-ghost use Rattle.std.specs.Prelude.{◌≡◌, ℕ, ◌-◌, List, ◌∷◌, ◌++◌, take, length, map, Option, Some, None, unwrap_or};
+ghost use Rattle.std.specs.Prelude.{◌≡◌, ℕ, ◌-◌, List, ◌∷◌, ◌++◌, take, length, map, not, Option, Some, None, unwrap_or};
 ghost use Rattle.std.specs.Option.{option_map, option_and_then};
-ghost use Rattle.casa_grid.specs.Profile.{end_of};
+ghost use Rattle.std.specs.List.{filter};
+ghost use Rattle.casa_grid.specs.Profile.{IsProfile, end_of};
 ghost use Rattle.casa_grid.specs.Slots.{slots};
 ghost use Rattle.casa_grid.specs.TimeOver.{cto};
 ghost use Rattle.casa_flight.specs.declared.comp.Comp.{Comp};
@@ -10,8 +11,9 @@ ghost use Rattle.casa_flight.specs.declared.comp.Assigned.{Assigned};
 ghost use Rattle.casa_flight.specs.declared.regulation.Measure.{Measure};
 ghost use Rattle.casa_flight.specs.declared.row.Row.{Row};
 ghost use Rattle.casa_flight.specs.declared.row.Stance.{Stance};
+ghost use Rattle.casa_flight.specs.declared.row.Stance.TheVariants.{Competing, Issued};
 ghost use Rattle.casa_flight.specs.declared.state.State.{State};
-ghost use Rattle.casa_flight.specs.Text.{Text, put, without};
+ghost use Rattle.casa_flight.specs.Text.{Text, same_text, put, without};
 ghost use Rattle.casa_flight.specs.State.{row_of, measure_of, with_row, regulation, subject};
 ghost use Rattle.casa_flight.specs.Assignment.{Occupancy, IsRight, assignment, Precedes};
 ghost use Rattle.casa_flight.specs.Listing.{Listing, listing, list_of, stance_in, stance_of, places, place_of};
@@ -96,6 +98,19 @@ pub fn offer_is_the_delay_there()
         let there : Row = record row { governing = Some id; issued = None } in
         option_map (λ (o : Offer). o.cto) (offer (situation m) key row.plan (regulation id measure)) ≡
         option_and_then (λ (l : Listing). cto_of l key) (governing_list (with_row m key there) there) }
+{}
+
+/// A competitor that becomes issued at the calculated time over that it has moves nobody: in a list with a valid
+/// profile every other flight keeps its place, and the places are those of before without its own. So it is for one
+/// in a slot, which the issued time then blocks, and for one that is over.
+pub fn issue_moves_nobody()
+    ensures others { (l : Listing) (key other : Text) (eto t : ℕ) → IsProfile l.profile → AreInOrder l.flights →
+        stance_of l key ≡ Some (Competing eto) → cto_of l key ≡ Some t → (other ≡ key → ⊥) →
+        place_of (record l { flights = put l.flights key (Issued eto t) }) other ≡ place_of l other }
+    ensures places { (l : Listing) (key : Text) (eto t : ℕ) → IsProfile l.profile → AreInOrder l.flights →
+        stance_of l key ≡ Some (Competing eto) → cto_of l key ≡ Some t →
+        places (record l { flights = put l.flights key (Issued eto t) }) ≡
+        filter (λ (a : Assigned). not (same_text key a.comp.key)) (places l) }
 {}
 
 /// The empty state is good, and every call leads from a good state to a good one.
