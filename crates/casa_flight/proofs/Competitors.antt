@@ -17,7 +17,7 @@ use Rattle.casa_flight.specs.Listing.{Listing, put_by, is_before, competitor, co
 use Rattle.casa_flight.specs.Good.{AreInOrder}
 use Rattle.casa_flight.proofs.Entries.{text_cmp, same_name, itself, after_all}
 use Rattle.casa_flight.proofs.Kept.{Above, at_above, without_absent}
-use Rattle.casa_flight.proofs.Rising.{put_first, put_later}
+use Rattle.casa_flight.proofs.Rising.{put_first, put_later, all-put_by}
 
 -- the order of competitors as a relation
 abbrev Comes : Comp → Comp → Type 0
@@ -111,14 +111,6 @@ put_by-commutes x y other zs =
       | inl p ↦ put_both x y p (before_one_way x y p) zs
       | inr q ↦ sym (put_both y x q (before_one_way y x q) zs)
     ]
-
-pub all-put_by : {X : Type 0} (P : X → Type 0) (precedes : X → X → Bool) (x : X) → P x → (xs : List X) → AllByRecursion P xs → AllByRecursion P (put_by precedes x xs)
-all-put_by P precedes x new [] h = (new, tt)
-all-put_by {X} P precedes x new (y ∷ ys) h =
-    elim (precedes y x) as (λ b. precedes y x ≡ b → AllByRecursion P (put_by precedes x (y ∷ ys))) [
-      | true ↦ λ p. subst (AllByRecursion P) (sym (put_later precedes x y ys p)) (h.0, all-put_by P precedes x new ys h.1)
-      | false ↦ λ p. subst (AllByRecursion P) (sym (put_first precedes x y ys p)) (new, h)
-    ] refl
 
 -- an element that a test drops is dropped wherever it was put
 pub filter-put_by : {X : Type 0} (test : X → Bool) (precedes : X → X → Bool) (x : X) → test x ≡ false → (xs : List X) → filter test (put_by precedes x xs) ≡ filter test xs

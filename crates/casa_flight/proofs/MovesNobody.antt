@@ -8,6 +8,7 @@ use Rattle.std.specs.List.Sorted.{IsStrictlySortedBy}
 use Rattle.std.specs.Map.{keys_of}
 use Rattle.std.specs.Cmp.Lexicographic.{same_text as text_is}
 use Rattle.std.proofs.lemmas.Cmp.{nat_list_eq_equiv}
+use Rattle.std.proofs.Math.Bool.{or_assoc, or_comm}
 use Rattle.std.proofs.lemmas.Bool.{both_ways, false_from_ne_true, not-true}
 use Rattle.casa_grid.specs.declared.slot.Place.TheVariants.{Over}
 use Rattle.casa_grid.specs.Profile.{IsProfile, end_of}
@@ -33,19 +34,9 @@ use Rattle.casa_flight.proofs.Blocked.{AddsTime, blocks_place}
 abbrev times : List (Text × Stance) → List ℕ
 times fs = filter_map (λ (e : Text × Stance). issued_cto e.1) fs
 
-or_swapped : (a b : Bool) → (a || b) ≡ (b || a)
-or_swapped true true = refl
-or_swapped true false = refl
-or_swapped false true = refl
-or_swapped false false = refl
-
-or_regrouped : (a b c : Bool) → (a || (b || c)) ≡ ((a || b) || c)
-or_regrouped true b c = refl
-or_regrouped false b c = refl
-
 any_behind : (test : ℕ → Bool) (o : Option ℕ) (xs ys : List ℕ) (b : Bool) → list_any test xs ≡ (list_any test ys || b) → list_any test (cons_option o xs) ≡ (list_any test (cons_option o ys) || b)
 any_behind test None xs ys b h = h
-any_behind test (Some s) xs ys b h = ap (λ c. test s || c) h ∙ or_regrouped (test s) (list_any test ys) b
+any_behind test (Some s) xs ys b h = ap (λ c. test s || c) h ∙ sym (or_assoc (test s) (list_any test ys) b)
 
 any-issued : (test : ℕ → Bool) (key : Text) (eto t : ℕ) (fs : List (Text × Stance)) → AreInOrder fs → at_name fs key ≡ Some (Competing eto) → list_any test (times (put fs key (Issued eto t))) ≡ (list_any test (times fs) || test t)
 unfolding IsStrictlySortedBy
@@ -55,7 +46,7 @@ any-issued test key eto t (e ∷ es) sorted found =
       | Less ↦ λ less f. let both : None ≡ Some (Competing eto) = sym (at_above key es (after_all key e.0 less (keys_of es) sorted.0)) ∙ f in cc
       | Equal ↦ λ same f.
           let stance : e.1 ≡ Competing eto = cc in
-          or_swapped (test t) (list_any test (times es)) ∙ ap (λ (s : Stance). list_any test (cons_option (issued_cto s) (times es)) || test t) (sym stance)
+          or_comm (test t) (list_any test (times es)) ∙ ap (λ (s : Stance). list_any test (cons_option (issued_cto s) (times es)) || test t) (sym stance)
       | Greater ↦ λ more f. any_behind test (issued_cto e.1) (times (put es key (Issued eto t))) (times es) (test t) (any-issued test key eto t es sorted.1 f)
     ] refl found
 
@@ -83,6 +74,17 @@ record IsPlacedCut (all : List Assigned) (before : List Comp) (c : Comp) (after 
   front_is : comps_of front ≡ before
   back_is : comps_of back ≡ after
 
+placed_more : (a : Assigned) (all : List Assigned) (b : Comp) (before : List Comp) (c : Comp) (after : List Comp) → a.comp ≡ b → IsPlacedCut all before c after → IsPlacedCut (a ∷ all) (b ∷ before) c after
+placed_more a all b before c after here cut = record {
+  front = a ∷ cut.front;
+  own = cut.own;
+  back = cut.back;
+  whole = ap (λ xs. a ∷ xs) cut.whole;
+  own_is = cut.own_is;
+  front_is = λ i. here i ∷ cut.front_is i;
+  back_is = cut.back_is;
+}
+
 cut_places : (all : List Assigned) (before : List Comp) (c : Comp) (after : List Comp) → comps_of all ≡ before ++ c ∷ after → IsPlacedCut all before c after
 cut_places [] [] c after e = cc
 cut_places [] (b ∷ before) c after e = cc
@@ -93,16 +95,7 @@ cut_places (a ∷ all) [] c after e =
 cut_places (a ∷ all) (b ∷ before) c after e =
     let here : a.comp ≡ b = cc in
     let rest : comps_of all ≡ before ++ c ∷ after = cc in
-    let cut = cut_places all before c after rest in
-    record {
-      front = a ∷ cut.front;
-      own = cut.own;
-      back = cut.back;
-      whole = ap (λ xs. a ∷ xs) cut.whole;
-      own_is = cut.own_is;
-      front_is = λ i. here i ∷ cut.front_is i;
-      back_is = cut.back_is;
-    }
+    placed_more a all b before c after here (cut_places all before c after rest)
 
 comps-append : (xs ys : List Assigned) → comps_of (xs ++ ys) ≡ comps_of xs ++ comps_of ys
 comps-append [] ys = refl

@@ -49,6 +49,15 @@ put_later precedes x y ys p =
     ∙ ap (λ k. insert (y ∷ ys) k x) (one-add (position_or_len (λ z. not (precedes z x)) ys))
     ∙ ap (λ zs. y ∷ zs) (sym (put_at precedes x ys))
 
+-- what holds of an element and of those that it is put among holds of each
+pub all-put_by : {X : Type 0} (P : X → Type 0) (precedes : X → X → Bool) (x : X) → P x → (xs : List X) → AllByRecursion P xs → AllByRecursion P (put_by precedes x xs)
+all-put_by P precedes x new [] h = (new, tt)
+all-put_by {X} P precedes x new (y ∷ ys) h =
+    elim (precedes y x) as (λ b. precedes y x ≡ b → AllByRecursion P (put_by precedes x (y ∷ ys))) [
+      | true ↦ λ p. subst (AllByRecursion P) (sym (put_later precedes x y ys p)) (h.0, all-put_by P precedes x new ys h.1)
+      | false ↦ λ p. subst (AllByRecursion P) (sym (put_first precedes x y ys p)) (new, h)
+    ] refl
+
 -- times over from this one on
 abbrev AreFrom : ℕ → List Comp → Type 0
 AreFrom eto cs = AllByRecursion (λ (c : Comp). eto ≤ c.eto) cs
@@ -71,19 +80,11 @@ not_before_le c d h =
       | inr le ↦ le
     ]
 
-from-put : (eto : ℕ) (c : Comp) (cs : List Comp) → eto ≤ c.eto → AreFrom eto cs → AreFrom eto (put_by is_before c cs)
-from-put eto c [] le h = (le, tt)
-from-put eto c (d ∷ cs) le h =
-    elim (is_before d c) as (λ b. is_before d c ≡ b → AreFrom eto (put_by is_before c (d ∷ cs))) [
-      | true ↦ λ p. subst (AreFrom eto) (sym (put_later is_before c d cs p)) (h.0, from-put eto c cs le h.1)
-      | false ↦ λ p. subst (AreFrom eto) (sym (put_first is_before c d cs p)) (le, h)
-    ] refl
-
 rising-put : (c : Comp) (cs : List Comp) → AreRising cs → AreRising (put_by is_before c cs)
 rising-put c [] h = (tt, tt)
 rising-put c (d ∷ cs) h =
     elim (is_before d c) as (λ b. is_before d c ≡ b → AreRising (put_by is_before c (d ∷ cs))) [
-      | true ↦ λ p. subst AreRising (sym (put_later is_before c d cs p)) (from-put d.eto c cs (before_le d c p) h.0, rising-put c cs h.1)
+      | true ↦ λ p. subst AreRising (sym (put_later is_before c d cs p)) (all-put_by (λ (x : Comp). d.eto ≤ x.eto) is_before c (before_le d c p) cs h.0, rising-put c cs h.1)
       | false ↦ λ p.
           let le : c.eto ≤ d.eto = not_before_le d c p in
           let rest : AreFrom c.eto cs = all-each (λ (x : Comp). d.eto ≤ x.eto) (λ (x : Comp). c.eto ≤ x.eto) (λ x from. omega (arith, le, from)) cs h.0 in
