@@ -7,10 +7,11 @@ use Rattle.std.specs.Option.{option_map}
 use Rattle.std.specs.List.{AllByRecursion, filter_map, cons_option}
 use Rattle.std.specs.List.Sorted.{IsStrictlySortedBy}
 use Rattle.std.specs.Map.{remove_entry, keys_of}
-use Rattle.std.specs.Cmp.Lexicographic.{slice_cmp}
-use Rattle.std.proofs.lemmas.Cmp.{nat_list_cmp_total, tied_itself}
+use Rattle.std.specs.Cmp.Lexicographic.{slice_cmp, same_text as text_is}
+use Rattle.std.proofs.lemmas.Bool.{both_ways}
+use Rattle.std.proofs.lemmas.Cmp.{nat_list_cmp_total, nat_list_eq_equiv, tied_itself}
 use Rattle.std.proofs.lemmas.Map.Lookups.{exact_bytes}
-use Rattle.casa_flight.specs.Text.{Text, at_name, put, without}
+use Rattle.casa_flight.specs.Text.{Text, same_text, at_name, put, without}
 
 abbrev pub text_cmp : Text → Text → Ordering
 text_cmp = slice_cmp nat_cmp
@@ -25,6 +26,25 @@ same_name k q h =
 
 pub itself : (k : Text) → is_eq (text_cmp k k) ≡ true
 itself k = ap is_eq (tied_itself nat_list_cmp_total k)
+
+-- a test of names is the same from both sides
+pub other_way : (a b : Text) → is_eq (text_cmp a b) ≡ false → is_eq (text_cmp b a) ≡ false
+other_way a b h =
+    elim (is_eq (text_cmp b a)) as (λ t. is_eq (text_cmp b a) ≡ t → t ≡ false) [
+      | true ↦ λ t. let e : b ≡ a = same_name b a t in absurd (both_ways _ h (subst (λ (q : Text). is_eq (text_cmp a q) ≡ true) (sym e) (itself a)))
+      | false ↦ λ t. refl
+    ] refl
+
+-- names that are the same, and names that differ as a look-up of the second one meets the first
+pub named : (a b : Text) → same_text a b ≡ true → a ≡ b
+named a b h = text_is a b (sym h)
+
+pub apart : (a b : Text) → same_text a b ≡ false → is_eq (text_cmp b a) ≡ false
+apart a b h =
+    elim (is_eq (text_cmp b a)) as (λ t. is_eq (text_cmp b a) ≡ t → t ≡ false) [
+      | true ↦ λ t. let e : b ≡ a = same_name b a t in absurd (both_ways _ h (subst (λ (q : Text). same_text a q ≡ true) (sym e) (nat_list_eq_equiv.refl a)))
+      | false ↦ λ t. refl
+    ] refl
 
 -- what holds of each entry holds of each after one is put in
 pub all-put : {X : Type 0} (P : Text × X → Type 0) (k : Text) (v : X) → P (k, v) → (es : List (Text × X)) → AllByRecursion P es → AllByRecursion P (put es k v)

@@ -143,7 +143,7 @@ enter-from_good m key row good keyed free not_issued =
     from_but (enter m key row) (enter-good none_waits none_waits m key row (λ q _ w. w) (to_but m good) keyed free not_issued)
 
 -- the row that a look-up finds
-good_row : (m : State) (key : Text) (row : Row) → IsGood m → row_of m key ≡ Some row → IsGoodRow m.clock m.regs key row
+pub good_row : (m : State) (key : Text) (row : Row) → IsGood m → row_of m key ≡ Some row → IsGoodRow m.clock m.regs key row
 good_row m key row good found = all_at (λ (e : Text × Row). IsGoodRow m.clock m.regs e.0 e.1) key row m.rows good.rows found
 
 -- the calls on one flight, each by its look-ups, and those that change nothing

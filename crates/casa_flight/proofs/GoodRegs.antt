@@ -7,7 +7,6 @@ use Rattle.std.specs.BTreeMap.{is_at}
 use Rattle.std.specs.Ordering.{is_eq}
 use Rattle.std.specs.Cmp.Lexicographic.{same_text as text_is}
 use Rattle.std.proofs.lemmas.Bool.{or_right, or_left, both_ways, or_from}
-use Rattle.std.proofs.lemmas.Cmp.{nat_list_eq_equiv}
 use Rattle.std.proofs.lemmas.List.{take-append-drop}
 use Rattle.std.proofs.lemmas.List.Folds.{list_any-append}
 use Rattle.casa_flight.specs.declared.call.Call.{Call}
@@ -24,7 +23,7 @@ use Rattle.casa_flight.specs.Listing.{put_by, in_order, is_before}
 use Rattle.casa_flight.specs.Entry.{enter_all, reenter}
 use Rattle.casa_flight.specs.Steps.{most_regulations, flights_over, may_compete, open_regulation, freed, closed, close_regulation, next}
 use Rattle.casa_flight.specs.Good.{IsGood, IsGoodRow, IsGoverned}
-use Rattle.casa_flight.proofs.Entries.{text_cmp, all-put, all-remove, all_at, all-each, all-both, all-map, keys-map, sorted-put, sorted-remove, same_name, itself, at-put_other, at-without_other, none_at}
+use Rattle.casa_flight.proofs.Entries.{text_cmp, all-put, all-remove, all_at, all-each, all-both, all-map, keys-map, sorted-put, sorted-remove, same_name, apart, itself, at-put_other, at-without_other, none_at}
 use Rattle.casa_flight.proofs.Good.{IsRowBut, IsGoodBut, none_waits, KeepsGood, enter-good, from_but, row-looser, file-good, amend-good, cancel-good, exempt-good, revise-good, show-good, list-good}
 use Rattle.casa_flight.proofs.GoodTick.{tick-good, rates-good}
 
@@ -158,13 +157,6 @@ open_regulation-good m id measure None false absent good =
           m.rows good.rows (flights_wait (may_compete m.clock) (regulation id measure) m.rows));
     }))
 
-unlike_names : (id by : Text) → same_text id by ≡ false → is_eq (text_cmp by id) ≡ false
-unlike_names id by h =
-    elim (is_eq (text_cmp by id)) as (λ b. is_eq (text_cmp by id) ≡ b → b ≡ false) [
-      | true ↦ λ t. absurd (both_ways _ h (subst (λ (q : Text). same_text id q ≡ true) (sym (same_name by id t)) (nat_list_eq_equiv.refl id)))
-      | false ↦ λ t. refl
-    ] refl
-
 -- a flight that the closed regulation governs is one of those over it
 some_comp : (o : Option ℕ) (eto : ℕ) (key : Text) → o ≡ Some eto → comp_if true o key ≡ None → ⊥
 some_comp None eto key p h = cc
@@ -191,7 +183,7 @@ close_row clock regs id measure w key plan marked (Some by) i found good waiting
           record { keyed = good.keyed; standing = (refl, λ h p q. absurd (some_comp (subject plan (regulation id measure)) s.eto key is_subject (wt h))) }
       | false ↦ λ t wt. record {
         keyed = good.keyed;
-        standing = record { measure = s.measure; is_open = at-without_other by id regs (unlike_names id by t) ∙ s.is_open; eto = s.eto; is_subject = s.is_subject; not_exempt = s.not_exempt; issued = s.issued };
+        standing = record { measure = s.measure; is_open = at-without_other by id regs (apart id by t) ∙ s.is_open; eto = s.eto; is_subject = s.is_subject; not_exempt = s.not_exempt; issued = s.issued };
       }
     ] refl waiting
 

@@ -39,7 +39,7 @@ not_yet_gone old new plan h d =
     le-ltb (etot plan) old (omega arith)
 
 -- where a governed flight that is not issued stands in the list of its regulation
-competing : (id : Text) (measure : Measure) (row : Row) (eto : ℕ) → row.governing ≡ Some id → row.issued ≡ None → subject row.plan (regulation id measure) ≡ Some eto → stance_in id measure row ≡ Some (Competing eto)
+pub competing : (id : Text) (measure : Measure) (row : Row) (eto : ℕ) → row.governing ≡ Some id → row.issued ≡ None → subject row.plan (regulation id measure) ≡ Some eto → stance_in id measure row ≡ Some (Competing eto)
 competing id measure row eto governed not_issued is_subject =
     let itself : option_map_or (same_text id) row.governing false ≡ true = ap (λ (o : Option Text). option_map_or (same_text id) o false) governed ∙ nat_list_eq_equiv.refl id in
     rw (itself, not_issued, is_subject)

@@ -16,4 +16,8 @@ pub mod Choice
 pub mod Good
 pub mod GoodTick
 pub mod GoodRegs
+pub mod Told
+pub mod EnterAll
+pub mod CallMessages
+pub mod RegMessages
 mod Worked

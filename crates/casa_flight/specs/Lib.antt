@@ -11,3 +11,4 @@ pub mod Entry
 pub mod Steps
 pub mod Replies
 pub mod Good
+pub mod Messages

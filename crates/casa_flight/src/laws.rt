@@ -1,8 +1,11 @@
 //! Laws of the definitions, each on a function that does nothing: what the contracts of this crate mean.
 
-ghost use Rattle.std.specs.Prelude.{◌≡◌, ℕ, ◌-◌, List, ◌∷◌, ◌++◌, take, length, map, not, Option, Some, None, unwrap_or};
+ghost use Rattle.std.specs.Prelude.{◌≡◌, ℕ, ◌-◌, List, [], ◌∷◌, ◌++◌, take, length, map, not, Option, Some, None, true, unwrap_or};
 ghost use Rattle.std.specs.Option.{option_map, option_and_then};
-ghost use Rattle.std.specs.List.{filter};
+ghost use Rattle.std.specs.List.{All, Contains, filter};
+ghost use Rattle.std.specs.List.Sorted.{IsStrictlySortedBy};
+ghost use Rattle.std.specs.Cmp.Lexicographic.{slice_cmp};
+ghost use Rattle.std.specs.Ordering.{nat_cmp};
 ghost use Rattle.casa_grid.specs.Profile.{IsProfile, end_of};
 ghost use Rattle.casa_grid.specs.Slots.{slots};
 ghost use Rattle.casa_grid.specs.TimeOver.{cto};
@@ -21,8 +24,12 @@ ghost use Rattle.casa_flight.specs.Listing.{cto_of, delay_of, governing_list};
 ghost use Rattle.casa_flight.specs.Entry.{Offer, situation, offer};
 ghost use Rattle.casa_flight.specs.Good.{AreInOrder, IsGood};
 ghost use Rattle.casa_flight.specs.State.{empty};
-ghost use Rattle.casa_flight.specs.Steps.{next};
+ghost use Rattle.casa_flight.specs.Steps.{refused, step, next};
+ghost use Rattle.casa_flight.specs.Replies.{reply};
+ghost use Rattle.casa_flight.specs.Messages.{messages_in, told, CanCome, is_silent, Tells};
 ghost use Rattle.casa_flight.specs.declared.call.Call.{Call};
+ghost use Rattle.casa_flight.specs.declared.call.Refusal.{Refusal};
+ghost use Rattle.casa_flight.specs.declared.reply.Message.{Message};
 
 /// First planned, first served has one answer: `assignment` is right, and nothing else is.
 pub fn assignment_is_right()
@@ -117,4 +124,26 @@ pub fn issue_moves_nobody()
 pub fn good_states_are_kept()
     ensures opening { IsGood empty }
     ensures kept { (m : State) (call : Call) → IsGood m → IsGood (next m call) }
+{}
+
+/// Which messages come of a call on a good state. Only those of the kinds, and for the flights, that such a call can
+/// give. One for each flight that got a slot, kept one at another take-off time, or is there and has none any more, and
+/// no other. In the order of the keys, at most one to a flight.
+pub fn messages_of_calls()
+    ensures kinds { (m : State) (call : Call) → IsGood m →
+        All (CanCome m call) (messages_in (reply m call)) }
+    ensures tells { (m : State) (call : Call) → IsGood m →
+        All (Tells m (next m call)) (messages_in (reply m call)) }
+    ensures comes { (m : State) (call : Call) (message : Message) → IsGood m →
+        Tells m (next m call) message → Contains (messages_in (reply m call)) message }
+    ensures order { (m : State) (call : Call) → IsGood m →
+        IsStrictlySortedBy (slice_cmp nat_cmp) (map told (messages_in (reply m call))) }
+{}
+
+/// No message comes of a refused call; nor, on a good state, of a cancellation, new rates, or a call that only looks.
+pub fn calls_without_messages()
+    ensures refusals { (m : State) (call : Call) (r : Refusal) →
+        step m call ≡ refused r → messages_in (reply m call) ≡ [] }
+    ensures silent { (m : State) (call : Call) → IsGood m →
+        is_silent call ≡ true → messages_in (reply m call) ≡ [] }
 {}

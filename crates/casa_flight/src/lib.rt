@@ -23,8 +23,9 @@ pub use comp::{Assigned, Comp};
 pub use equality::{call_equality, reply_equality};
 pub use key::{Key, Loc, RegId};
 pub use laws::{
-    assignment_is_right, delay_is_of_the_place, good_states_are_kept, issue_moves_nobody,
-    later_competitors_change_nothing, offer_is_the_delay_there, places_rise,
+    assignment_is_right, calls_without_messages, delay_is_of_the_place, good_states_are_kept,
+    issue_moves_nobody, later_competitors_change_nothing, messages_of_calls, offer_is_the_delay_there,
+    places_rise,
     written_row_changes_its_entries,
 };
 pub use plan::{Crossing, Plan, PlanFault, Sts};
