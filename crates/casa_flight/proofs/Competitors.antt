@@ -182,7 +182,7 @@ ranked-put k s (e ∷ es) cs sorted =
           ∙ ap (with_one (competitor k s)) (sym (ranked-next cs e (without es k)))
     ] refl
 
--- a flight that stands in a list in some way is the list's competitors with it, where it competes, and without it
+-- once a flight stands in a list so, the competitors are those without it and, where it competes, the flight
 pub competitors-put : (l : Listing) (key : Text) (s : Stance) → AreInOrder l.flights → competitors (record l { flights = put l.flights key s }) ≡ with_one (competitor key s) (competitors (record l { flights = without l.flights key }))
 competitors-put l key s sorted = ranked-put key s l.flights [] sorted
 
