@@ -27,7 +27,7 @@ use Rattle.casa_flight.proofs.Entries.{text_cmp, same_name, all_at, at-without_o
 use Rattle.casa_flight.proofs.Kept.{at-without_same}
 use Rattle.casa_flight.proofs.Choice.{choice-offer, choice-none}
 use Rattle.casa_flight.proofs.GoodRegs.{next-good}
-use Rattle.casa_flight.proofs.Told.{message_cases, message_tells, each_message, told_comes, messages_sorted, governed_by, free_of, StaysOpen, message_none, all_one}
+use Rattle.casa_flight.proofs.Told.{message_cases, message_tells, each_message, told_comes, messages_sorted, governed_by, free_of, StaysOpen, messages_unchanged, all_one}
 use Rattle.casa_flight.proofs.EnterAll.{IsIssuedNow, issued_now, issues}
 
 -- what holds of the messages of a call, whatever the call
@@ -73,9 +73,7 @@ one_message Q m key row good a b c =
 
 -- of a call that leaves each row that is there, nothing
 pub no_message : (Q : Message → Type 0) (m n : State) → IsGood m → AreInOrder n.rows → ((id : Text) → StaysOpen m n id) → ((key : Text) (row : Row) → row_of n key ≡ Some row → row_of m key ≡ Some row) → All Q (messages m n)
-no_message Q m n good sorted stays before =
-    each_message Q m n sorted (λ key row x found h.
-    let none : None ≡ Some x = sym (message_none m n key row good sorted (λ id _. stays id) (before key row found) found) ∙ h in cc)
+no_message Q m n good sorted stays before = subst (All Q) (sym (messages_unchanged m n good sorted stays before)) (All-nil Q)
 
 unchanged : (Q : Message → Type 0) (m : State) → IsGood m → All Q (messages m m)
 unchanged Q m good = no_message Q m m good good.rows_in_order (λ id a opened. (a, opened, refl)) (λ key row found. found)

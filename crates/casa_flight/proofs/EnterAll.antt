@@ -135,15 +135,20 @@ all-flights_over P test r rows h =
     (all-filter_map (λ (e : Text × Row). test e.1 ≡ true → is_some (subject e.1.plan r) ≡ true → P e.0) (λ (c : Comp). P c.key) _
     (λ e c f is. over_key P e.0 c (test e.1) (subject e.1.plan r) is f) rows h) tt
 
--- a flight that does not pass the test is none of those taken
-pub not_taken : (m : State) (key : Text) (test : Row → Bool) (r : Regulation) → IsGood m → option_map_or test (row_of m key) false ≡ false → AllByRecursion (λ (c : Comp). same_text c.key key ≡ false) (flights_over test r m.rows)
-not_taken m key test r good none =
-    all-flights_over (λ q. same_text q key ≡ false) test r m.rows
-    (all-each (λ (e : Text × Row). row_of m e.0 ≡ Some e.1) (λ (e : Text × Row). test e.1 ≡ true → is_some (subject e.1.plan r) ≡ true → same_text e.0 key ≡ false)
-    (λ e found h _. other e found h (same_text e.0 key) refl) m.rows (each_found m.rows good.rows_in_order))
+-- only flights with other keys than this one's pass a test that its own does not pass
+pub others : (m : State) (key : Text) (test : Row → Bool) → IsGood m → option_map_or test (row_of m key) false ≡ false → AllByRecursion (λ (e : Text × Row). test e.1 ≡ true → same_text e.0 key ≡ false) m.rows
+others m key test good none =
+    all-each (λ (e : Text × Row). row_of m e.0 ≡ Some e.1) (λ (e : Text × Row). test e.1 ≡ true → same_text e.0 key ≡ false) (λ e found h. other e found h (same_text e.0 key) refl) m.rows (each_found m.rows good.rows_in_order)
   where
     other : (e : Text × Row) → row_of m e.0 ≡ Some e.1 → test e.1 ≡ true → (b : Bool) → same_text e.0 key ≡ b → b ≡ false
     other e found h false p = refl
     other e found h true p =
         let here : row_of m key ≡ Some e.1 = subst (λ t. row_of m t ≡ Some e.1) (named e.0 key p) found in
         absurd (both_ways _ none (ap (λ (w : Option Row). option_map_or test w false) here ∙ h))
+
+-- a flight that does not pass the test is none of those taken
+pub not_taken : (m : State) (key : Text) (test : Row → Bool) (r : Regulation) → IsGood m → option_map_or test (row_of m key) false ≡ false → AllByRecursion (λ (c : Comp). same_text c.key key ≡ false) (flights_over test r m.rows)
+not_taken m key test r good none =
+    all-flights_over (λ q. same_text q key ≡ false) test r m.rows
+    (all-each (λ (e : Text × Row). test e.1 ≡ true → same_text e.0 key ≡ false) (λ (e : Text × Row). test e.1 ≡ true → is_some (subject e.1.plan r) ≡ true → same_text e.0 key ≡ false)
+    (λ e f h _. f h) m.rows (others m key test good none))

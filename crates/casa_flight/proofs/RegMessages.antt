@@ -170,7 +170,7 @@ passing_row m key test = by (row_of m key)
     by (Some row) h = (row, refl, h)
 
 -- a flight that may compete is neither exempt nor gone nor governed
-competes : (a b : Bool) (g : Option Text) → (not a && (not b && not (is_some g))) ≡ true → (a ≡ false) × (b ≡ false) × (g ≡ None)
+pub competes : (a b : Bool) (g : Option Text) → (not a && (not b && not (is_some g))) ≡ true → (a ≡ false) × (b ≡ false) × (g ≡ None)
 competes false false None h = (refl, refl, refl)
 competes false false (Some id) h = cc
 competes false true g h = cc

@@ -203,3 +203,14 @@ all_one P m key row good f =
     by : (w : Option Message) → message m (with_row m key row) key row ≡ w → All P (cons_option w [])
     by None e = All-nil P
     by (Some x) e = All-from_recursion P (x ∷ []) (f x e, tt)
+
+filter_map-none : {X Y : Type 0} (f : X → Option Y) (xs : List X) → AllByRecursion (λ (x : X). f x ≡ None) xs → filter_map f xs ≡ []
+filter_map-none f [] a = refl
+filter_map-none {X} {Y} f (x ∷ xs) a = ap (λ (w : Option Y). cons_option w (filter_map f xs)) a.0 ∙ filter_map-none f xs a.1
+
+-- where each row that is there afterwards was there before, nobody is told anything
+pub messages_unchanged : (m n : State) → IsGood m → AreInOrder n.rows → ((id : Text) → StaysOpen m n id) → ((key : Text) (row : Row) → row_of n key ≡ Some row → row_of m key ≡ Some row) → messages m n ≡ []
+messages_unchanged m n good sorted stays before =
+    filter_map-none (λ (e : Text × Row). message m n e.0 e.1) n.rows
+    (all-each (λ (e : Text × Row). row_of n e.0 ≡ Some e.1) (λ (e : Text × Row). message m n e.0 e.1 ≡ None)
+    (λ e found. message_none m n e.0 e.1 good sorted (λ id _. stays id) (before e.0 e.1 found) found) n.rows (each_found n.rows sorted))

@@ -14,12 +14,12 @@ use Rattle.casa_flight.specs.Listing.{Listing, listing, list_of}
 use Rattle.casa_flight.specs.Steps.{exempt, exempt_if, cancel, after}
 use Rattle.casa_flight.specs.Replies.{reply_of, messages}
 use Rattle.casa_flight.specs.Good.{IsGood}
-use Rattle.casa_flight.proofs.Entries.{text_cmp, sorted-remove, at-without_other}
+use Rattle.casa_flight.proofs.Entries.{text_cmp, sorted-remove, at-without_other, named, apart}
 use Rattle.casa_flight.proofs.Kept.{at-without_same, without_absent}
 use Rattle.casa_flight.proofs.Lists.{list_cancelled}
 use Rattle.casa_view.specs.Items.{Item, the_clock, the_catalogue, a_row, a_list, row_or_none, list_or_none, contents}
 use Rattle.casa_view.specs.Footprint.{is_list_of, would_write, is_accepted}
-use Rattle.casa_view.proofs.Names.{catalogue_in, row_in, list_in, text_itself, named, apart}
+use Rattle.casa_view.proofs.Names.{catalogue_in, row_in, list_in, text_itself}
 use Rattle.casa_view.proofs.Catalogue.{is_list_of_same, measure_same}
 use Rattle.casa_view.proofs.Entering.{list_same}
 use Rattle.casa_view.proofs.Messages.{messages_none}

@@ -1,10 +1,10 @@
 -- what OpenReg and CloseReg leave as it was
-use Rattle.std.proofs.Common.{◌≡◌, List, [], ◌∷◌, length, Bool, true, false, not, refl, sym, ap, subst, ◌∙◌, Option, None, Some, ◌&&◌, is_some, map, nat_le, MatchOption, ℕ}
+use Rattle.std.proofs.Common.{◌≡◌, List, [], ◌∷◌, length, Bool, true, false, refl, sym, ap, subst, ◌∙◌, Option, None, Some, ◌&&◌, is_some, map, nat_le, MatchOption, ℕ}
 use Rattle.std.specs.Option.{option_map, option_map_or}
 use Rattle.std.specs.List.{AllByRecursion, cons_option, list_any}
 use Rattle.std.specs.BTreeMap.{is_at}
 use Rattle.std.specs.List.Sorted.{IsStrictlySortedBy}
-use Rattle.std.proofs.lemmas.Bool.{and_from, or_parts, both_ways}
+use Rattle.std.proofs.lemmas.Bool.{and_from, or_parts}
 use Rattle.casa_grid.specs.declared.period.Period.{Period}
 use Rattle.casa_flight.specs.declared.call.Call.TheVariants.{OpenReg, CloseReg}
 use Rattle.casa_flight.specs.declared.comp.Comp.{Comp}
@@ -20,23 +20,18 @@ use Rattle.casa_flight.specs.Listing.{listing, list_of, stance, stance_in, kept}
 use Rattle.casa_flight.specs.Entry.{enter_all}
 use Rattle.casa_flight.specs.Steps.{most_regulations, flights_over, may_compete, open_regulation, freed, closed, close_regulation, after}
 use Rattle.casa_flight.specs.Good.{IsGood, IsGoodRow, IsFree, IsGoverned}
-use Rattle.casa_flight.proofs.Entries.{text_cmp, all_at, all-each, all-both, each_found, at-map, at-put_other, at-without_other, keys-map, sorted-put, sorted-remove}
+use Rattle.casa_flight.proofs.Entries.{text_cmp, all_at, all-each, all-both, each_found, at-map, at-put_other, at-without_other, keys-map, sorted-put, sorted-remove, apart}
+use Rattle.casa_flight.proofs.EnterAll.{row-enter_all, clock-enter_all, all-flights_over, others}
+use Rattle.casa_flight.proofs.RegMessages.{competes}
 use Rattle.casa_view.specs.Items.{Item, the_clock, the_catalogue, a_row, a_list, moment, row_or_none, list_or_none, contents}
 use Rattle.casa_view.specs.Footprint.{is_subject, is_list_of, governs, enters, would_write, is_accepted}
-use Rattle.casa_view.proofs.Names.{named, apart}
-use Rattle.casa_view.proofs.EnterAll.{IsOrdered, row-enter_all, clock-enter_all, list-enter_all, all-flights_over}
+use Rattle.casa_view.proofs.EnterAll.{IsOrdered, list-enter_all}
 use Rattle.casa_view.proofs.Forms.{Spares}
-
-free_parts : (a b : Bool) (g : Option Text) → (not a && (not b && not (is_some g))) ≡ true → (a ≡ false) × (b ≡ false) × (g ≡ None)
-free_parts false false None h = (refl, refl, refl)
-free_parts false false (Some id) h = cc
-free_parts false true g h = cc
-free_parts true b g h = cc
 
 -- a flight that may compete is subject to nothing
 subject_to_none : (m : State) (key : Text) (row : Row) (id : Text) → IsGood m → row_of m key ≡ Some row → may_compete m.clock row ≡ true → is_subject m row.plan id ≡ false
 subject_to_none m key row id good found h =
-    let parts = free_parts (is_exempt row) (is_gone m.clock row.plan) row.governing h in
+    let parts = competes (is_exempt row) (is_gone m.clock row.plan) row.governing h in
     let here : IsGoodRow m.clock m.regs key row = all_at (λ (e : Text × Row). IsGoodRow m.clock m.regs e.0 e.1) key row m.rows good.rows found in
     let free : IsFree m.clock m.regs row = subst (λ (w : Option Text). MatchOption w (IsFree m.clock m.regs row) (IsGoverned m.clock m.regs row)) parts.2 here.standing in
     by (free.left parts.0 parts.1) (measure_of m id) refl
@@ -44,17 +39,6 @@ subject_to_none m key row id good found h =
     by : AllByRecursion (λ (e : Text × Measure). subject row.plan (regulation e.0 e.1) ≡ None) m.regs → (w : Option Measure) → measure_of m id ≡ w → option_map_or (λ (measure : Measure). is_some (subject row.plan (regulation id measure))) w false ≡ false
     by out None e = refl
     by out (Some measure) e = ap is_some (all_at (λ (e : Text × Measure). subject row.plan (regulation e.0 e.1) ≡ None) id measure m.regs out e)
-
--- among rows with what is known of them, only those that pass a test have other keys than this one
-others : (m : State) (key : Text) (test : Row → Bool) → IsGood m → option_map_or test (row_of m key) false ≡ false → AllByRecursion (λ (e : Text × Row). test e.1 ≡ true → same_text e.0 key ≡ false) m.rows
-others m key test good none =
-    all-each (λ (e : Text × Row). row_of m e.0 ≡ Some e.1) (λ (e : Text × Row). test e.1 ≡ true → same_text e.0 key ≡ false) (λ e found h. other e found h (same_text e.0 key) refl) m.rows (each_found m.rows good.rows_in_order)
-  where
-    other : (e : Text × Row) → row_of m e.0 ≡ Some e.1 → test e.1 ≡ true → (b : Bool) → same_text e.0 key ≡ b → b ≡ false
-    other e found h false p = refl
-    other e found h true p =
-        let here : row_of m key ≡ Some e.1 = subst (λ t. row_of m t ≡ Some e.1) (named e.0 key p) found in
-        absurd (both_ways _ none (ap (λ (w : Option Row). option_map_or test w false) here ∙ h))
 
 pub open_spares : (id loc : Text) (profile : List Period) → Spares (OpenReg id loc profile)
 open_spares id loc profile m good i h = by (measure_of m id) (nat_le most_regulations (length m.regs)) i h

@@ -20,12 +20,12 @@ use Rattle.casa_flight.specs.Listing.{Listing, listing, list_of, stance, kept}
 use Rattle.casa_flight.specs.Steps.{has_span, rates, rates_if, after}
 use Rattle.casa_flight.specs.Replies.{reply_of, messages}
 use Rattle.casa_flight.specs.Good.{AreInOrder, IsGood}
-use Rattle.casa_flight.proofs.Entries.{text_cmp, after_all, at-put_same, at-put_other}
+use Rattle.casa_flight.proofs.Entries.{text_cmp, after_all, at-put_same, at-put_other, named, apart}
 use Rattle.casa_flight.proofs.Kept.{at_above}
 use Rattle.std.specs.Map.{keys_of}
 use Rattle.casa_view.specs.Items.{Item, the_clock, the_catalogue, a_row, a_list, regulations, list_or_none, contents}
 use Rattle.casa_view.specs.Footprint.{would_write, is_accepted}
-use Rattle.casa_view.proofs.Names.{catalogue_in, list_in, text_itself, named, apart}
+use Rattle.casa_view.proofs.Names.{catalogue_in, list_in, text_itself}
 use Rattle.casa_view.proofs.Catalogue.{measure_same}
 use Rattle.casa_view.proofs.Messages.{messages_none}
 use Rattle.casa_view.proofs.Forms.{Decides, DecidesWrites, DecidesReads, Spares}
