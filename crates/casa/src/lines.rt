@@ -56,6 +56,7 @@ impl LineReader {
     /// A reader that has read nothing yet. It asks its source at most 4,294,967,295 times.
     pub fn new() -> LineReader
         ensures empty { pending result ≡ [] }
+        ensures reads { result.reads_left ≡ 4294967295 }
         ensures bound { steps_left result < 2 ^ 45 }
     {
         LineReader {

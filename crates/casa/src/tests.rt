@@ -236,11 +236,27 @@ fn a_session_answers_each_line(rt: HostRuntime) {
     let mut input = INPUT;
     let mut output = Vec::new(rt.alloc());
     let ended = run(rt.alloc(), &mut input, &mut output, &mut desk);
-    if ended == Err(SessionFault::NoMemory) {
-        assert!(rt; OUTPUT.starts_with(&output));
-        return;
-    }
     assert!(rt; ended == Ok(4) && output.as_slice() == OUTPUT && desk.receipts.len() == 2);
+}
+
+/// Run also with each allocation refused in turn: the session then ends after whole replies, with want of memory
+/// or, where it is the output that can't grow, with a failed write.
+#[test]
+fn a_refused_growth_ends_a_session(rt: HostRuntime) {
+    let mut desk = Refusing {
+        receipts: Vec::new(rt.alloc()),
+    };
+    let mut input = INPUT;
+    let mut output = Vec::new(rt.alloc());
+    let ended = run(rt.alloc(), &mut input, &mut output, &mut desk);
+    let (is_whole, length) = (ended == Ok(4), output.len() as u64);
+    assert!(rt;
+        is_whole
+            || ended == Err(SessionFault::NoMemory)
+            || ended == Err(SessionFault::WriteFailed(length))
+    );
+    assert!(rt; OUTPUT.starts_with(&output) && is_whole == (output.len() == OUTPUT.len()));
+    assert!(rt; output.is_empty() || output.ends_with(b"\n"));
 }
 
 /// Gives one byte at a time, interrupted before each, and fails at its last call.

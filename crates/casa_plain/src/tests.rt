@@ -24,25 +24,25 @@ fn reg(text: &[u8]) -> Result<RegId, Fail> {
 }
 
 /// The call that opens R1 at LA from 36000 to 37200, at 30 flights per hour.
-fn open(alloc: Global) -> Result<Call, Fail> {
+fn open(alloc: Global) -> Option<Call> {
     let period = Period {
-        begin: Moment::new(36_000)?,
-        until: Moment::new(37_200)?,
+        begin: Moment::new(36_000).ok()?,
+        until: Moment::new(37_200).ok()?,
         rate: 30,
     };
-    let profile = Profile::new(alloc, &[period])?;
-    Ok(Call::OpenReg(reg(b"R1")?, loc(b"LA")?, profile))
+    let profile = Profile::new(alloc, &[period]).ok()?;
+    Some(Call::OpenReg(RegId::new(b"R1")?, Loc::new(b"LA")?, profile))
 }
 
 /// The call that files a flight over LA: off-block at 30000, ten minutes of taxi.
-fn file(alloc: Global, key: &[u8], over: u32) -> Result<Call, Fail> {
+fn file(alloc: Global, key: &[u8], over: u32) -> Option<Call> {
     let crossing = Crossing {
-        loc: loc(b"LA")?,
-        eto: Moment::new(over)?,
+        loc: Loc::new(b"LA")?,
+        eto: Moment::new(over).ok()?,
     };
-    let eobt = Moment::new(30_000)?;
-    let plan = Plan::new(alloc, key, eobt, 600, &[crossing], Sts::Plain)?;
-    Ok(Call::File(plan))
+    let eobt = Moment::new(30_000).ok()?;
+    let plan = Plan::new(alloc, key, eobt, 600, &[crossing], Sts::Plain).ok()?;
+    Some(Call::File(plan))
 }
 
 /// The reply with this answer and these messages.
@@ -94,14 +94,14 @@ fn two_flights_get_slots_two_minutes_apart(rt: HostRuntime) -> Result<(), Fail> 
     let mut plain = Plain::new(alloc);
     let (a, b, r1) = (key(b"A")?, key(b"B")?, reg(b"R1")?);
 
-    let opened = plain.step(alloc, &open(alloc)?)?;
+    let opened = plain.step(alloc, &open(alloc).ok_or("a call")?)?;
     assert_eq!(rt; opened, answered(alloc, Answer::Done, &[])?);
-    let first = plain.step(alloc, &file(alloc, b"A", 36_010)?)?;
+    let first = plain.step(alloc, &file(alloc, b"A", 36_010).ok_or("a call")?)?;
     assert_eq!(rt;
         first,
         answered(alloc, flight(b"A", 30_600, 0, false)?, &[])?
     );
-    let second = plain.step(alloc, &file(alloc, b"B", 36_005)?)?;
+    let second = plain.step(alloc, &file(alloc, b"B", 36_005).ok_or("a call")?)?;
     assert_eq!(rt;
         second,
         answered(alloc, flight(b"B", 30_600, 0, false)?, &[])?
@@ -128,5 +128,38 @@ fn two_flights_get_slots_two_minutes_apart(rt: HostRuntime) -> Result<(), Fail> 
     let closed = plain.step(alloc, &Call::CloseReg(r1))?;
     let dropped = [Message::Slc(a), Message::Slc(b)];
     assert_eq!(rt; closed, answered(alloc, Answer::Done, &dropped)?);
+    Ok(())
+}
+
+/// The reply to the call, made again where memory was refused the first time.
+fn reply(alloc: Global, plain: &mut Plain, call: &Call) -> Result<Reply, AllocError> {
+    match plain.step(alloc, call) {
+        Ok(reply) => Ok(reply),
+        Err(AllocError) => plain.step(alloc, call),
+    }
+}
+
+/// Run also with each allocation refused in turn: the refused call was not made, so it is answered when it is made
+/// again, and once only.
+#[test]
+fn a_refused_growth_leaves_the_call_unmade(rt: HostRuntime) -> Result<(), Fail> {
+    let alloc = rt.alloc();
+    let opening = open(alloc).or_else(|| open(alloc)).ok_or("a call")?;
+    let filing = file(alloc, b"A", 36_010)
+        .or_else(|| file(alloc, b"A", 36_010))
+        .ok_or("a call")?;
+    let mut plain = Plain::new(alloc);
+    assert!(rt;
+        matches!(
+            reply(alloc, &mut plain, &opening)?,
+            Reply::Answered(Answer::Done, _)
+        )
+    );
+    match reply(alloc, &mut plain, &filing)? {
+        Reply::Answered(Answer::Flight(flight), _) => assert_eq!(rt; flight.ctot, 30_600),
+        _ => return Err(Fail::new("the flight is filed")),
+    }
+    let again = reply(alloc, &mut plain, &filing)?;
+    assert_eq!(rt; again, Reply::Refused(Refusal::Duplicate));
     Ok(())
 }
