@@ -1,0 +1,49 @@
+use Rattle.std.specs.Prelude.{ℕ, ◌+◌, ◌-◌, ◌<◌, ◌==◌, Bool, if◌then◌else◌, Option, None, slice_get, List, [], ◌∷◌, filter, length, vec_len, vec_capacity}
+use Rattle.std.specs.Option.{option_map_or}
+use Rattle.std.specs.declared.vec.Vec.{Vec}
+use Rattle.std.proofs.Common.{Global}
+use Rattle.casa_history.specs.declared.entry.Entry.{Entry}
+use Rattle.casa_history.specs.declared.entry.Receipt.{Receipt}
+use Rattle.casa_history.specs.declared.history.History.{History}
+use Rattle.casa_history.specs.declared.pass.Pass.{Pass}
+
+-- the entries of a history, oldest first
+abbrev pub entries : {C R : Type 0} → History C R → List (Entry C R)
+entries h = h.entries.items
+
+-- the receipts of a pass, oldest first
+abbrev pub receipts : {C R : Type 0} → Pass C R → List (Receipt C R)
+receipts p = p.receipts.items
+
+-- there is room for one more
+abbrev pub HasRoom : {X : Type 0} → Vec X Global → Type 0
+HasRoom v = vec_len v < vec_capacity v
+
+-- the entry at a position, counted from 1
+abbrev pub entry_at : {C R : Type 0} → ℕ → List (Entry C R) → Option (Entry C R)
+entry_at position es = if position == 0 then None else slice_get es (position - 1)
+
+-- the receipt of an entry at a position
+abbrev pub receipt : {C R : Type 0} → ℕ → Entry C R → Receipt C R
+receipt position e = record { position = position; entry = e }
+
+-- the receipts of entries of which the first stands at position n
+abbrev pub receipts_from : {C R : Type 0} → ℕ → List (Entry C R) → List (Receipt C R)
+receipts_from n [] = []
+receipts_from n (e ∷ es) = receipt n e ∷ receipts_from (n + 1) es
+
+-- whether a receipt is a desk's
+abbrev pub is_of_desk : {C R : Type 0} → ℕ → Receipt C R → Bool
+is_of_desk d r = r.entry.desk == d
+
+-- a desk's entries in a history, with their positions
+abbrev pub receipts_of : {C R : Type 0} → ℕ → List (Entry C R) → List (Receipt C R)
+receipts_of d es = filter (is_of_desk d) (receipts_from 1 es)
+
+-- the last of a list of receipts
+abbrev pub latest : {C R : Type 0} → List (Receipt C R) → Option (Receipt C R)
+latest rs = slice_get rs (length rs - 1)
+
+-- the position of the last of a list of receipts, 0 if there is none
+abbrev pub last_position : {C R : Type 0} → List (Receipt C R) → ℕ
+last_position rs = option_map_or (λ (r : Receipt _ _). r.position) (latest rs) 0

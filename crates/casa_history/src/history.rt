@@ -1,0 +1,62 @@
+ghost use Rattle.std.specs.Prelude.{◌≡◌, [], ◌∷◌, ◌++◌, length, OnOk};
+ghost use Rattle.std.specs.Option.{option_copied};
+ghost use Rattle.casa_history.specs.Entries.{entries, entry_at, HasRoom};
+
+use crate::entry::Entry;
+use std::alloc::{AllocError, Global};
+
+/// The calls that were answered, oldest first, each with its desk and reply.
+///
+/// A history only grows.
+#[derive(Drop)]
+pub struct History<C, R> {
+    entries: Vec<Entry<C, R>>,
+}
+
+impl<C, R> History<C, R> {
+    /// The history without an entry.
+    pub fn new(alloc: Global) -> History<C, R>
+        ensures { entries result ≡ [] }
+    {
+        History {
+            entries: Vec::new(alloc),
+        }
+    }
+
+    /// How many entries there are.
+    pub fn len(&self) -> usize
+        ensures { result ≡ length (entries self.now) }
+    {
+        self.entries.len()
+    }
+
+    /// The entry at a position, counted from 1; `None` for 0 and beyond the last.
+    pub fn entry(&self, position: usize) -> Option<&Entry<C, R>>
+        ensures { option_copied result ≡ entry_at position (entries self.now) }
+    {
+        self.entries.get(position.checked_sub(1)?)
+    }
+
+    /// The entries, oldest first.
+    pub(crate) fn entries(&self) -> &[Entry<C, R>]
+        ensures { result.now ≡ entries self.now }
+    {
+        self.entries.as_slice()
+    }
+
+    /// Makes room for one more entry, or answers `AllocError` where there is no memory for it.
+    pub fn reserve(&mut self) -> Result<(), AllocError>
+        ensures same { entries self.new ≡ entries self.old }
+        ensures room { OnOk result (HasRoom self.new.entries) }
+    {
+        self.entries.reserve(1)
+    }
+
+    /// Appends an entry, for which `reserve` has made room.
+    pub fn push(&mut self, entry: Entry<C, R>)
+        requires { HasRoom self.old.entries }
+        ensures { entries self.new ≡ entries self.old ++ entry ∷ [] }
+    {
+        self.entries.push_reserved(entry);
+    }
+}

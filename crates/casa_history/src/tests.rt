@@ -1,0 +1,120 @@
+ghost use Rattle.std.specs.Prelude.{◌≡◌, ◌++◌, ◌∷◌, [], OnOk};
+ghost use Rattle.casa_history.specs.Entries.{entries, receipts, receipt};
+
+use crate::{Entry, History, Holds, Pass, Receipt, Settled, Torn, settle};
+use std::alloc::{AllocError, Global};
+use std::test::Fail;
+
+/// A call of a desk with its reply, both numbers.
+fn entry(desk: u32, call: u32, reply: u32) -> Entry<u32, u32> {
+    Entry { desk, call, reply }
+}
+
+/// Appends an entry to the history.
+fn append(history: &mut History<u32, u32>, entry: Entry<u32, u32>) -> Result<(), AllocError> {
+    history.reserve()?;
+    history.push(entry);
+    Ok(())
+}
+
+/// Appends a receipt to a pass.
+fn receive(
+    pass: &mut Pass<u32, u32>,
+    position: usize,
+    entry: Entry<u32, u32>,
+) -> Result<(), AllocError> {
+    pass.reserve()?;
+    pass.push(Receipt { position, entry });
+    Ok(())
+}
+
+/// A history in which desk 0 made the calls 1 and 3 and desk 2 made the call 2.
+fn three_calls(alloc: Global) -> Result<History<u32, u32>, AllocError> {
+    let mut history = History::new(alloc);
+    append(&mut history, entry(0, 1, 10))?;
+    append(&mut history, entry(2, 2, 20))?;
+    append(&mut history, entry(0, 3, 30))?;
+    Ok(history)
+}
+
+/// The pass of desk 0 with the receipts of `three_calls`.
+fn first_pass(alloc: Global) -> Result<Pass<u32, u32>, AllocError> {
+    let mut pass = Pass::new(alloc, 7, 0);
+    receive(&mut pass, 1, entry(0, 1, 10))?;
+    receive(&mut pass, 3, entry(0, 3, 30))?;
+    Ok(pass)
+}
+
+/// The pass of desk 2 with this receipt of its one call.
+fn second_pass(alloc: Global, position: usize, reply: u32) -> Result<Pass<u32, u32>, AllocError> {
+    let mut pass = Pass::new(alloc, 7, 2);
+    receive(&mut pass, position, entry(2, 2, reply))?;
+    Ok(pass)
+}
+
+#[test]
+fn a_history_and_a_pass_grow(rt: HostRuntime) -> Result<(), Fail> {
+    let history = three_calls(rt.alloc())?;
+    assert_eq!(rt; history.len(), 3);
+    assert!(rt; history.entry(0).is_none());
+    assert!(rt; history.entry(4).is_none());
+    let last = history.entry(3).ok_or("the last entry")?;
+    assert_eq!(rt; (last.desk, last.call, last.reply), (0, 3, 30));
+    let pass = first_pass(rt.alloc())?;
+    assert_eq!(rt; (pass.number(), pass.desk(), pass.calls()), (7, 0, 2));
+    let last = pass.pass().last().ok_or("the last receipt")?;
+    assert_eq!(rt; (last.position, last.entry.call), (3, 3));
+    Ok(())
+}
+
+#[test]
+fn desks_are_settled_or_torn(rt: HostRuntime) -> Result<(), Fail> {
+    let alloc = rt.alloc();
+    let history = three_calls(alloc)?;
+    let all = vec![in alloc;
+        first_pass(alloc)?,
+        second_pass(alloc, 2, 20)?,
+        Pass::new(alloc, 7, 1),
+    ]?;
+    assert_eq!(rt;
+        settle(&history, all.as_slice()),
+        Ok(Settled {
+            desks: 3,
+            entries: 3
+        })
+    );
+    assert_eq!(rt; settle(&history, &all.as_slice()[..1]), Err(Torn(2)));
+    assert_eq!(rt; settle(&history, &all.as_slice()[1..]), Err(Torn(0)));
+    for (position, reply) in [(2, 21), (1, 20)] {
+        let wrong = vec![in alloc; second_pass(alloc, position, reply)?, first_pass(alloc)?]?;
+        assert_eq!(rt; settle(&history, wrong.as_slice()), Err(Torn(2)));
+    }
+    let twice = vec![in alloc;
+        Pass::new(alloc, 7, 0),
+        second_pass(alloc, 2, 20)?,
+        first_pass(alloc)?,
+    ]?;
+    assert_eq!(rt; settle(&history, twice.as_slice()), Err(Torn(0)));
+    Ok(())
+}
+
+#[test]
+fn a_refused_growth_changes_nothing(rt: HostRuntime) -> Result<(), Fail> {
+    let mut history = History::new(rt.alloc());
+    let mut pass = Pass::new(rt.alloc(), 7, 0);
+    if history.reserve().is_err() {
+        assert_eq!(rt; history.len(), 0);
+        history.reserve()?;
+    }
+    history.push(entry(0, 1, 10));
+    if pass.reserve().is_err() {
+        assert_eq!(rt; pass.calls(), 0);
+        pass.reserve()?;
+    }
+    pass.push(Receipt {
+        position: 1,
+        entry: entry(0, 1, 10),
+    });
+    assert_eq!(rt; (history.len(), pass.calls()), (1, 1));
+    Ok(())
+}
