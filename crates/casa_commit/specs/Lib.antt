@@ -1,0 +1,3 @@
+pub mod Legal
+pub mod Desks
+pub mod Faults
