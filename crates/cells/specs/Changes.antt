@@ -1,0 +1,12 @@
+use Rattle.std.specs.Prelude.{◌≡◌, ◌≢◌, ℕ, ◌+◌, Bool, not, true, if◌then◌else◌, List, slice_set}
+use Rattle.cells.specs.declared.cell.Cell.{Cell}
+use Rattle.cells.specs.declared.cell.Change.{Change}
+use Rattle.cells.specs.Copies.{is_full}
+
+-- what a copy of a value to a cell writes
+abbrev pub IsChange : ℕ → ℕ → Change → Type 0
+IsChange v to d = (d.writes ≡ not (is_full v)) × (d.to ≡ to) × (d.writes ≡ true → d.value ≡ v + 1)
+
+-- the cells with a change by entry n
+abbrev pub changed : ℕ → Change → List Cell → List Cell
+changed n d cells = if d.writes then slice_set cells d.to (record { value = d.value; stamp = n }) else cells

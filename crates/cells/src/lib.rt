@@ -1,0 +1,15 @@
+//! A world of four cells, the smallest on which commits can meet: for the tests of casa_commit.
+//!
+//! A call copies one cell's value, plus one, into another. Each cell is an item with the number of the entry that
+//! wrote it last.
+#![tactic(auto)]
+
+mod cell;
+mod plan;
+#[cfg(test)]
+mod tests;
+mod world;
+
+pub use cell::{Answer, Cell, Change, Copying, View};
+pub use plan::copied;
+pub use world::Cells;

@@ -1,0 +1,131 @@
+ghost use Rattle.std.specs.Prelude.{◌≡◌, ◌<◌, List, refl};
+ghost use Rattle.std.proofs.Common.{ap, sym, ◌∙◌};
+ghost use Rattle.cells.specs.declared.cell.Cell.{Cell};
+ghost use Rattle.cells.specs.declared.world.Cells.{Cells};
+ghost use Rattle.cells.specs.Copies.{opening, cell_at, after, reply};
+ghost use Rattle.cells.specs.Changes.{IsChange, changed};
+ghost use Rattle.cells.specs.Laws.{cells_set, changed_after};
+
+use crate::cell::{Answer, Cell, Change, Copying, View};
+use casa_commit::World;
+use std::alloc::AllocError;
+
+/// Four cells.
+#[derive(Drop)]
+pub struct Cells {
+    cells: [Cell; 4],
+}
+
+impl Cells {
+    /// Four cells with 0 that nobody wrote.
+    pub fn new() -> Cells
+        ensures { result.cells ≡ opening }
+    {
+        Cells {
+            cells: [Cell { value: 0, stamp: 0 }; 4],
+        }
+    }
+
+    /// The value of a cell.
+    pub fn value(&self, at: usize) -> u32
+        requires { at < 4 }
+        ensures { result ≡ (cell_at self.now.cells at).value }
+    {
+        self.cells[at].value
+    }
+}
+
+impl World for Cells {
+    type Call = Copying;
+
+    type View = View;
+
+    type Change = Change;
+
+    type Reply = Answer;
+
+    ghost state_type = { List Cell };
+
+    ghost state_set = { cells_set };
+
+    ghost state = { λ w. w.cells };
+
+    ghost opening = { opening };
+
+    ghost after = { after };
+
+    ghost reply = { reply };
+
+    ghost good = { λ s. Unit {0} };
+
+    ghost is_for = { λ v c. v.from ≡ c.from };
+
+    ghost is_of = { λ v w. Unit {0} };
+
+    ghost is_current = { λ w v. cell_at w.cells v.from ≡ v.cell };
+
+    ghost shows = { λ s v. (cell_at s v.from).value ≡ v.cell.value };
+
+    ghost changes = { λ s c d. IsChange (cell_at s c.from).value c.to d };
+
+    ghost alike = { λ w x. x ≡ w };
+
+    ghost has_room = { λ w n d. Unit {0} };
+
+    ghost applied = { λ w n d x. x.cells ≡ changed n d w.cells };
+
+    fn view(&self, call: &Copying) -> Result<View, AllocError> {
+        let from = call.from();
+        Ok(View {
+            from,
+            cell: self.cells[from],
+        })
+    }
+
+    fn same(&self, view: &View) -> bool {
+        self.cells[view.from] == view.cell
+    }
+
+    fn fits(&mut self, _number: usize, _change: &Change) -> Result<(), AllocError> {
+        Ok(())
+    }
+
+    fn apply(&mut self, number: usize, change: Change) {
+        if change.writes {
+            self.cells[change.to] = Cell {
+                value: change.value,
+                stamp: number,
+            };
+        }
+    }
+
+    fn copy_call(call: &Copying) -> Result<Copying, AllocError> {
+        Ok(*call)
+    }
+
+    fn copy_reply(answer: &Answer) -> Result<Answer, AllocError> {
+        Ok(*answer)
+    }
+
+    ghost good_opening = { tt };
+
+    ghost good_after = { λ n s c fine. tt };
+
+    ghost applied_after = { λ w n c d x fine is applied. changed_after w.cells x.cells n c d is applied };
+
+    ghost alike_applied = { λ w x n d y same applied. applied ∙ ap (λ (s : Cells). changed n d s.cells) same };
+
+    ghost alike_same = { λ w. refl };
+
+    ghost alike_state = { λ w x same. ap (λ (s : Cells). s.cells) same };
+
+    ghost alike_views = { λ w x v same. (
+      (λ _. tt, λ _. tt),
+      (
+        λ now. ap (λ (s : Cells). cell_at s.cells v.from) same ∙ now,
+        λ now. ap (λ (s : Cells). cell_at s.cells v.from) (sym same) ∙ now,
+      ),
+    ) };
+
+    ghost applied_views = { λ w n d x v applied. (λ _. tt, λ _. tt) };
+}
