@@ -8,13 +8,27 @@ use Rattle.casa_history.specs.declared.entry.Entry.{Entry}
 use Rattle.casa_commit.specs.Legal.{replay, replay_from, IsLegal}
 
 -- one more entry is one more call
-pub replay_from_push : {S C R : Type 0} → (after : ℕ → S → C → S) (n : ℕ) (s : S) (es : List (Entry C R)) (e : Entry C R)
+replay_from_push : {S C R : Type 0} → (after : ℕ → S → C → S) (n : ℕ) (s : S) (es : List (Entry C R)) (e : Entry C R)
     → replay_from after n s (es ++ e ∷ []) ≡ after (n + length es) (replay_from after n s es) e.call
 replay_from_push after n s [] e = ap (λ k. after k s e.call) (sym (add-zero n))
 replay_from_push after n s (x ∷ es) e =
     let number : n + 1 + length es ≡ n + suc (length es) = omega arith in
     replay_from_push after (n + 1) (after n s x.call) es e
     ∙ ap (λ k. after k (replay_from after (n + 1) (after n s x.call) es) e.call) number
+
+-- one more entry is one more call, whose number is the new length
+pub replay_push : {S C R : Type 0} → (after : ℕ → S → C → S) (opening : S) (es : List (Entry C R)) (e : Entry C R)
+    → (n : ℕ) (s : S) → n ≡ length es + 1 → s ≡ replay after opening es
+    → after n s e.call ≡ replay after opening (es ++ e ∷ [])
+replay_push {S} {C} {R} after opening es e n s number was =
+    let one_more : n ≡ 1 + length es = omega (arith, number) in
+    ap (λ k. after k s e.call) one_more ∙ ap (λ (x : S). after (1 + length es) x e.call) was
+    ∙ sym (replay_from_push after 1 opening es e)
+
+-- an element that is put behind a list that equals another stands behind that
+pub pushed_behind : {X : Type 0} → (new grown old : List X) (x : X) → new ≡ grown ++ x ∷ [] → grown ≡ old
+    → new ≡ old ++ x ∷ []
+pushed_behind {X} new grown old x pushed same = pushed ∙ ap (λ (xs : List X). xs ++ x ∷ []) same
 
 -- a replay from a good state is good
 pub good_replay : {S C R : Type 0} → (good : S → Type 0) (after : ℕ → S → C → S)
@@ -36,8 +50,9 @@ slice_get-pushed [] y = refl
 slice_get-pushed (x ∷ xs) y = slice_get-pushed xs y
 
 -- a legal history stays legal with one more entry that has its call's reply
-pub legal_push : {S C R : Type 0} → (after : ℕ → S → C → S) (reply : S → C → R) (s : S) (es : List (Entry C R)) (e : Entry C R)
-    → IsLegal after reply s es → e.reply ≡ reply (replay after s es) e.call → IsLegal after reply s (es ++ e ∷ [])
+pub legal_push : {S C R : Type 0} → (after : ℕ → S → C → S) (reply : S → C → R) (s : S)
+    → (es : List (Entry C R)) (e : Entry C R) → IsLegal after reply s es
+    → e.reply ≡ reply (replay after s es) e.call → IsLegal after reply s (es ++ e ∷ [])
 legal_push {S} {C} {R} after reply s es e legal says k x is =
     elim (cases_lt k (length es)) [
       | inl before ↦

@@ -27,7 +27,8 @@ receipts_of_push {C} {R} d es e =
     ∙ filter-append (is_of_desk d) (receipts_from 1 es) (receipt (1 + length es) e ∷ [])
 
 -- the last position of receipts is that of the last
-last_position_push : {C R : Type 0} → (rs : List (Receipt C R)) (r : Receipt C R) → last_position (rs ++ r ∷ []) ≡ r.position
+last_position_push : {C R : Type 0} → (rs : List (Receipt C R)) (r : Receipt C R)
+    → last_position (rs ++ r ∷ []) ≡ r.position
 last_position_push rs r =
     let last : length (rs ++ r ∷ []) - 1 ≡ length rs = omega (arith, length-append rs (r ∷ [])) in
     rw (last, slice_get-pushed rs r)
@@ -67,7 +68,8 @@ tallies_push {C} {R} ts es e t n tallied opened is number d =
     elim (cases_eq e.desk d) [
       | inl same ↦
           let calls : t.calls ≡ length (receipts_of e.desk es) = ap (λ (x : Tally). x.calls) (is ∙ tallied e.desk) in
-          let put : slice_index_or (set ts e.desk T) e.desk no_calls ≡ T = get_or-set_same ts e.desk T no_calls opened in
+          let put : slice_index_or (set ts e.desk T) e.desk no_calls ≡ T =
+          get_or-set_same ts e.desk T no_calls opened in
           let now : T ≡ tally_with (length (receipts_of e.desk es) + 1) (length es + 1) =
           ap (λ a. tally_with (a + 1) n) calls ∙ ap (tally_with (length (receipts_of e.desk es) + 1)) number in
           let here : slice_index_or (set ts e.desk T) e.desk no_calls ≡ tally e.desk (es ++ e ∷ []) =

@@ -21,8 +21,8 @@ no_calls = record { calls = 0; last = 0 }
 abbrev pub AreTallies : {C R : Type 0} → List Tally → List (Entry C R) → Type 0
 AreTallies ts es = (d : ℕ) → slice_index_or ts d no_calls ≡ tally d es
 
--- a room with this number, these many desks and this history knows a pass: the pass has its number and the number of an open
--- desk, and as many receipts as the desk has entries, the last at the position of the last of these
+-- a room with this number, so many desks and this history knows a pass: the pass has its number and that of an open desk,
+-- and as many receipts as the desk has entries, the last at the position of the last of these
 abbrev pub Knows : {C R : Type 0} → ℕ → ℕ → List (Entry C R) → Pass C R → Type 0
 Knows number desks es p =
     (p.number ≡ number) × (p.desk < desks)

@@ -125,7 +125,8 @@ settled_before {C} {R} es ps t u passes calls d before_t before_u =
       | inl none ↦ elim (entry_among {C = C} {R = R} d 1 es) [
         | inl silent ↦ inr (none, silent)
         | inr (e, among, of) ↦
-            let held = All-contains (λ (e : Entry C R). Precedes e.desk u → passes_of e.desk ps ≢ []) es e calls among in
+            let held =
+            All-contains (λ (e : Entry C R). Precedes e.desk u → passes_of e.desk ps ≢ []) es e calls among in
             let here : Precedes e.desk u = subst (λ (k : ℕ). Precedes k u) (sym of) before_u in
             absurd (held here (ap (λ (k : ℕ). passes_of k ps) of ∙ none))
       ]

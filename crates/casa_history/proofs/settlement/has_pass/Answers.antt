@@ -11,7 +11,8 @@ returns-then-desk g c =
     let among : Contains (map held passes) (held h) =
     contains_mapped held passes c.loop-holder.holder-index h c.loop-holder-test.true c.holder-item.is in
     let of : (held h).desk ≡ c.args.desk =
-    ap (λ (p : Pass g.row.C.Denot g.row.R.Denot). p.desk) (sym c.pass.ensures) ∙ sym c.desk.ensures ∙ c.if-desk.true in (
+    ap (λ (p : Pass g.row.C.Denot g.row.R.Denot). p.desk) (sym c.pass.ensures)
+    ∙ sym c.desk.ensures ∙ c.if-desk.true in (
       λ yes none. passes_of_some c.args.desk (map held passes) (held h) among of none,
       λ some. search (rules),
     )

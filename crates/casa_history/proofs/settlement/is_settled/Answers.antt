@@ -11,7 +11,8 @@ returns-then-count_passes-eq1 g c =
     let es = entries c.args.history.now in
     let ps = map g.P.Holds.held c.args.passes.now in
     let one : length (passes_of p.desk ps) ≡ 1 =
-    ap (λ k. length (passes_of k ps)) (sym c.desk.ensures) ∙ sym c.count_passes.ensures ∙ c.if-count_passes-eq1.true in (
+    ap (λ k. length (passes_of k ps)) (sym c.desk.ensures)
+    ∙ sym c.count_passes.ensures ∙ c.if-count_passes-eq1.true in (
       λ yes. settled_by_sole p.desk es ps p c.requires.among refl one (c.are_receipts.ensures.0 yes),
       λ settled. c.are_receipts.ensures.1 (sole_of_settled p.desk es ps p c.requires.among refl settled).1,
     )
