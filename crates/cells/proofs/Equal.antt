@@ -1,4 +1,4 @@
-use Rattle.std.proofs.Common.{◌≡◌, ◌↔◌, Bool, true, ap, ◌==◌, arith}
+use Rattle.std.proofs.Common.{◌≡◌, ◌↔◌, true, ap, ◌==◌, arith}
 use Rattle.std.specs.Prelude.{◌&&◌}
 use Rattle.std.proofs.lemmas.Bool.Decides.{nat_tests}
 use Rattle.cells.specs.contracts.cell.Copying as row

@@ -1,4 +1,4 @@
-use Rattle.std.specs.Prelude.{◌≡◌, ◌≢◌, ℕ, ◌+◌, Bool, not, true, if◌then◌else◌, List, slice_set}
+use Rattle.std.specs.Prelude.{◌≡◌, ℕ, ◌+◌, not, true, if◌then◌else◌, List, slice_set}
 use Rattle.cells.specs.declared.cell.Cell.{Cell}
 use Rattle.cells.specs.declared.cell.Change.{Change}
 use Rattle.cells.specs.Copies.{is_full}
