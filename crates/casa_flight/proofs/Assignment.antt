@@ -67,7 +67,7 @@ only_right : (o : Occupancy) (xs ys : List Assigned) → comps_of xs ≡ comps_o
 only_right o xs ys e h g = only_after o [] xs ys e h g
 
 -- the first number that passes
-abbrev IsFirstFrom : (ℕ → Bool) → ℕ → ℕ → Option ℕ → Type 0
+abbrev pub IsFirstFrom : (ℕ → Bool) → ℕ → ℕ → Option ℕ → Type 0
 IsFirstFrom p a n None = (j : ℕ) → a ≤ j → j < a + n → p j ≡ false
 IsFirstFrom p a n (Some k) = (a ≤ k) × (p k ≡ true) × ((j : ℕ) → a ≤ j → j < k → p j ≡ false)
 
@@ -75,7 +75,7 @@ first_step : (p : ℕ → Bool) (a n : ℕ) (found : Option ℕ) → p a ≡ fal
 first_step p a n None f h = λ j low high. elim (cases_eq a j) [ inl e ↦ subst (λ i. p i ≡ false) e f | inr ne ↦ h j (omega arith) (omega arith) ]
 first_step p a n (Some k) f h = (omega (arith, h.0), h.1, λ j low high. elim (cases_eq a j) [ inl e ↦ subst (λ i. p i ≡ false) e f | inr ne ↦ h.2 j (omega arith) high ])
 
-find_first : (p : ℕ → Bool) (a n : ℕ) → IsFirstFrom p a n (find p (range_with_len a n))
+pub find_first : (p : ℕ → Bool) (a n : ℕ) → IsFirstFrom p a n (find p (range_with_len a n))
 find_first p a zero = λ j low high. absurd (omega arith)
 find_first p a (suc n) =
     elim (p a) as (λ t. p a ≡ t → IsFirstFrom p a (suc n) (cond t (Some a) (find p (range_with_len (a + 1) n)))) [

@@ -17,7 +17,7 @@ use Rattle.casa_flight.proofs.Entries.{all-each}
 use Rattle.casa_flight.proofs.Assignment.{open_listed, comps_of, comps-assignment, assignment_right}
 
 -- an element is put before the first one that does not precede it
-first_at_most : {X : Type 0} (test : X → Bool) (xs : List X) → position_or_len test xs ≤ length xs
+pub first_at_most : {X : Type 0} (test : X → Bool) (xs : List X) → position_or_len test xs ≤ length xs
 first_at_most test [] = omega arith
 first_at_most test (x ∷ xs) =
     let rest : position_or_len test xs ≤ length xs = first_at_most test xs in
@@ -26,7 +26,7 @@ first_at_most test (x ∷ xs) =
       | false ↦ omega (arith, rest)
     ]
 
-put_at : {X : Type 0} (precedes : X → X → Bool) (x : X) (xs : List X) → put_by precedes x xs ≡ insert xs (position_or_len (λ y. not (precedes y x)) xs) x
+pub put_at : {X : Type 0} (precedes : X → X → Bool) (x : X) (xs : List X) → put_by precedes x xs ≡ insert xs (position_or_len (λ y. not (precedes y x)) xs) x
 put_at {X} precedes x xs =
     let n : ℕ = position_or_len (λ y. not (precedes y x)) xs in
     let at_most : n ≤ length xs = first_at_most (λ y. not (precedes y x)) xs in
@@ -59,10 +59,10 @@ all-put_by {X} P precedes x new (y ∷ ys) h =
     ] refl
 
 -- times over from this one on
-abbrev AreFrom : ℕ → List Comp → Type 0
+abbrev pub AreFrom : ℕ → List Comp → Type 0
 AreFrom eto cs = AllByRecursion (λ (c : Comp). eto ≤ c.eto) cs
 
-abbrev AreRising : List Comp → Type 0
+abbrev pub AreRising : List Comp → Type 0
 AreRising [] = Unit {0}
 AreRising (c ∷ cs) = AreFrom c.eto cs × AreRising cs
 
@@ -95,7 +95,7 @@ rising-fold : (cs ds : List Comp) → AreRising ds → AreRising (fold (λ ys x.
 rising-fold [] ds h = h
 rising-fold (c ∷ cs) ds h = rising-fold cs (put_by is_before c ds) (rising-put c ds h)
 
-rising-competitors : (l : Listing) → AreRising (competitors l)
+pub rising-competitors : (l : Listing) → AreRising (competitors l)
 rising-competitors l = rising-fold (filter_map (λ (e : Text × Stance). competitor e.0 e.1) l.flights) [] tt
 
 from_cut : (eto : ℕ) (between : List Assigned) (b : Assigned) (after : List Assigned) → AreFrom eto (comps_of (between ++ b ∷ after)) → eto ≤ b.comp.eto
@@ -136,7 +136,7 @@ from_rises ws e f k le h =
     from_made _ _ _ under at_most
 
 -- a slot that is open to one who comes later is open to one who comes earlier
-open_rises : (o : Occupancy) (e f k : ℕ) → e ≤ f → is_open o f k ≡ true → is_open o e k ≡ true
+pub open_rises : (o : Occupancy) (e f k : ℕ) → e ≤ f → is_open o f k ≡ true → is_open o e k ≡ true
 open_rises o e f k le h =
     let outer : (nat_lt k (length o.slots) ≡ true) × ((is_from (wanted o.slots f) k && not (is_blocked o k)) ≡ true) = and_parts _ _ h in
     let inner : (is_from (wanted o.slots f) k ≡ true) × (not (is_blocked o k) ≡ true) = and_parts _ _ outer.1 in

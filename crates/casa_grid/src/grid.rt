@@ -95,6 +95,20 @@ impl Grid {
     }
 }
 
+impl Clone for Grid {
+    ghost is_clone = { λ grid copy. copy ≡ grid };
+
+    /// The same grid in memory of its own, or `AllocError` where there is no memory for it.
+    fn clone(&self) -> Result<Grid, AllocError>
+        ensures { IfOk result (λ copy. copy ≡ self.now) }
+    {
+        Ok(Grid {
+            profile: self.profile.clone()?,
+            windows: self.windows.clone()?,
+        })
+    }
+}
+
 /// Appends the slots of one period.
 fn push_slots(windows: &mut Vec<Window>, period: &Period) -> Result<(), AllocError>
     requires filled { period.now.begin < period.now.until }

@@ -1,0 +1,4 @@
+pub mod Standings
+pub mod Walk
+pub mod Blocked
+pub mod Kept

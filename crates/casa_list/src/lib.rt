@@ -1,0 +1,21 @@
+//! The slot allocation list of one regulation, kept up to date as flights displace one another.
+//!
+//! A list holds the competitors in the order in which they are planned over the location, each in its slot. A
+//! newcomer takes the slot that it asks for, or the first later one that is free or pre-allocated to a
+//! competitor behind it; the displaced one looks on from there, and so on until a competitor finds a free slot
+//! or keeps its own. What this leads to is stated without any chain: after each call the places are those of
+//! the definitions in casa_flight.
+#![tactic(auto)]
+
+mod blocked;
+mod laws;
+mod list;
+mod order;
+mod standing;
+#[cfg(test)]
+mod tests;
+mod walk;
+
+pub use laws::places_are_right;
+pub use list::SlotList;
+pub use standing::Standing;

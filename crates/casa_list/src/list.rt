@@ -1,0 +1,362 @@
+//! The list.
+
+ghost use Rattle.std.specs.Prelude.{◌≡◌, ◌∷◌, [], Option, Some, None, IfOk, OnOk, OnErr, IfSome, IfNone, IsTrue, is_some, false, length, if◌then◌else◌};
+ghost use Rattle.std.specs.List.{slice_get};
+ghost use Rattle.casa_grid.specs.Profile.{end_of};
+ghost use Rattle.casa_grid.specs.Slots.{slots, window_of};
+ghost use Rattle.casa_grid.specs.TimeOver.{cto as time_over};
+ghost use Rattle.casa_flight.specs.declared.row.Stance.{Stance};
+ghost use Rattle.casa_flight.specs.Text.{Text, put, without, same_text};
+ghost use Rattle.casa_flight.specs.Assignment.{IsRight, place_from};
+ghost use Rattle.casa_flight.specs.Listing.{places, occupancy, place_of, cto_of, stance_of};
+ghost use Rattle.casa_flight.specs.Entry.{with_competitor};
+ghost use Rattle.casa_list.specs.Walk.{IsWithin};
+ghost use Rattle.casa_list.specs.Standings.{standings, count_governed, governed_place, governed_cto, issue_cto, with_issued, is_forced, competing_eto, forced_eto};
+
+use crate::blocked::{block, counted, slot_of, unblock};
+use crate::order::{entry_at, index_of, put_flight, take_flight};
+use crate::standing::{Entry, Standing};
+use crate::walk::{
+    cto_at, place_behind, place_from, put_competitor, settle_all, settle_at, take_competitor,
+};
+use casa_flight::{Assigned, Comp, Key, Stance};
+use casa_grid::{Grid, Place};
+use casa_time::Moment;
+use std::alloc::{AllocError, Global};
+use std::collections::BTreeMap;
+use std::marker::Model;
+
+/// The slot allocation list of one regulation: its grid, and how each flight that is subject to the regulation
+/// stands there.
+///
+/// Contracts see it as a regulation's profile and the stance of each flight, by keys; places follow from that.
+/// It keeps the competitors in their order with their places, the issued and the forced flights in theirs, and
+/// of each slot how many issued flights block it.
+#[derive(Drop)]
+pub struct SlotList {
+    grid: Grid,
+    flights: BTreeMap<Key, Stance>,
+    competitors: Vec<Assigned>,
+    issued: Vec<Entry>,
+    forced: Vec<Entry>,
+    blocked: Vec<usize>,
+}
+
+impl Model for SlotList {
+    ghost use Rattle.std.specs.Prelude.{vec_capacity};
+    ghost use Rattle.casa_flight.specs.Listing.{Listing};
+
+    ghost Value = { Listing };
+
+    ghost use Rattle.casa_list.specs.Kept.{IsKept};
+
+    ghost view = { λ l. record { profile = l.grid; flights = l.flights.entries } };
+
+    ghost invariant = { λ l. IsKept (record { profile = l.grid; flights = l.flights.entries })
+        l.competitors.items l.issued.items l.forced.items l.blocked.items (vec_capacity l.issued) };
+}
+
+impl SlotList {
+    /// A list with no flights, or `AllocError` where there is no memory for it.
+    pub fn new(alloc: Global, grid: Grid) -> Result<SlotList, AllocError>
+        ensures { IfOk result (λ list. list ≡ record { profile = grid; flights = [] }) }
+    {
+        let blocked = counted(alloc, &grid, &[])?;
+        Ok(SlotList {
+            grid,
+            flights: BTreeMap::new(alloc),
+            competitors: Vec::new(alloc),
+            issued: Vec::new(alloc),
+            forced: Vec::new(alloc),
+            blocked,
+        })
+    }
+
+    /// The slots of the list.
+    pub fn grid(&self) -> &Grid
+        ensures { result.now ≡ self.now.profile }
+    {
+        &self.grid
+    }
+
+    /// How the flight stands, if it is subject to the regulation.
+    fn stance_of(&self, key: Key) -> Option<Stance>
+        ensures { result ≡ stance_of self.now key }
+    {
+        self.flights.get(&key).copied()
+    }
+
+    /// The estimated time over of a competitor.
+    fn competing_at(&self, key: Key) -> Option<Moment>
+        ensures value { result ≡ competing_eto self.now key }
+        ensures found { IfSome result (λ eto. stance_of self.now key ≡ Some (Stance.Competing eto)) }
+    {
+        match self.stance_of(key)? {
+            Stance::Competing { eto } => Some(eto),
+            _ => None,
+        }
+    }
+
+    /// The estimated time over of a forced flight.
+    fn forced_at(&self, key: Key) -> Option<Moment>
+        ensures value { result ≡ forced_eto self.now key }
+        ensures found { IfSome result (λ eto. stance_of self.now key ≡ Some (Stance.Forced eto)) }
+    {
+        match self.stance_of(key)? {
+            Stance::Forced { eto } => Some(eto),
+            _ => None,
+        }
+    }
+
+    /// Puts a competitor in and gives its place: the slot that it asks for or the first later one that is free
+    /// or pre-allocated to a competitor behind it, which then looks on from there.
+    ///
+    /// Competitors are ordered by estimated time over and, among equal times, by key. `AllocError` where there
+    /// is no memory for the flight; the list is then as it was.
+    pub fn enter(&mut self, comp: Comp) -> Result<Place, AllocError>
+        requires { stance_of self.old comp.key ≡ None }
+        ensures entered { OnOk result (self.new ≡ with_competitor self.old comp.key comp.eto) }
+        ensures place { IfOk result (λ place. place ≡ place_of self.new comp.key) }
+        ensures unchanged { OnErr result (self.new ≡ self.old) }
+    {
+        self.competitors.reserve(1)?;
+        self.issued.reserve(self.competitors.len() + 1)?;
+        self.flights
+            .insert(comp.key, Stance::Competing { eto: comp.eto })?;
+        let at = index_of(self.competitors.as_slice(), &comp);
+        let blocked = self.blocked.as_slice();
+        let competitors = &mut self.competitors;
+        Ok(put_competitor(&self.grid, blocked, competitors, at, comp))
+    }
+
+    /// The place that `enter` would give.
+    pub fn would_get(&self, comp: &Comp) -> Place
+        requires { stance_of self.now comp.now.key ≡ None }
+        ensures { result ≡ place_of (with_competitor self.now comp.now.key comp.now.eto) comp.now.key }
+    {
+        let at = index_of(self.competitors.as_slice(), comp);
+        place_behind(
+            &self.grid,
+            self.blocked.as_slice(),
+            &self.competitors[..at],
+            comp.eto,
+        )
+    }
+
+    /// Puts an issued flight in, with this calculated time over. The competitor that has its slot looks on from
+    /// there.
+    ///
+    /// `AllocError` where there is no memory for the flight; the list is then as it was.
+    pub fn hold(&mut self, comp: Comp, cto: Moment) -> Result<(), AllocError>
+        requires { stance_of self.old comp.key ≡ None }
+        ensures held { OnOk result (self.new ≡ record self.old {
+          flights = put self.old.flights comp.key (Stance.Issued comp.eto cto);
+        }) }
+        ensures unchanged { OnErr result (self.new ≡ self.old) }
+    {
+        self.issued.reserve(self.competitors.len() + 1)?;
+        let stance = Stance::Issued { eto: comp.eto, cto };
+        self.flights.insert(comp.key, stance)?;
+        put_flight(&mut self.issued, comp, Standing::Issued(cto));
+        let slot = block(&self.grid, &mut self.blocked, cto);
+        settle_at(
+            &self.grid,
+            self.blocked.as_slice(),
+            &mut self.competitors,
+            slot,
+        );
+        Ok(())
+    }
+
+    /// Puts a flight in that takes no slot.
+    ///
+    /// `AllocError` where there is no memory for the flight; the list is then as it was.
+    pub fn force(&mut self, comp: Comp) -> Result<(), AllocError>
+        requires { stance_of self.old comp.key ≡ None }
+        ensures forced { OnOk result (self.new ≡ record self.old {
+          flights = put self.old.flights comp.key (Stance.Forced comp.eto);
+        }) }
+        ensures unchanged { OnErr result (self.new ≡ self.old) }
+    {
+        self.forced.reserve(1)?;
+        self.flights
+            .insert(comp.key, Stance::Forced { eto: comp.eto })?;
+        put_flight(&mut self.forced, comp, Standing::Forced);
+        Ok(())
+    }
+
+    /// Takes a forced flight out, and says whether there was one with this key.
+    pub fn unforce(&mut self, key: &Key) -> bool
+        ensures answer { result ≡ is_forced self.old key.now }
+        ensures left { self.new ≡ (if result then record self.old { flights = without self.old.flights key.now } else self.old) }
+    {
+        let Some(eto) = self.forced_at(*key) else {
+            return false;
+        };
+        self.flights.remove(key);
+        take_flight(&mut self.forced, &Comp { eto, key: *key });
+        true
+    }
+
+    /// Takes a governed flight out and gives the place that it had: of a competitor its own, of an issued
+    /// flight the slot whose window holds its calculated time over, `Over` without one. `None` where the
+    /// regulation governs no flight with this key.
+    ///
+    /// The slot goes to the first competitor behind that may have it, whose slot goes on likewise.
+    pub fn leave(&mut self, key: &Key) -> Option<Place>
+        ensures answer { result ≡ governed_place self.old key.now }
+        ensures left { self.new ≡
+            (if is_some result then record self.old { flights = without self.old.flights key.now } else self.old) }
+    {
+        match self.stance_of(*key)? {
+            Stance::Competing { eto } => Some(self.leave_competitor(Comp { eto, key: *key })),
+            Stance::Issued { eto, cto } => Some(self.leave_issued(Comp { eto, key: *key }, cto)),
+            Stance::Forced { .. } => None,
+        }
+    }
+
+    /// Takes a competitor out and gives the place that it had.
+    fn leave_competitor(&mut self, comp: Comp) -> Place
+        requires { stance_of self.old comp.key ≡ Some (Stance.Competing comp.eto) }
+        ensures place { result ≡ place_of self.old comp.key }
+        ensures left { self.new ≡ record self.old { flights = without self.old.flights comp.key } }
+    {
+        self.flights.remove(&comp.key);
+        let at = index_of(self.competitors.as_slice(), &comp);
+        take_competitor(
+            &self.grid,
+            self.blocked.as_slice(),
+            &mut self.competitors,
+            at,
+        )
+    }
+
+    /// Takes an issued flight out and gives the place of its calculated time over.
+    fn leave_issued(&mut self, comp: Comp, cto: Moment) -> Place
+        requires { stance_of self.old comp.key ≡ Some (Stance.Issued comp.eto cto) }
+        ensures place { result ≡ place_from (window_of (slots self.old.profile) cto) }
+        ensures left { self.new ≡ record self.old { flights = without self.old.flights comp.key } }
+    {
+        self.flights.remove(&comp.key);
+        take_flight(&mut self.issued, &comp);
+        let slot = unblock(&self.grid, &mut self.blocked, cto);
+        settle_at(
+            &self.grid,
+            self.blocked.as_slice(),
+            &mut self.competitors,
+            slot,
+        );
+        place_from(slot)
+    }
+
+    /// Issues a competitor at the calculated time over of its place, which it gives; nobody moves. `None` where
+    /// the key is none of a competitor.
+    pub fn issue(&mut self, key: &Key) -> Option<Moment>
+        ensures answer { result ≡ issue_cto self.old key.now }
+        ensures issued { self.new ≡ with_issued self.old key.now }
+        ensures others { (other : Text) → same_text other key.now ≡ false →
+            place_of self.new other ≡ place_of self.old other }
+    {
+        let eto = self.competing_at(*key)?;
+        let comp = Comp { eto, key: *key };
+        let cto = cto_at(&self.grid, eto, self.place_at(&comp));
+        let at = index_of(self.competitors.as_slice(), &comp);
+        self.competitors.remove(at);
+        let written: Result<_, _> = self.flights.insert(*key, Stance::Issued { eto, cto });
+        written.unwrap();
+        put_flight(&mut self.issued, comp, Standing::Issued(cto));
+        block(&self.grid, &mut self.blocked, cto);
+        Some(cto)
+    }
+
+    /// The place of a governed flight: what `leave` would give.
+    pub fn place_of(&self, key: &Key) -> Option<Place>
+        ensures { result ≡ governed_place self.now key.now }
+    {
+        match self.stance_of(*key)? {
+            Stance::Competing { eto } => Some(self.place_at(&Comp { eto, key: *key })),
+            Stance::Issued { cto, .. } => Some(place_from(slot_of(&self.grid, cto))),
+            Stance::Forced { .. } => None,
+        }
+    }
+
+    /// The place of a competitor.
+    fn place_at(&self, comp: &Comp) -> Place
+        requires { stance_of self.now comp.now.key ≡ Some (Stance.Competing comp.now.eto) }
+        ensures place { result ≡ place_of self.now comp.now.key }
+        ensures within { IsWithin (length (slots self.now.profile)) result }
+    {
+        let at = index_of(self.competitors.as_slice(), comp);
+        self.competitors[at].place
+    }
+
+    /// The calculated time over of a governed flight; `None` where the regulation governs none with this key.
+    pub fn cto_of(&self, key: &Key) -> Option<Moment>
+        ensures { result ≡ governed_cto self.now key.now }
+    {
+        match self.stance_of(*key)? {
+            Stance::Competing { eto } => {
+                let place = self.place_at(&Comp { eto, key: *key });
+                Some(cto_at(&self.grid, eto, place))
+            }
+            Stance::Issued { cto, .. } => Some(cto),
+            Stance::Forced { .. } => None,
+        }
+    }
+
+    /// How many flights the regulation governs: the competitors and the issued flights.
+    pub fn governed(&self) -> usize
+        ensures number { result ≡ count_governed self.now }
+    {
+        self.competitors.len() + self.issued.len()
+    }
+
+    /// Flight number `n` as it stands; `None` from the number of flights on.
+    ///
+    /// The competitors come first, in their order, then the issued and then the forced flights, both ordered
+    /// likewise by estimated time over and key.
+    pub fn nth(&self, n: usize) -> Option<(Comp, Standing)>
+        ensures { result ≡ slice_get (standings self.now) n }
+    {
+        if n < self.competitors.len() {
+            let assigned = self.competitors[n];
+            return Some((assigned.comp, Standing::Pre(assigned.place)));
+        }
+        let n = n - self.competitors.len();
+        if n < self.issued.len() {
+            return Some(self.issued[n]);
+        }
+        entry_at(self.forced.as_slice(), n - self.issued.len())
+    }
+
+    /// Gives the list the slots of this grid. Competitors are placed anew; issued flights keep their times.
+    ///
+    /// `AllocError` where there is no memory to count them by slots; the list is then as it was.
+    pub fn regrid(&mut self, grid: Grid) -> Result<(), AllocError>
+        ensures regridded { OnOk result (self.new ≡ record self.old { profile = grid }) }
+        ensures unchanged { OnErr result (self.new ≡ self.old) }
+    {
+        let alloc = *self.blocked.allocator();
+        let blocked = counted(alloc, &grid, self.issued.as_slice())?;
+        self.grid = grid;
+        self.blocked = blocked;
+        settle_all(&self.grid, self.blocked.as_slice(), &mut self.competitors);
+        Ok(())
+    }
+
+    /// The same list in memory of its own, or `AllocError` where there is no memory for it.
+    pub fn try_clone(&self) -> Result<SlotList, AllocError>
+        ensures { IfOk result (λ list. list ≡ self.now) }
+    {
+        let mut issued = self.issued.clone()?;
+        issued.reserve(self.competitors.len())?;
+        Ok(SlotList {
+            grid: self.grid.clone()?,
+            flights: self.flights.clone()?,
+            competitors: self.competitors.clone()?,
+            issued,
+            forced: self.forced.clone()?,
+            blocked: self.blocked.clone()?,
+        })
+    }
+}

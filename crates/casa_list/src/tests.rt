@@ -1,0 +1,221 @@
+use crate::{SlotList, Standing};
+use casa_flight::{Comp, Key};
+use casa_grid::{Grid, Period, Place, Profile};
+use casa_time::Moment;
+use std::alloc::{AllocError, Global};
+use std::test::Fail;
+
+/// The key with this text.
+fn key(text: &[u8]) -> Result<Key, Fail> {
+    Key::new(text).ok_or_else(|| Fail::new("no key"))
+}
+
+/// The flight with this key and estimated time over.
+fn comp(text: &[u8], eto: u32) -> Result<Comp, Fail> {
+    Ok(Comp {
+        eto: Moment::new(eto)?,
+        key: key(text)?,
+    })
+}
+
+/// A period with this many flights per hour.
+fn period(begin: u32, until: u32, rate: u32) -> Result<Period, Fail> {
+    Ok(Period {
+        begin: Moment::new(begin)?,
+        until: Moment::new(until)?,
+        rate,
+    })
+}
+
+/// The list of these periods, with no flights.
+fn list(alloc: Global, periods: &[Period]) -> Result<SlotList, Fail> {
+    let profile = Profile::new(alloc, periods)?;
+    let grid = Grid::of(alloc, &profile)?;
+    Ok(SlotList::new(alloc, grid)?)
+}
+
+/// The list from 36000 to 37200 with 30 flights per hour: ten slots, two minutes apart.
+fn ten_slots(alloc: Global) -> Result<SlotList, Fail> {
+    list(alloc, &[period(36_000, 37_200, 30)?])
+}
+
+/// The calculated time over of the flight with this key, as seconds.
+fn cto_of(list: &SlotList, text: &[u8]) -> Result<Option<u32>, Fail> {
+    Ok(list.cto_of(&key(text)?).map(|at| at.secs()))
+}
+
+#[test]
+fn newcomers_displace_those_planned_later(rt: HostRuntime) -> Result<(), Fail> {
+    let alloc = rt.alloc();
+    let mut list = ten_slots(alloc)?;
+    assert_eq!(rt; list.enter(comp(b"A", 36_010)?)?, Place::Slot(0));
+    let b = comp(b"B", 36_005)?;
+    assert_eq!(rt; list.would_get(&b), Place::Slot(0));
+    assert_eq!(rt; list.enter(b)?, Place::Slot(0));
+    assert_eq!(rt; list.place_of(&key(b"A")?), Some(Place::Slot(1)));
+
+    assert_eq!(rt; list.issue(&key(b"A")?), Some(Moment::new(36_120)?));
+    assert_eq!(rt; list.issue(&key(b"A")?), None);
+    list.hold(comp(b"C", 36_005)?, Moment::new(36_015)?)?;
+    assert_eq!(rt; list.place_of(&key(b"B")?), Some(Place::Slot(2)));
+    assert_eq!(rt; list.leave(&key(b"A")?), Some(Place::Slot(1)));
+    assert_eq!(rt; list.place_of(&key(b"B")?), Some(Place::Slot(1)));
+    assert_eq!(rt; cto_of(&list, b"B")?, Some(36_120));
+    assert_eq!(rt; list.leave(&key(b"Z")?), None);
+
+    list.force(comp(b"D", 36_050)?)?;
+    assert_eq!(rt; list.place_of(&key(b"B")?), Some(Place::Slot(1)));
+    assert_eq!(rt; list.place_of(&key(b"D")?), None);
+    assert_eq!(rt; list.governed(), 2);
+    let copy = list.try_clone()?;
+    for n in 0..4 {
+        assert_eq!(rt; copy.nth(n), list.nth(n));
+    }
+
+    let profile = Profile::new(alloc, &[period(36_000, 37_200, 15)?])?;
+    list.regrid(Grid::of(alloc, &profile)?)?;
+    assert_eq!(rt; list.grid().len(), 5);
+    assert_eq!(rt; list.place_of(&key(b"C")?), Some(Place::Slot(0)));
+    assert_eq!(rt; list.place_of(&key(b"B")?), Some(Place::Slot(1)));
+    assert_eq!(rt; cto_of(&list, b"B")?, Some(36_240));
+    let c = Standing::Issued(Moment::new(36_015)?);
+    assert_eq!(rt; list.nth(0), Some((b, Standing::Pre(Place::Slot(1)))));
+    assert_eq!(rt; list.nth(1), Some((comp(b"C", 36_005)?, c)));
+    assert_eq!(rt; list.nth(2), Some((comp(b"D", 36_050)?, Standing::Forced)));
+    assert_eq!(rt; list.nth(3), None);
+    assert!(rt; list.unforce(&key(b"D")?));
+    assert_eq!(rt; list.nth(2), None);
+    Ok(())
+}
+
+#[test]
+fn an_issued_flight_leaves_its_slot_free(rt: HostRuntime) -> Result<(), Fail> {
+    let alloc = rt.alloc();
+    let mut list = ten_slots(alloc)?;
+    let (a, b) = (key(b"A")?, key(b"B")?);
+    assert_eq!(rt; list.enter(comp(b"A", 36_010)?)?, Place::Slot(0));
+    assert_eq!(rt; list.enter(comp(b"B", 36_005)?)?, Place::Slot(0));
+    assert_eq!(rt; list.issue(&b), Some(Moment::new(36_005)?));
+    assert_eq!(rt; list.leave(&b), Some(Place::Slot(0)));
+    assert_eq!(rt; list.place_of(&a), Some(Place::Slot(0)));
+    assert_eq!(rt; cto_of(&list, b"A")?, Some(36_010));
+    assert_eq!(rt; list.leave(&b), None);
+    assert_eq!(rt; list.issue(&b), None);
+    assert!(rt; !list.unforce(&b));
+    Ok(())
+}
+
+#[test]
+fn equal_times_are_ordered_by_key(rt: HostRuntime) -> Result<(), Fail> {
+    let alloc = rt.alloc();
+    let mut list = ten_slots(alloc)?;
+    assert_eq!(rt; list.enter(comp(b"BBB2", 36_010)?)?, Place::Slot(0));
+    assert_eq!(rt; list.enter(comp(b"AAA1", 36_010)?)?, Place::Slot(0));
+    assert_eq!(rt; cto_of(&list, b"AAA1")?, Some(36_010));
+    assert_eq!(rt; cto_of(&list, b"BBB2")?, Some(36_120));
+    let mut other = ten_slots(alloc)?;
+    assert_eq!(rt; other.enter(comp(b"AAA1", 36_010)?)?, Place::Slot(0));
+    assert_eq!(rt; other.enter(comp(b"BBB2", 36_010)?)?, Place::Slot(1));
+    Ok(())
+}
+
+#[test]
+fn chains_pass_issued_slots(rt: HostRuntime) -> Result<(), Fail> {
+    let alloc = rt.alloc();
+    let mut list = ten_slots(alloc)?;
+    assert_eq!(rt; list.enter(comp(b"C", 36_130)?)?, Place::Slot(1));
+    assert_eq!(rt; list.issue(&key(b"C")?), Some(Moment::new(36_130)?));
+    assert_eq!(rt; list.enter(comp(b"A", 36_010)?)?, Place::Slot(0));
+    assert_eq!(rt; list.enter(comp(b"B", 36_005)?)?, Place::Slot(0));
+    assert_eq!(rt; list.place_of(&key(b"C")?), Some(Place::Slot(1)));
+    assert_eq!(rt; list.place_of(&key(b"A")?), Some(Place::Slot(2)));
+    assert_eq!(rt; cto_of(&list, b"A")?, Some(36_240));
+    Ok(())
+}
+
+#[test]
+fn a_flight_without_a_slot_is_over(rt: HostRuntime) -> Result<(), Fail> {
+    let alloc = rt.alloc();
+    let mut list = list(alloc, &[period(36_000, 36_240, 30)?])?;
+    assert_eq!(rt; list.enter(comp(b"A", 36_010)?)?, Place::Slot(0));
+    assert_eq!(rt; list.enter(comp(b"B", 36_020)?)?, Place::Slot(1));
+    assert_eq!(rt; list.enter(comp(b"C", 36_030)?)?, Place::Over);
+    assert_eq!(rt; cto_of(&list, b"B")?, Some(36_120));
+    assert_eq!(rt; cto_of(&list, b"C")?, Some(36_240));
+    assert_eq!(rt; list.leave(&key(b"A")?), Some(Place::Slot(0)));
+    assert_eq!(rt; cto_of(&list, b"B")?, Some(36_020));
+    assert_eq!(rt; cto_of(&list, b"C")?, Some(36_120));
+    Ok(())
+}
+
+#[test]
+fn a_closed_period_has_no_slot(rt: HostRuntime) -> Result<(), Fail> {
+    let alloc = rt.alloc();
+    let late = [period(36_000, 36_600, 0)?, period(36_600, 37_200, 30)?];
+    let mut late = list(alloc, &late)?;
+    assert_eq!(rt; late.enter(comp(b"A", 36_100)?)?, Place::Slot(0));
+    assert_eq!(rt; cto_of(&late, b"A")?, Some(36_600));
+    let early = [period(36_000, 36_600, 30)?, period(36_600, 37_200, 0)?];
+    let mut early = list(alloc, &early)?;
+    assert_eq!(rt; early.enter(comp(b"A", 36_700)?)?, Place::Over);
+    assert_eq!(rt; cto_of(&early, b"A")?, Some(37_200));
+    Ok(())
+}
+
+/// The grid of one period, whose growths may be refused once.
+fn grid_of(alloc: Global, period: Period) -> Result<Grid, Fail> {
+    let profile = match Profile::new(alloc, &[period]) {
+        Ok(profile) => profile,
+        Err(_) => Profile::new(alloc, &[period])?,
+    };
+    match Grid::of(alloc, &profile) {
+        Ok(grid) => Ok(grid),
+        Err(AllocError) => Ok(Grid::of(alloc, &profile)?),
+    }
+}
+
+/// The list of one period, whose growths may be refused once.
+fn list_of(alloc: Global, period: Period) -> Result<SlotList, Fail> {
+    match SlotList::new(alloc, grid_of(alloc, period)?) {
+        Ok(list) => Ok(list),
+        Err(AllocError) => Ok(SlotList::new(alloc, grid_of(alloc, period)?)?),
+    }
+}
+
+#[test]
+fn a_refused_growth_changes_nothing(rt: HostRuntime) -> Result<(), Fail> {
+    let alloc = rt.alloc();
+    let mut list = list_of(alloc, period(36_000, 37_200, 30)?)?;
+    let (a, b, d) = (
+        comp(b"A", 36_010)?,
+        comp(b"B", 36_005)?,
+        comp(b"D", 36_050)?,
+    );
+    if let Err(AllocError) = list.enter(a) {
+        assert_eq!(rt; list.governed(), 0);
+        assert_eq!(rt; list.enter(a)?, Place::Slot(0));
+    }
+    let cto = Moment::new(36_015)?;
+    if let Err(AllocError) = list.hold(b, cto) {
+        assert_eq!(rt; list.place_of(&a.key), Some(Place::Slot(0)));
+        list.hold(b, cto)?;
+    }
+    assert_eq!(rt; list.governed(), 2);
+    if let Err(AllocError) = list.force(d) {
+        assert_eq!(rt; list.nth(2), None);
+        list.force(d)?;
+    }
+    let copy = match list.try_clone() {
+        Ok(copy) => copy,
+        Err(AllocError) => list.try_clone()?,
+    };
+    let wider = period(36_000, 37_200, 15)?;
+    if let Err(AllocError) = list.regrid(grid_of(alloc, wider)?) {
+        assert_eq!(rt; list.grid().len(), 10);
+        list.regrid(grid_of(alloc, wider)?)?;
+    }
+    assert_eq!(rt; list.place_of(&a.key), Some(Place::Slot(1)));
+    assert_eq!(rt; cto_of(&list, b"A")?, Some(36_240));
+    assert_eq!(rt; cto_of(&copy, b"A")?, Some(36_120));
+    Ok(())
+}
