@@ -1,6 +1,8 @@
 //! Casa allocates departure slots: `casa run` answers command lines on standard input.
 #![tactic(auto)]
 
+#[cfg(test)]
+mod chains;
 mod fault;
 pub mod first;
 mod lines;
