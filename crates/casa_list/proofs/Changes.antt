@@ -19,7 +19,7 @@ use Rattle.casa_flight.specs.Good.{AreInOrder}
 use Rattle.casa_flight.specs.Listing.{Listing, put_by, in_order, is_before, competitor, competitors, issued_cto, places, place_of, stance_of}
 use Rattle.casa_flight.proofs.Entries.{text_cmp, same_name, itself, at-put, at-without_other, none_at, sorted-put, sorted-remove, all-filter_map}
 use Rattle.casa_flight.proofs.Kept.{at-without_same, same_entries}
-use Rattle.casa_flight.proofs.Rising.{put_at}
+use Rattle.casa_flight.proofs.Rising.{put_at, all-put_by}
 use Rattle.casa_list.specs.declared.standing.Standing.{Standing}
 use Rattle.casa_list.specs.declared.standing.Standing.TheVariants.{Issued as IssuedAt, Forced as NoSlot}
 use Rattle.casa_list.specs.Blocked.{counts, issued_times}
@@ -174,19 +174,9 @@ unlike a b h = false_from_ne_true _ (λ same. both_ways _ h (subst (λ q. is_eq 
     named : (a b : Text) → same_text a b ≡ true → a ≡ b
     named a b same = text_is a b (sym same)
 
-all-put_by : (P : Comp → Type 0) (c : Comp) (cs : List Comp) → P c → AllByRecursion P cs → AllByRecursion P (insert cs (place_in (λ (d : Comp). d) c cs) c)
-all-put_by P c [] here h = (here, tt)
-all-put_by P c (d ∷ cs) here h =
-    let n : ℕ = place_in (λ (e : Comp). e) c cs in
-    let more : 1 + n ≡ suc n = omega arith in
-    elim (is_before d c) as (λ b. AllByRecursion P (insert (d ∷ cs) (cond (not (not b)) (1 + n) 0) c)) [
-      | true ↦ subst (λ m. AllByRecursion P (insert (d ∷ cs) m c)) (sym more) (h.0, all-put_by P c cs here h.1)
-      | false ↦ (here, h)
-    ]
-
 all-in_order : (P : Comp → Type 0) (cs ds : List Comp) → AllByRecursion P ds → AllByRecursion P cs → AllByRecursion P (fold (λ ys x. put_by is_before x ys) ds cs)
 all-in_order P [] ds h g = h
-all-in_order P (c ∷ cs) ds h g = all-in_order P cs (put_by is_before c ds) (subst (AllByRecursion P) (sym (put_at is_before c ds)) (all-put_by P c ds g.0 h)) g.1
+all-in_order P (c ∷ cs) ds h g = all-in_order P cs (put_by is_before c ds) (all-put_by P is_before c g.0 ds h) g.1
 
 pub other_keys : (l : Listing) (key : Text) → IsAbsent key l.flights → AllByRecursion (λ (d : Comp). same_text key d.key ≡ false) (competitors l)
 other_keys l key h =

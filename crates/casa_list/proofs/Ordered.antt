@@ -1,96 +1,39 @@
 -- lists in order: an element put in or taken out, in whatever turn
-use Rattle.std.proofs.Common.{◌≡◌, ℕ, ◌+◌, ◌<◌, ◌≤◌, List, [], ◌∷◌, length, Bool, true, false, not, ◌==◌, nat_lt, refl, sym, ◌∙◌, ap, arith, map, suc, ◌⊎◌, inl, inr, cond, Option, None, Some, unwrap_or}
-use Rattle.std.specs.declared.cmp.Ordering.{Ordering}
+use Rattle.std.proofs.Common.{◌≡◌, ℕ, ◌+◌, ◌≤◌, List, [], ◌∷◌, length, Bool, true, false, not, nat_lt, refl, sym, ◌∙◌, ap, subst, arith, map, suc, ◌⊎◌, inl, inr, cond, Option, None, Some, unwrap_or}
 use Rattle.std.specs.declared.cmp.Ordering.TheVariants.{Less, Equal, Greater}
-use Rattle.std.specs.Ordering.{is_eq, is_lt, match_ordering, ordering_reverse}
+use Rattle.std.specs.Ordering.{is_eq, match_ordering}
 use Rattle.std.specs.List.{AllByRecursion, cons_option, filter_map, fold, insert, position, position_or_len, remove}
-use Rattle.std.proofs.lemmas.Bool.{cases_order, and_parts, and_from, ltb-true, ltb-false, lt-ltb, both_ways, or_cases, or_left, or_right, eqb-true, eq-eqb}
-use Rattle.std.proofs.lemmas.Cmp.{nat_list_cmp_total, tied_itself}
+use Rattle.std.proofs.lemmas.Bool.{both_ways, false_from_ne_true, ltb-false}
 use Rattle.casa_flight.specs.declared.comp.Comp.{Comp}
 use Rattle.casa_flight.specs.Text.{Text, put}
 use Rattle.casa_flight.specs.Listing.{put_by, in_order, is_before}
-use Rattle.casa_flight.proofs.Entries.{text_cmp, all-filter_map}
+use Rattle.casa_flight.proofs.Entries.{text_cmp, itself, all-filter_map}
+use Rattle.casa_flight.proofs.Competitors.{before_on, before_one_way, before_total}
 use Rattle.casa_flight.proofs.Rising.{first_at_most, put_at, put_first, put_later}
 use Rattle.casa_list.proofs.Inserted.{remove_inserted, length-inserted}
 
--- the order of competitors
-before_parts : (a b : Comp) → is_before a b ≡ true → (a.eto < b.eto) ⊎ ((a.eto ≡ b.eto) × (text_cmp a.key b.key ≡ Less))
-before_parts a b h =
-    elim (or_cases _ _ h) [
-      | inl less ↦ inl (ltb-true _ _ less)
-      | inr tied ↦
-          let parts : ((a.eto == b.eto) ≡ true) × (is_lt (text_cmp a.key b.key) ≡ true) = and_parts _ _ tied in
-          inr (eqb-true _ _ parts.0, is_less (text_cmp a.key b.key) parts.1)
-    ]
-  where
-    is_less : (r : Ordering) → is_lt r ≡ true → r ≡ Less
-    is_less Less e = refl
-    is_less Equal e = cc
-    is_less Greater e = cc
-
-before_later : (a b : Comp) → a.eto < b.eto → is_before a b ≡ true
-before_later a b lt = or_left _ _ (lt-ltb a.eto b.eto lt)
-
-before_tied : (a b : Comp) → a.eto ≡ b.eto → text_cmp a.key b.key ≡ Less → is_before a b ≡ true
-before_tied a b same less = or_right _ _ (and_from _ _ (eq-eqb _ _ same) (ap is_lt less))
-
-pub before-trans : (a b c : Comp) → is_before a b ≡ true → is_before b c ≡ true → is_before a c ≡ true
-before-trans a b c h g =
-    elim (before_parts a b h) [
-      | inl lt ↦ elim (before_parts b c g) [
-        | inl lt2 ↦ before_later a c (omega (arith, lt, lt2))
-        | inr tied2 ↦ before_later a c (omega (arith, lt, tied2.0))
-      ]
-      | inr tied ↦ elim (before_parts b c g) [
-        | inl lt2 ↦ before_later a c (omega (arith, tied.0, lt2))
-        | inr tied2 ↦ before_tied a c (tied.0 ∙ tied2.0) (nat_list_cmp_total.trans a.key b.key c.key tied.1 tied2.1)
-      ]
-    ]
-
-not_true : (b : Bool) → (b ≡ true → ⊥) → b ≡ false
-not_true true h = absurd (h refl)
-not_true false h = refl
-
 pub not_before_itself : (a : Comp) → is_before a a ≡ false
-not_before_itself a =
-    not_true (is_before a a) (λ h.
-    elim (before_parts a a h) [
-      | inl lt ↦ absurd (omega (arith, lt))
-      | inr tied ↦ let both : Less ≡ Equal = sym tied.1 ∙ tied_itself nat_list_cmp_total a.key in cc
-    ])
-
-pub not_both : (a b : Comp) → is_before a b ≡ true → is_before b a ≡ false
-not_both a b h = not_true (is_before b a) (λ g. both_ways _ (not_before_itself a) (before-trans a b a h g))
+not_before_itself a = false_from_ne_true _ (λ h. both_ways _ (before_one_way a a h) h)
 
 -- of two flights with different keys one comes before the other
 abbrev pub Ordered : Comp → Comp → Type 0
 Ordered a b = (is_before a b ≡ true) ⊎ (is_before b a ≡ true)
 
 pub ordered_keys : (a b : Comp) → is_eq (text_cmp a.key b.key) ≡ false → Ordered a b
-ordered_keys a b apart =
-    elim (cases_order a.eto b.eto) [
-      | inl same ↦
-          elim (text_cmp a.key b.key) as (λ r. text_cmp a.key b.key ≡ r → is_eq r ≡ false → Ordered a b) [
-            | Less ↦ λ e f. inl (before_tied a b same e)
-            | Equal ↦ λ e f. cc
-            | Greater ↦ λ e f. inr (before_tied b a (sym same) (nat_list_cmp_total.antisymm b.key a.key ∙ ap ordering_reverse e))
-          ] refl apart
-      | inr (inl lt) ↦ inl (before_later a b lt)
-      | inr (inr gt) ↦ inr (before_later b a gt)
-    ]
+ordered_keys a b apart = before_total a b (λ same. both_ways _ apart (subst (λ q. is_eq (text_cmp a.key q) ≡ true) same (itself a.key)))
 
 -- two elements put in, in either turn
 commute_step : {X : Type 0} (comp : X → Comp) (x y : X) → is_before (comp x) (comp y) ≡ true → (zs : List X) →
     put_by (λ a b. is_before (comp a) (comp b)) x (put_by (λ a b. is_before (comp a) (comp b)) y zs) ≡ put_by (λ a b. is_before (comp a) (comp b)) y (put_by (λ a b. is_before (comp a) (comp b)) x zs)
 commute_step {X} comp x y h [] =
     let before : X → X → Bool = λ a b. is_before (comp a) (comp b) in
-    put_first before x y [] (not_both (comp x) (comp y) h) ∙ sym (put_later before y x [] h)
+    put_first before x y [] (before_one_way (comp x) (comp y) h) ∙ sym (put_later before y x [] h)
 commute_step {X} comp x y h (z ∷ zs) =
     let before : X → X → Bool = λ a b. is_before (comp a) (comp b) in
-    let y_first : is_before (comp y) (comp x) ≡ false = not_both (comp x) (comp y) h in
+    let y_first : is_before (comp y) (comp x) ≡ false = before_one_way (comp x) (comp y) h in
     elim (before z x) as (λ b. before z x ≡ b → put_by before x (put_by before y (z ∷ zs)) ≡ put_by before y (put_by before x (z ∷ zs))) [
       | true ↦ λ zx.
-          let zy : before z y ≡ true = before-trans (comp z) (comp x) (comp y) zx h in
+          let zy : before z y ≡ true = before_on (comp z) (comp x) (comp y) zx h in
           ap (put_by before x) (put_later before y z zs zy)
           ∙ put_later before x z (put_by before y zs) zx
           ∙ ap (λ ws. z ∷ ws) (commute_step comp x y h zs)

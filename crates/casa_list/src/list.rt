@@ -134,13 +134,10 @@ impl SlotList {
         requires { stance_of self.now comp.now.key ≡ None }
         ensures { result ≡ place_of (with_competitor self.now comp.now.key comp.now.eto) comp.now.key }
     {
-        let at = index_of(self.competitors.as_slice(), comp);
-        place_behind(
-            &self.grid,
-            self.blocked.as_slice(),
-            &self.competitors[..at],
-            comp.eto,
-        )
+        let competitors = self.competitors.as_slice();
+        let at = index_of(competitors, comp);
+        let blocked = &self.blocked;
+        place_behind(&self.grid, blocked, &competitors[..at], comp.eto)
     }
 
     /// Puts an issued flight in, with this calculated time over. The competitor that has its slot looks on from

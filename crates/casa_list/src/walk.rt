@@ -213,8 +213,8 @@ pub fn settle_at(
     ensures len { vec_len competitors.new ≡ vec_len competitors.old }
 {
     if let Some(k) = slot {
-        let at = count_below(competitors.as_slice(), k);
-        settle(grid, blocked, competitors, at);
+        let from = count_below(competitors.as_slice(), k);
+        settle(grid, blocked, competitors, from);
     }
 }
 

@@ -12,8 +12,8 @@ returns c =
     let l : Listing = record { profile = c.self.inside.grid; flights = c.self.inside.flights.entries } in
     let absent : stance_of l c.args.comp.now.key ≡ None = subst (λ v. stance_of v c.args.comp.now.key ≡ None) (sym c.self.view_is) c.requires in
     let xs = c.self.inside.competitors.items in
-    let at : c.index_of-at.result ≡ index_of xs c.args.comp.now = rw (← c.as_slice.ensures.value) c.index_of-at.ensures.value in
+    let at : c.index_of-at.result ≡ index_of xs c.args.comp.now = rw (← c.as_slice-competitors.ensures.value) c.index_of-at.ensures.value in
     c.place_behind.ensures
-    ∙ (λ j. place_low (slots l.profile) (c.as_slice-2.ensures.value j) (low_behind (length (c.as_slice-2.ensures.value j)) 0 (take (at j) (c.deref.ensures.value j))) c.args.comp.now.eto)
+    ∙ (λ j. place_low (slots l.profile) (c.deref.ensures.value j) (low_behind (length (c.deref.ensures.value j)) 0 (take (at j) (c.as_slice-competitors.ensures.value j))) c.args.comp.now.eto)
     ∙ sym (entered_place l xs _ _ _ _ c.args.comp.now c.self.invariant absent)
     ∙ ap (λ (m : Listing). place_of (record m { flights = put m.flights c.args.comp.now.key (Competing c.args.comp.now.eto) }) c.args.comp.now.key) c.self.view_is
