@@ -9,20 +9,21 @@ use std::alloc::Global;
 use std::test::Fail;
 
 /// How many flights are filed.
-const FLIGHTS: u32 = 200;
+const FLIGHTS: u8 = 200;
 
-/// The one regulation, from 36000 on for two hours, with 120 flights per hour.
+/// The one regulation, from 36000 on for two hours, with 12 flights per hour.
 fn profile(alloc: Global) -> Result<Profile, Fail> {
     let period = Period {
         begin: Moment::new(36_000)?,
         until: Moment::new(43_200)?,
-        rate: 120,
+        rate: 12,
     };
     Ok(Profile::new(alloc, &[period])?)
 }
 
 /// Flight `i`: its key, off-block time and time over. One in four is due when it is filed at the start of the day.
-fn flight(i: u32) -> Result<(Comp, Moment), Fail> {
+fn flight(i: u8) -> Result<(Comp, Moment), Fail> {
+    let i = u32::from(i);
     let letter = |n: u32| b'A' + (n % 26) as u8;
     let text = [letter(i * 11), letter(i / 26), letter(i)];
     let key = Key::new(&text).ok_or("a key")?;
@@ -34,15 +35,25 @@ fn flight(i: u32) -> Result<(Comp, Moment), Fail> {
 /// The call that files the flight, ten minutes of taxi before it takes off.
 fn file(alloc: Global, loc: Loc, comp: Comp, eobt: Moment) -> Result<Call, Fail> {
     let crossing = Crossing { loc, eto: comp.eto };
-    let plan = Plan::new(alloc, comp.key.as_bytes(), eobt, 600, &[crossing], Sts::Plain)?;
+    let plan = Plan::new(
+        alloc,
+        comp.key.as_bytes(),
+        eobt,
+        600,
+        &[crossing],
+        Sts::Plain,
+    )?;
     Ok(Call::File(plan))
 }
 
 /// What the slow allocator lists.
 fn listed(alloc: Global, plain: &mut Plain, reg: RegId) -> Result<ListReply, Fail> {
     match plain.step(alloc, &Call::List(reg))? {
-        Reply::Answered(Answer::List(list), _) => Ok(list),
-        _ => Err("no list".into()),
+        Reply::Answered(answer, _) => match answer {
+            Answer::List(list) => Ok(list),
+            _ => Err(Fail::from("no list")),
+        },
+        Reply::Refused(_) => Err(Fail::from("no regulation")),
     }
 }
 
