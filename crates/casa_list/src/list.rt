@@ -80,7 +80,7 @@ impl SlotList {
     }
 
     /// How the flight stands, if it is subject to the regulation.
-    pub fn stance_of(&self, key: Key) -> Option<Stance>
+    fn stance_of(&self, key: Key) -> Option<Stance>
         ensures { result ≡ stance_of self.now key }
     {
         self.flights.get(&key).copied()
