@@ -79,17 +79,17 @@ impl SlotList {
         &self.grid
     }
 
-    /// How the flight stands, if it is subject to the regulation.
-    fn stance_of(&self, key: Key) -> Option<Stance>
-        ensures { result ≡ stance_of self.now key }
+    /// How the flight with this key stands; `None` where it is not in the list.
+    pub fn stance_of(&self, key: &Key) -> Option<Stance>
+        ensures { result ≡ stance_of self.now key.now }
     {
-        self.flights.get(&key).copied()
+        self.flights.get(key).copied()
     }
 
     /// The estimated time over of a competitor.
-    fn competing_at(&self, key: Key) -> Option<Moment>
-        ensures value { result ≡ competing_eto self.now key }
-        ensures found { IfSome result (λ eto. stance_of self.now key ≡ Some (Stance.Competing eto)) }
+    fn competing_at(&self, key: &Key) -> Option<Moment>
+        ensures value { result ≡ competing_eto self.now key.now }
+        ensures found { IfSome result (λ eto. stance_of self.now key.now ≡ Some (Stance.Competing eto)) }
     {
         match self.stance_of(key)? {
             Stance::Competing { eto } => Some(eto),
@@ -98,9 +98,9 @@ impl SlotList {
     }
 
     /// The estimated time over of a forced flight.
-    fn forced_at(&self, key: Key) -> Option<Moment>
-        ensures value { result ≡ forced_eto self.now key }
-        ensures found { IfSome result (λ eto. stance_of self.now key ≡ Some (Stance.Forced eto)) }
+    fn forced_at(&self, key: &Key) -> Option<Moment>
+        ensures value { result ≡ forced_eto self.now key.now }
+        ensures found { IfSome result (λ eto. stance_of self.now key.now ≡ Some (Stance.Forced eto)) }
     {
         match self.stance_of(key)? {
             Stance::Forced { eto } => Some(eto),
@@ -187,7 +187,7 @@ impl SlotList {
         ensures answer { result ≡ is_forced self.old key.now }
         ensures left { self.new ≡ (if result then record self.old { flights = without self.old.flights key.now } else self.old) }
     {
-        let Some(eto) = self.forced_at(*key) else {
+        let Some(eto) = self.forced_at(key) else {
             return false;
         };
         self.flights.remove(key);
@@ -205,7 +205,7 @@ impl SlotList {
         ensures left { self.new ≡
             (if is_some result then record self.old { flights = without self.old.flights key.now } else self.old) }
     {
-        match self.stance_of(*key)? {
+        match self.stance_of(key)? {
             Stance::Competing { eto } => Some(self.leave_competitor(Comp { eto, key: *key })),
             Stance::Issued { eto, cto } => Some(self.leave_issued(Comp { eto, key: *key }, cto)),
             Stance::Forced { .. } => None,
@@ -254,7 +254,7 @@ impl SlotList {
         ensures others { (other : Text) → same_text other key.now ≡ false →
             place_of self.new other ≡ place_of self.old other }
     {
-        let eto = self.competing_at(*key)?;
+        let eto = self.competing_at(key)?;
         let comp = Comp { eto, key: *key };
         let cto = cto_at(&self.grid, eto, self.place_at(&comp));
         let at = index_of(self.competitors.as_slice(), &comp);
@@ -270,7 +270,7 @@ impl SlotList {
     pub fn place_of(&self, key: &Key) -> Option<Place>
         ensures { result ≡ governed_place self.now key.now }
     {
-        match self.stance_of(*key)? {
+        match self.stance_of(key)? {
             Stance::Competing { eto } => Some(self.place_at(&Comp { eto, key: *key })),
             Stance::Issued { cto, .. } => Some(place_from(slot_of(&self.grid, cto))),
             Stance::Forced { .. } => None,
@@ -291,7 +291,7 @@ impl SlotList {
     pub fn cto_of(&self, key: &Key) -> Option<Moment>
         ensures { result ≡ governed_cto self.now key.now }
     {
-        match self.stance_of(*key)? {
+        match self.stance_of(key)? {
             Stance::Competing { eto } => {
                 let place = self.place_at(&Comp { eto, key: *key });
                 Some(cto_at(&self.grid, eto, place))
