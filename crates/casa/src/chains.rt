@@ -79,7 +79,7 @@ fn chains_equal_plain(rt: HostRuntime) -> Result<(), Fail> {
     for i in 0..FLIGHTS {
         let (comp, eobt) = flight(i)?;
         plain.step(alloc, &file(alloc, loc, comp, eobt)?)?;
-        assert!(rt; list.stance_of(comp.key).is_none());
+        assert!(rt; list.stance_of(&comp.key).is_none());
         list.enter(comp)?;
         if i % 4 == 0 {
             list.issue(&comp.key);
