@@ -1,6 +1,6 @@
 //! Cuts an input into lines.
 
-ghost use Rattle.std.specs.Prelude.{◌≡◌, ◌≢◌, ◌==◌, ℕ, ◌^◌, ◌≤◌, ◌<◌, ◌++◌, List, [], length, true, false, IfOk, IfErr, OnOk};
+ghost use Rattle.std.specs.Prelude.{◌≡◌, ◌≢◌, ◌==◌, ℕ, ◌^◌, ◌≤◌, ◌<◌, ◌++◌, List, [], true, false, IfOk, IfErr, OnOk};
 ghost use Rattle.std.specs.List.{position};
 ghost use Rattle.casa.specs.Lines.{HasNoLf, IsFirstPart, is_lf, is_too_long};
 

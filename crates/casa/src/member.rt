@@ -2,7 +2,7 @@
 
 ghost use Rattle.std.specs.Prelude.{◌≡◌, IfOk, option_map};
 ghost use Rattle.serde_json.specs.View.{view, items_view};
-ghost use Rattle.serde_json.specs.Find.{as_str, get};
+ghost use Rattle.serde_json.specs.Find.{as_str};
 ghost use Rattle.casa.specs.Commands.{Gives, GivesAs, member, status_member};
 ghost use Rattle.casa.specs.Members.{all_of, crossing_of, moment_of, name_of, number_of, period_of, periods_of, status_named, status_of, via_of};
 

@@ -1,5 +1,5 @@
 ghost use Rattle.std.specs.Prelude.{◌≡◌, ◌+◌, ◌↔◌, [], ◌∷◌, ◌++◌, length, vec_len, Some, IfOk, IfErr, OnOk, OnErr};
-ghost use Rattle.casa_history.specs.Entries.{entries, receipts, receipt};
+ghost use Rattle.casa_history.specs.Entries.{entries, receipt};
 ghost use Rattle.casa_commit.specs.Legal.{entry, replay, IsLegal};
 ghost use Rattle.casa_commit.specs.Desks.{Knows, SamePass, PassWith};
 ghost use Rattle.casa_commit.specs.Faults.{fault_of};

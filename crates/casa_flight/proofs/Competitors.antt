@@ -7,7 +7,7 @@ use Rattle.std.specs.List.{AllByRecursion, filter, filter_map, fold, cons_option
 use Rattle.std.specs.List.Sorted.{IsStrictlySortedBy}
 use Rattle.std.specs.Map.{keys_of}
 use Rattle.std.specs.Cmp.Lexicographic.{same_text as text_is}
-use Rattle.std.proofs.lemmas.Cmp.{nat_list_cmp_total, nat_list_eq_equiv}
+use Rattle.std.proofs.lemmas.Cmp.{nat_list_cmp_total}
 use Rattle.std.proofs.lemmas.Bool.{cases_order, and_parts, and_from, ltb-true, lt-ltb, or_cases, or_left, or_right, eqb-true, eq-eqb, both_ways, false_from_ne_true}
 use Rattle.casa_flight.specs.declared.comp.Comp.{Comp}
 use Rattle.casa_flight.specs.declared.row.Stance.{Stance}
@@ -76,50 +76,55 @@ one_comes a b other =
       | inr (inr gt) ↦ inr (inl gt)
     ]
 
--- of competitors with different keys one comes before the other
-pub before_total : (a b : Comp) → (a.key ≡ b.key → ⊥) → (is_before a b ≡ true) ⊎ (is_before b a ≡ true)
+-- one of two competitors comes before the other
+abbrev pub Ordered : Comp → Comp → Type 0
+Ordered a b = (is_before a b ≡ true) ⊎ (is_before b a ≡ true)
+
+-- it is so where their keys differ
+pub before_total : (a b : Comp) → (a.key ≡ b.key → ⊥) → Ordered a b
 before_total a b other =
     elim (one_comes a b other) [
       | inl p ↦ inl (before_made a b p)
       | inr q ↦ inr (before_made b a q)
     ]
 
-put_both : (x y : Comp) → is_before x y ≡ true → is_before y x ≡ false → (zs : List Comp) → put_by is_before x (put_by is_before y zs) ≡ put_by is_before y (put_by is_before x zs)
-put_both x y p n [] = put_first is_before x y [] n ∙ sym (put_later is_before y x [] p)
-put_both x y p n (z ∷ zs) =
-    elim (is_before z x) as (λ b. is_before z x ≡ b → put_by is_before x (put_by is_before y (z ∷ zs)) ≡ put_by is_before y (put_by is_before x (z ∷ zs))) [
+-- which of two elements is put in first does not matter
+commute_step : {X : Type 0} (comp : X → Comp) (x y : X) → is_before (comp x) (comp y) ≡ true → (zs : List X) →
+    put_by (λ a b. is_before (comp a) (comp b)) x (put_by (λ a b. is_before (comp a) (comp b)) y zs) ≡ put_by (λ a b. is_before (comp a) (comp b)) y (put_by (λ a b. is_before (comp a) (comp b)) x zs)
+commute_step {X} comp x y h [] =
+    let before : X → X → Bool = λ a b. is_before (comp a) (comp b) in
+    put_first before x y [] (before_one_way (comp x) (comp y) h) ∙ sym (put_later before y x [] h)
+commute_step {X} comp x y h (z ∷ zs) =
+    let before : X → X → Bool = λ a b. is_before (comp a) (comp b) in
+    let y_first : is_before (comp y) (comp x) ≡ false = before_one_way (comp x) (comp y) h in
+    elim (before z x) as (λ b. before z x ≡ b → put_by before x (put_by before y (z ∷ zs)) ≡ put_by before y (put_by before x (z ∷ zs))) [
       | true ↦ λ zx.
-          let zy : is_before z y ≡ true = before_on z x y zx p in
-          ap (put_by is_before x) (put_later is_before y z zs zy) ∙ put_later is_before x z (put_by is_before y zs) zx
-          ∙ ap (λ ws. z ∷ ws) (put_both x y p n zs)
-          ∙ sym (ap (put_by is_before y) (put_later is_before x z zs zx) ∙ put_later is_before y z (put_by is_before x zs) zy)
+          let zy : before z y ≡ true = before_on (comp z) (comp x) (comp y) zx h in
+          ap (put_by before x) (put_later before y z zs zy)
+          ∙ put_later before x z (put_by before y zs) zx
+          ∙ ap (λ ws. z ∷ ws) (commute_step comp x y h zs)
+          ∙ sym (put_later before y z (put_by before x zs) zy)
+          ∙ sym (ap (put_by before y) (put_later before x z zs zx))
       | false ↦ λ zx.
-          elim (is_before z y) as (λ b. is_before z y ≡ b → put_by is_before x (put_by is_before y (z ∷ zs)) ≡ put_by is_before y (put_by is_before x (z ∷ zs))) [
+          let right : put_by before y (put_by before x (z ∷ zs)) ≡ x ∷ put_by before y (z ∷ zs) = ap (put_by before y) (put_first before x z zs zx) ∙ put_later before y x (z ∷ zs) h in
+          let left : put_by before x (put_by before y (z ∷ zs)) ≡ x ∷ put_by before y (z ∷ zs) =
+          elim (before z y) as (λ b. before z y ≡ b → put_by before x (put_by before y (z ∷ zs)) ≡ x ∷ put_by before y (z ∷ zs)) [
             | true ↦ λ zy.
-                ap (put_by is_before x) (put_later is_before y z zs zy) ∙ put_first is_before x z (put_by is_before y zs) zx
-                ∙ sym (ap (put_by is_before y) (put_first is_before x z zs zx) ∙ put_later is_before y x (z ∷ zs) p ∙ ap (λ ws. x ∷ ws) (put_later is_before y z zs zy))
+                ap (put_by before x) (put_later before y z zs zy)
+                ∙ put_first before x z (put_by before y zs) zx
+                ∙ ap (λ ws. x ∷ ws) (sym (put_later before y z zs zy))
             | false ↦ λ zy.
-                ap (put_by is_before x) (put_first is_before y z zs zy) ∙ put_first is_before x y (z ∷ zs) n
-                ∙ sym (ap (put_by is_before y) (put_first is_before x z zs zx) ∙ put_later is_before y x (z ∷ zs) p ∙ ap (λ ws. x ∷ ws) (put_first is_before y z zs zy))
-          ] refl
+                ap (put_by before x) (put_first before y z zs zy)
+                ∙ put_first before x y (z ∷ zs) y_first
+                ∙ ap (λ ws. x ∷ ws) (sym (put_first before y z zs zy))
+          ] refl in
+          left ∙ sym right
     ] refl
 
--- which of two competitors is put in first does not matter
-pub put_by-commutes : (x y : Comp) → (x.key ≡ y.key → ⊥) → (zs : List Comp) → put_by is_before x (put_by is_before y zs) ≡ put_by is_before y (put_by is_before x zs)
-put_by-commutes x y other zs =
-    elim (before_total x y other) [
-      | inl p ↦ put_both x y p (before_one_way x y p) zs
-      | inr q ↦ sym (put_both y x q (before_one_way y x q) zs)
-    ]
-
--- an element that a test drops is dropped wherever it was put
-pub filter-put_by : {X : Type 0} (test : X → Bool) (precedes : X → X → Bool) (x : X) → test x ≡ false → (xs : List X) → filter test (put_by precedes x xs) ≡ filter test xs
-filter-put_by test precedes x drops [] = ap (λ b. cond b (x ∷ []) []) drops
-filter-put_by {X} test precedes x drops (y ∷ ys) =
-    elim (precedes y x) as (λ b. precedes y x ≡ b → filter test (put_by precedes x (y ∷ ys)) ≡ filter test (y ∷ ys)) [
-      | true ↦ λ p. ap (filter test) (put_later precedes x y ys p) ∙ ap (λ zs. cond (test y) (y ∷ zs) zs) (filter-put_by test precedes x drops ys)
-      | false ↦ λ p. ap (filter test) (put_first precedes x y ys p) ∙ ap (λ b. cond b (x ∷ filter test (y ∷ ys)) (filter test (y ∷ ys))) drops
-    ] refl
+pub put-commutes : {X : Type 0} (comp : X → Comp) (x y : X) → Ordered (comp x) (comp y) → (zs : List X) →
+    put_by (λ a b. is_before (comp a) (comp b)) x (put_by (λ a b. is_before (comp a) (comp b)) y zs) ≡ put_by (λ a b. is_before (comp a) (comp b)) y (put_by (λ a b. is_before (comp a) (comp b)) x zs)
+put-commutes comp x y (inl h) zs = commute_step comp x y h zs
+put-commutes comp x y (inr h) zs = sym (commute_step comp y x h zs)
 
 pub filter-all : {X : Type 0} (test : X → Bool) (xs : List X) → AllByRecursion (λ (x : X). test x ≡ true) xs → filter test xs ≡ xs
 filter-all test [] h = refl
@@ -147,7 +152,10 @@ less_apart k q less same =
     both_ways _ (ap is_eq less) tied
 
 one_by_one : (k q : Text) (s r : Stance) → text_cmp k q ≡ Less → (cs : List Comp) → with_one (competitor k s) (with_one (competitor q r) cs) ≡ with_one (competitor q r) (with_one (competitor k s) cs)
-one_by_one k q (Competing a) (Competing b) less cs = put_by-commutes (record { eto = a; key = k }) (record { eto = b; key = q }) (less_apart k q less) cs
+one_by_one k q (Competing a) (Competing b) less cs =
+    let x : Comp = record { eto = a; key = k } in
+    let y : Comp = record { eto = b; key = q } in
+    put-commutes (λ c. c) x y (before_total x y (less_apart k q less)) cs
 one_by_one k q (Competing a) (Issued b t) less cs = refl
 one_by_one k q (Competing a) (Forced b) less cs = refl
 one_by_one k q (Issued a t) r less cs = refl
@@ -201,19 +209,6 @@ pub competitors-stance : (l : Listing) (key : Text) (s : Stance) → AreInOrder 
 competitors-stance l key s sorted found =
     ap (λ fs. competitors (record l { flights = fs })) (sym (put_there key s l.flights sorted found)) ∙ competitors-put l key s sorted
 
-competitors-absent : (l : Listing) (key : Text) → stance_of l key ≡ None → competitors (record l { flights = without l.flights key }) ≡ competitors l
-competitors-absent l key none = ap (λ fs. competitors (record l { flights = fs })) (without_absent key l.flights none)
-
--- a flight that enters is put in at its place in the order
-pub competitors_entered : (l : Listing) (key : Text) (eto : ℕ) → AreInOrder l.flights → stance_of l key ≡ None → competitors (record l { flights = put l.flights key (Competing eto) }) ≡ put_by is_before (record { eto = eto; key = key }) (competitors l)
-competitors_entered l key eto sorted none =
-    competitors-put l key (Competing eto) sorted ∙ ap (put_by is_before (record { eto = eto; key = key })) (competitors-absent l key none)
-
--- a flight that comes in issued or forced leaves them as they are
-pub competitors_spared : (l : Listing) (key : Text) (s : Stance) → AreInOrder l.flights → competitor key s ≡ None → stance_of l key ≡ None → competitors (record l { flights = put l.flights key s }) ≡ competitors l
-competitors_spared l key s sorted idle none =
-    competitors-put l key s sorted ∙ ap (λ o. with_one o (competitors (record l { flights = without l.flights key }))) idle ∙ competitors-absent l key none
-
 -- without a competitor they are what they were before it was put in
 pub competitors_left : (l : Listing) (key : Text) (eto : ℕ) → AreInOrder l.flights → stance_of l key ≡ Some (Competing eto) → competitors l ≡ put_by is_before (record { eto = eto; key = key }) (competitors (record l { flights = without l.flights key }))
 competitors_left l key eto sorted found = competitors-stance l key (Competing eto) sorted found
@@ -255,21 +250,3 @@ ranked_others k ((q, Forced eto) ∷ es) cs h g = ranked_others k es cs h.1 g
 
 pub competitors_others : (l : Listing) (key : Text) → AreInOrder l.flights → AllByRecursion (λ (c : Comp). is_other key c ≡ true) (competitors (record l { flights = without l.flights key }))
 competitors_others l key sorted = ranked_others key (without l.flights key) [] (others-without key l.flights sorted) tt
-
-text_itself : (a : Text) → not (same_text a a) ≡ false
-text_itself a = ap not (nat_list_eq_equiv.refl a)
-
-filter-with_one : (k : Text) (s : Stance) (cs : List Comp) → filter (is_other k) (with_one (competitor k s) cs) ≡ filter (is_other k) cs
-filter-with_one k (Competing eto) cs = filter-put_by (is_other k) is_before (record { eto = eto; key = k }) (text_itself k) cs
-filter-with_one k (Issued eto t) cs = refl
-filter-with_one k (Forced eto) cs = refl
-
--- without a flight they are the others, in the same order
-pub competitors-without : (l : Listing) (key : Text) → AreInOrder l.flights → competitors (record l { flights = without l.flights key }) ≡ filter (is_other key) (competitors l)
-competitors-without l key sorted =
-    sym (filter-all (is_other key) (competitors (record l { flights = without l.flights key })) (competitors_others l key sorted)) ∙ by (stance_of l key) refl
-  where
-    by : (w : Option Stance) → stance_of l key ≡ w → filter (is_other key) (competitors (record l { flights = without l.flights key })) ≡ filter (is_other key) (competitors l)
-    by None none = ap (filter (is_other key)) (competitors-absent l key none)
-    by (Some s) found =
-        sym (ap (filter (is_other key)) (competitors-stance l key s sorted found) ∙ filter-with_one key s (competitors (record l { flights = without l.flights key })))

@@ -62,6 +62,20 @@ issued_right : (clock : ℕ) (plan : FlightPlan) (low high : ℕ) (o : Option �
 issued_right clock plan low high None due h = absurd h
 issued_right clock plan low high (Some t) due h = (due, h.0, h.1)
 
+-- a governed flight stays so at another clock if it is issued as it is to be then
+still_governed : (old new : ℕ) (regs : List (Text × Measure)) (id : Text) (plan : FlightPlan) (marked : Bool) (i j : Option ℕ)
+    → (s : IsGoverned old regs (record { plan = plan; marked = marked; governing = Some id; issued = i }) id)
+    → MatchOption j (is_due new plan ≡ false) (λ cto. (is_due new plan ≡ true) × (s.eto ≤ cto) × (cto ≤ end_of s.measure.profile))
+    → IsGoverned new regs (record { plan = plan; marked = marked; governing = Some id; issued = j }) id
+still_governed old new regs id plan marked i j s right = record {
+  measure = s.measure;
+  is_open = s.is_open;
+  eto = s.eto;
+  is_subject = s.is_subject;
+  not_exempt = s.not_exempt;
+  issued = right;
+}
+
 -- a row that is good at the clock before is good at the new one, issued if it is due. It is given by its parts, so that the
 -- cases are of what governs it and whether it is issued
 tick_row : (m : State) (old : ℕ) (key : Text) (plan : FlightPlan) (marked : Bool) (g : Option Text) (i : Option ℕ) → old ≤ m.clock
@@ -77,14 +91,7 @@ tick_row m old key plan marked (Some id) (Some t) h sorted found good =
     let s = good.standing in
     record {
       keyed = good.keyed;
-      standing = record {
-        measure = s.measure;
-        is_open = s.is_open;
-        eto = s.eto;
-        is_subject = s.is_subject;
-        not_exempt = s.not_exempt;
-        issued = (still_due old m.clock plan h s.issued.0, s.issued.1, s.issued.2);
-      };
+      standing = still_governed old m.clock m.regs id plan marked (Some t) (Some t) s (still_due old m.clock plan h s.issued.0, s.issued.1, s.issued.2);
     }
 tick_row m old key plan marked (Some id) None h sorted found good =
     let s = good.standing in
@@ -96,19 +103,9 @@ tick_row m old key plan marked (Some id) None h sorted found good =
           subst (λ (w : Option Listing). MatchOption (option_and_then (λ (l : Listing). cto_of l key) w) ⊥ (λ cto. (s.eto ≤ cto) × (cto ≤ end_of s.measure.profile))) (sym listed) (has_cto m key row id s.measure s.eto sorted found refl refl s.is_subject) in
           record {
             keyed = good.keyed;
-            standing = record {
-              measure = s.measure;
-              is_open = s.is_open;
-              eto = s.eto;
-              is_subject = s.is_subject;
-              not_exempt = s.not_exempt;
-              issued = issued_right m.clock plan s.eto (end_of s.measure.profile) (issued_in m key row).issued due time;
-            };
+            standing = still_governed old m.clock m.regs id plan marked None (issued_in m key row).issued s (issued_right m.clock plan s.eto (end_of s.measure.profile) (issued_in m key row).issued due time);
           }
-      | false ↦ λ due. record {
-        keyed = good.keyed;
-        standing = record { measure = s.measure; is_open = s.is_open; eto = s.eto; is_subject = s.is_subject; not_exempt = s.not_exempt; issued = due };
-      }
+      | false ↦ λ due. record { keyed = good.keyed; standing = still_governed old m.clock m.regs id plan marked None None s due }
     ] refl
 
 pub tick-good : (m : State) (at : ℕ) (back : Bool) → nat_lt at m.clock ≡ back → IsGood m → KeepsGood m (tick m at back)

@@ -15,8 +15,6 @@ mod regulation;
 mod reply;
 mod row;
 mod state;
-#[cfg(test)]
-mod tests;
 
 pub use call::{Call, Refusal};
 pub use comp::{Assigned, Comp};

@@ -1,6 +1,6 @@
 //! Laws of the definitions, each on a function that does nothing: what the contracts of this crate mean.
 
-ghost use Rattle.std.specs.Prelude.{◌≡◌, ◌↔◌, ℕ, List, Option, Some, None, ◌*◌, ◌/◌, ◌+◌, ◌<◌, ◌≤◌, max, length, IsTrue};
+ghost use Rattle.std.specs.Prelude.{◌≡◌, ◌↔◌, ℕ, List, Some, None, ◌*◌, ◌/◌, ◌+◌, ◌<◌, ◌≤◌, max, length, IsTrue};
 ghost use Rattle.std.specs.List.{slice_get};
 ghost use Rattle.casa_grid.specs.declared.period.Period.{Period};
 ghost use Rattle.casa_grid.specs.declared.slot.Window.{Window};

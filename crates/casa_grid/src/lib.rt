@@ -10,8 +10,6 @@ mod laws;
 mod period;
 mod profile;
 mod slot;
-#[cfg(test)]
-mod tests;
 
 pub use grid::Grid;
 pub use laws::{

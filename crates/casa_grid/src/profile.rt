@@ -1,4 +1,4 @@
-ghost use Rattle.std.specs.Prelude.{◌≡◌, ◌↔◌, ◌⊎◌, IsTrue, IfOk, MatchOption};
+ghost use Rattle.std.specs.Prelude.{◌≡◌, ◌⊎◌, IfOk, MatchOption};
 ghost use Rattle.std.specs.List.{list_any};
 ghost use Rattle.casa_grid.specs.declared.period.Period.{Period};
 ghost use Rattle.casa_grid.specs.ProfileFaults.{is_empty_period, are_joined, has_gap, has_bad_rate, is_too_long, profile_fault};

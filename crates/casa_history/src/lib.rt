@@ -8,8 +8,6 @@ mod entry;
 mod history;
 mod pass;
 mod settlement;
-#[cfg(test)]
-mod tests;
 
 pub use entry::{Entry, Receipt};
 pub use history::History;

@@ -1,4 +1,4 @@
-ghost use Rattle.std.specs.Prelude.{◌≡◌, ◌≢◌, ◌↔◌, ◌⊎◌, ◌<◌, ℕ, true, [], ◌∷◌, length, map, filter, All, Contains, IsTrue, IfSome, IfOk, IfErr};
+ghost use Rattle.std.specs.Prelude.{◌≡◌, ◌≢◌, ◌↔◌, ◌⊎◌, ◌<◌, ℕ, true, [], length, map, All, Contains, IsTrue, IfSome, IfOk, IfErr};
 ghost use Rattle.casa_history.specs.declared.entry.Entry.{Entry};
 ghost use Rattle.casa_history.specs.declared.pass.Pass.{Pass};
 ghost use Rattle.casa_history.specs.Entries.{entries, receipts, receipts_of};

@@ -17,6 +17,7 @@ use Rattle.casa_flight.specs.declared.row.Stance.TheVariants.{Competing, Issued,
 use Rattle.casa_flight.specs.Text.{Text, same_text, at_name, put, without}
 use Rattle.casa_flight.specs.Good.{AreInOrder}
 use Rattle.casa_flight.specs.Listing.{Listing, put_by, in_order, is_before, competitor, competitors, issued_cto, places, place_of, stance_of}
+use Rattle.casa_flight.proofs.Competitors.{Ordered}
 use Rattle.casa_flight.proofs.Entries.{text_cmp, same_name, itself, at-put, at-without_other, none_at, sorted-put, sorted-remove, all-filter_map}
 use Rattle.casa_flight.proofs.Kept.{at-without_same, same_entries}
 use Rattle.casa_flight.proofs.Rising.{put_at, all-put_by}
@@ -25,7 +26,7 @@ use Rattle.casa_list.specs.declared.standing.Standing.TheVariants.{Issued as Iss
 use Rattle.casa_list.specs.Blocked.{counts, issued_times}
 use Rattle.casa_list.specs.Standings.{issued_flight, forced_flight, is_flight_before, issued_flights, forced_flights}
 use Rattle.casa_list.specs.Walk.{place_low, low_behind, walked, comps_in}
-use Rattle.casa_list.proofs.Ordered.{Ordered, ordered_keys, IsAbsent, in_order-put, filter_map-put_other, place_in, place_in-le, remove-put, index_is, position-mapped}
+use Rattle.casa_list.proofs.Ordered.{ordered_keys, IsAbsent, in_order-put, filter_map-put_other, place_in, place_in-le, remove-put, index_is, position-mapped}
 use Rattle.casa_list.proofs.Rightly.{places-walked}
 use Rattle.casa_list.proofs.Settled.{comps-walked, walked_split, comps-drop}
 

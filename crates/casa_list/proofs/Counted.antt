@@ -222,10 +222,6 @@ count_by-put_by p f (g ∷ gs) =
         ∙ swapped (cond (p t) 1 0) (cond (p u) 1 0) (count_by p ts)
         ∙ sym (count_by-cons p u (t ∷ ts) ∙ ap (λ n. cond (p u) 1 0 + n) (count_by-cons p t ts))
 
-counts-put_by : (ws : List Window) (f : Comp × Standing) (gs : List (Comp × Standing)) → counts ws (times_in (put_by is_flight_before f gs)) ≡ counts ws (times_in (f ∷ gs))
-counts-put_by [] f gs = refl
-counts-put_by (w ∷ ws) f gs = λ i. count_by-put_by (λ u. is_within u w) f gs i ∷ counts-put_by ws f gs i
-
 -- counts of flights in front of the same others
 count_by-both : (p : ℕ → Bool) (ts us vs : List ℕ) → count_by p ts ≡ count_by p us → count_by p (ts ++ vs) ≡ count_by p (us ++ vs)
 count_by-both p ts us vs e =

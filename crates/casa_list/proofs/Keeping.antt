@@ -1,9 +1,8 @@
 -- what is kept beside a list stays right as flights come and go
-use Rattle.std.proofs.Common.{◌≡◌, ℕ, ◌+◌, ◌<◌, ◌≤◌, List, [], ◌∷◌, ◌++◌, append_assoc, length, map, take, drop, true, false, cond, not, refl, sym, ◌∙◌, ap, subst, arith, zero, suc, Option, None, Some, unwrap_or, Result, Ok, Err, IsOk, OnOk, OnErr}
-use Rattle.std.specs.Option.{option_map_or}
+use Rattle.std.proofs.Common.{◌≡◌, ℕ, ◌+◌, ◌<◌, ◌≤◌, List, [], ◌∷◌, ◌++◌, append_assoc, length, map, take, drop, true, false, cond, not, refl, sym, ◌∙◌, ap, subst, arith, zero, suc, Option, None, Some, unwrap_or}
+use Rattle.std.specs.Option.{option_map, option_map_or}
 use Rattle.std.specs.List.{AllByRecursion, cons_option, filter, filter_map, insert, position, remove, slice_get}
 use Rattle.std.specs.List.Sorted.{IsStrictlySortedBy}
-use Rattle.std.proofs.lemmas.Bool.{both_ways}
 use Rattle.std.proofs.lemmas.Cmp.{nat_list_eq_equiv}
 use Rattle.std.proofs.lemmas.List.{length-map}
 use Rattle.casa_grid.specs.declared.period.Period.{Period}
@@ -16,7 +15,7 @@ use Rattle.casa_flight.specs.declared.comp.Assigned.{Assigned}
 use Rattle.casa_flight.specs.declared.row.Stance.{Stance}
 use Rattle.casa_flight.specs.declared.row.Stance.TheVariants.{Competing, Issued, Forced}
 use Rattle.casa_flight.specs.Text.{Text, same_text, without}
-use Rattle.casa_flight.specs.Listing.{Listing, put_by, is_before, issued_cto, competitors, places, place_of, cto_of, stance_of}
+use Rattle.casa_flight.specs.Listing.{Listing, put_by, is_before, issued_cto, competitors, places, place_of, cto_of, cto_as, stance_of}
 use Rattle.casa_flight.proofs.Entries.{none_at, sorted-put, put-put}
 use Rattle.casa_flight.proofs.Rising.{put_at}
 use Rattle.casa_flight.proofs.MovesNobody.{places_issued}
@@ -371,7 +370,11 @@ filter_removed key (suc i) c (d ∷ cs) (x ∷ xs) own others le is =
     ap (λ b. cond (not b) (x ∷ filter (λ (a : Assigned). not (same_text key a.comp.key)) xs) (filter (λ (a : Assigned). not (same_text key a.comp.key)) xs)) (ap (λ (e : Comp). same_text key e.key) here ∙ others.0)
     ∙ ap (λ ys. x ∷ ys) (filter_removed key i c cs xs own others.1 (omega (arith, le)) rest)
 
--- a competitor is issued
+-- a competitor is issued at the time that it has
+pub issue_time : (l same : Listing) (c : Comp) (t : ℕ) → l ≡ same → stance_of l c.key ≡ Some (Competing c.eto) → t ≡ cto_as same c.key (Competing c.eto) → cto_of l c.key ≡ Some t
+issue_time l same c t is found time =
+    ap (option_map (cto_as l c.key)) found ∙ ap Some (sym (time ∙ ap (λ (m : Listing). cto_as m c.key (Competing c.eto)) (sym is)))
+
 pub kept_issued : (l : Listing) (xs ys : List Assigned) (issued new_issued forced : List (Comp × Standing)) (bs ds : List ℕ) (room new_room : ℕ) (c : Comp) (cto : ℕ) →
     IsKept l xs issued forced bs room → IsProfile l.profile → stance_of l c.key ≡ Some (Competing c.eto) → cto_of l c.key ≡ Some cto →
     ys ≡ remove xs (index_of xs c) →
@@ -475,12 +478,3 @@ kept_regridded l ps xs ys issued forced bs ds room k counted is enough =
       blocked_are = ds_are;
       room_is = enough;
     }
-
--- a write under a key that is there takes no memory
-pub is_ok_there : {T E : Type 0} {P : Type 0} (r : Result T E) → OnErr r P → (P → ⊥) → IsOk r
-is_ok_there (Ok x) h none = refl
-is_ok_there (Err e) h none = absurd (none h)
-
-pub on_ok : {T E : Type 0} {P : Type 0} (r : Result T E) → IsOk r → OnOk r P → P
-on_ok (Ok x) is h = h
-on_ok (Err e) is h = absurd (both_ways _ refl is)

@@ -1,5 +1,5 @@
 -- lists in order: an element put in or taken out, in whatever turn
-use Rattle.std.proofs.Common.{◌≡◌, ℕ, ◌+◌, ◌≤◌, List, [], ◌∷◌, length, Bool, true, false, not, nat_lt, refl, sym, ◌∙◌, ap, subst, arith, map, suc, ◌⊎◌, inl, inr, cond, Option, None, Some, unwrap_or}
+use Rattle.std.proofs.Common.{◌≡◌, ℕ, ◌+◌, ◌≤◌, List, [], ◌∷◌, length, Bool, true, false, not, nat_lt, refl, sym, ◌∙◌, ap, subst, arith, map, suc, cond, Option, None, Some, unwrap_or}
 use Rattle.std.specs.declared.cmp.Ordering.TheVariants.{Less, Equal, Greater}
 use Rattle.std.specs.Ordering.{is_eq, match_ordering}
 use Rattle.std.specs.List.{AllByRecursion, cons_option, filter_map, fold, insert, position, position_or_len, remove}
@@ -8,57 +8,16 @@ use Rattle.casa_flight.specs.declared.comp.Comp.{Comp}
 use Rattle.casa_flight.specs.Text.{Text, put}
 use Rattle.casa_flight.specs.Listing.{put_by, in_order, is_before}
 use Rattle.casa_flight.proofs.Entries.{text_cmp, itself, all-filter_map}
-use Rattle.casa_flight.proofs.Competitors.{before_on, before_one_way, before_total}
-use Rattle.casa_flight.proofs.Rising.{first_at_most, put_at, put_first, put_later}
+use Rattle.casa_flight.proofs.Competitors.{Ordered, before_one_way, before_total, put-commutes}
+use Rattle.casa_flight.proofs.Rising.{first_at_most, put_at}
 use Rattle.casa_list.proofs.Inserted.{remove_inserted, length-inserted}
 
 pub not_before_itself : (a : Comp) → is_before a a ≡ false
 not_before_itself a = false_from_ne_true _ (λ h. both_ways _ (before_one_way a a h) h)
 
--- of two flights with different keys one comes before the other
-abbrev pub Ordered : Comp → Comp → Type 0
-Ordered a b = (is_before a b ≡ true) ⊎ (is_before b a ≡ true)
-
+-- flights with different keys are ordered
 pub ordered_keys : (a b : Comp) → is_eq (text_cmp a.key b.key) ≡ false → Ordered a b
 ordered_keys a b apart = before_total a b (λ same. both_ways _ apart (subst (λ q. is_eq (text_cmp a.key q) ≡ true) same (itself a.key)))
-
--- two elements put in, in either turn
-commute_step : {X : Type 0} (comp : X → Comp) (x y : X) → is_before (comp x) (comp y) ≡ true → (zs : List X) →
-    put_by (λ a b. is_before (comp a) (comp b)) x (put_by (λ a b. is_before (comp a) (comp b)) y zs) ≡ put_by (λ a b. is_before (comp a) (comp b)) y (put_by (λ a b. is_before (comp a) (comp b)) x zs)
-commute_step {X} comp x y h [] =
-    let before : X → X → Bool = λ a b. is_before (comp a) (comp b) in
-    put_first before x y [] (before_one_way (comp x) (comp y) h) ∙ sym (put_later before y x [] h)
-commute_step {X} comp x y h (z ∷ zs) =
-    let before : X → X → Bool = λ a b. is_before (comp a) (comp b) in
-    let y_first : is_before (comp y) (comp x) ≡ false = before_one_way (comp x) (comp y) h in
-    elim (before z x) as (λ b. before z x ≡ b → put_by before x (put_by before y (z ∷ zs)) ≡ put_by before y (put_by before x (z ∷ zs))) [
-      | true ↦ λ zx.
-          let zy : before z y ≡ true = before_on (comp z) (comp x) (comp y) zx h in
-          ap (put_by before x) (put_later before y z zs zy)
-          ∙ put_later before x z (put_by before y zs) zx
-          ∙ ap (λ ws. z ∷ ws) (commute_step comp x y h zs)
-          ∙ sym (put_later before y z (put_by before x zs) zy)
-          ∙ sym (ap (put_by before y) (put_later before x z zs zx))
-      | false ↦ λ zx.
-          let right : put_by before y (put_by before x (z ∷ zs)) ≡ x ∷ put_by before y (z ∷ zs) = ap (put_by before y) (put_first before x z zs zx) ∙ put_later before y x (z ∷ zs) h in
-          let left : put_by before x (put_by before y (z ∷ zs)) ≡ x ∷ put_by before y (z ∷ zs) =
-          elim (before z y) as (λ b. before z y ≡ b → put_by before x (put_by before y (z ∷ zs)) ≡ x ∷ put_by before y (z ∷ zs)) [
-            | true ↦ λ zy.
-                ap (put_by before x) (put_later before y z zs zy)
-                ∙ put_first before x z (put_by before y zs) zx
-                ∙ ap (λ ws. x ∷ ws) (sym (put_later before y z zs zy))
-            | false ↦ λ zy.
-                ap (put_by before x) (put_first before y z zs zy)
-                ∙ put_first before x y (z ∷ zs) y_first
-                ∙ ap (λ ws. x ∷ ws) (sym (put_first before y z zs zy))
-          ] refl in
-          left ∙ sym right
-    ] refl
-
-pub put-commutes : {X : Type 0} (comp : X → Comp) (x y : X) → Ordered (comp x) (comp y) → (zs : List X) →
-    put_by (λ a b. is_before (comp a) (comp b)) x (put_by (λ a b. is_before (comp a) (comp b)) y zs) ≡ put_by (λ a b. is_before (comp a) (comp b)) y (put_by (λ a b. is_before (comp a) (comp b)) x zs)
-put-commutes comp x y (inl h) zs = commute_step comp x y h zs
-put-commutes comp x y (inr h) zs = sym (commute_step comp y x h zs)
 
 -- these put in one by one behind those
 abbrev pub put_all : {X : Type 0} → (X → Comp) → List X → List X → List X

@@ -156,10 +156,6 @@ low_step o earlier low c Over h served =
       filled = λ k under open_is. taken_old earlier _ k (served k under open_is);
     }
 
--- from this time over on the competitors rise
-rising_from : (e : ℕ) (c : Comp) (cs : List Comp) → AreFrom e (c ∷ cs) → e ≤ c.eto
-rising_from e c cs h = h.0
-
 assigned_walked : (o : Occupancy) (earlier : List Assigned) (low e : ℕ) (cs : List Comp) → IsLow o earlier low e → AreFrom e cs → AreRising cs → assigned_after o earlier cs ≡ walked o.slots (counted o) low cs
 assigned_walked o earlier low e [] h from rising = refl
 assigned_walked o earlier low e (c ∷ cs) h from rising =

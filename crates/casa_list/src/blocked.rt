@@ -1,12 +1,11 @@
 //! How many issued flights block each slot.
 
 ghost use Rattle.std.specs.Prelude.{◌≡◌, ◌<◌, IfOk, replicate, length};
-ghost use Rattle.std.specs.List.{AllByRecursion, filter_map};
+ghost use Rattle.std.specs.List.{AllByRecursion};
 ghost use Rattle.casa_grid.specs.Profile.{IsProfile};
 ghost use Rattle.casa_grid.specs.Slots.{slots, window_of};
 ghost use Rattle.casa_list.specs.Blocked.{raised, lowered, counts, time_of, times_in};
 ghost use Rattle.std.specs.Option.{option_and_then};
-ghost use Rattle.casa_flight.specs.declared.comp.Comp.{Comp};
 ghost use Rattle.casa_list.specs.declared.standing.Standing.{Standing};
 
 use crate::standing::{Entry, Standing};

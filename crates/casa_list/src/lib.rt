@@ -12,8 +12,6 @@ mod laws;
 mod list;
 mod order;
 mod standing;
-#[cfg(test)]
-mod tests;
 mod walk;
 
 pub use laws::places_are_right;

@@ -1,14 +1,12 @@
 //! The list.
 
-ghost use Rattle.std.specs.Prelude.{◌≡◌, ◌∷◌, [], Option, Some, None, IfOk, OnOk, OnErr, IfSome, IfNone, IsTrue, is_some, false, length, if◌then◌else◌};
+ghost use Rattle.std.specs.Prelude.{◌≡◌, [], Option, Some, None, IfOk, OnOk, OnErr, IfSome, is_some, false, length, if◌then◌else◌};
 ghost use Rattle.std.specs.List.{slice_get};
-ghost use Rattle.casa_grid.specs.Profile.{end_of};
 ghost use Rattle.casa_grid.specs.Slots.{slots, window_of};
-ghost use Rattle.casa_grid.specs.TimeOver.{cto as time_over};
 ghost use Rattle.casa_flight.specs.declared.row.Stance.{Stance};
-ghost use Rattle.casa_flight.specs.Text.{Text, put, without, same_text};
-ghost use Rattle.casa_flight.specs.Assignment.{IsRight, place_from};
-ghost use Rattle.casa_flight.specs.Listing.{places, occupancy, place_of, cto_of, stance_of};
+ghost use Rattle.casa_flight.specs.Text.{Text, at_name, put, without, same_text};
+ghost use Rattle.casa_flight.specs.Assignment.{place_from};
+ghost use Rattle.casa_flight.specs.Listing.{place_of, cto_of, cto_as, stance_of};
 ghost use Rattle.casa_flight.specs.Entry.{with_competitor};
 ghost use Rattle.casa_list.specs.Walk.{IsWithin};
 ghost use Rattle.casa_list.specs.Standings.{standings, count_governed, governed_place, governed_cto, issue_cto, with_issued, is_forced, competing_eto, forced_eto};
@@ -256,11 +254,10 @@ impl SlotList {
     {
         let eto = self.competing_at(key)?;
         let comp = Comp { eto, key: *key };
-        let cto = cto_at(&self.grid, eto, self.place_at(&comp));
+        let cto = self.competitor_cto(&comp);
         let at = index_of(self.competitors.as_slice(), &comp);
         self.competitors.remove(at);
-        let written: Result<_, _> = self.flights.insert(*key, Stance::Issued { eto, cto });
-        written.unwrap();
+        write_issued(&mut self.flights, &comp, cto);
         put_flight(&mut self.issued, comp, Standing::Issued(cto));
         block(&self.grid, &mut self.blocked, cto);
         Some(cto)
@@ -292,13 +289,18 @@ impl SlotList {
         ensures { result ≡ governed_cto self.now key.now }
     {
         match self.stance_of(key)? {
-            Stance::Competing { eto } => {
-                let place = self.place_at(&Comp { eto, key: *key });
-                Some(cto_at(&self.grid, eto, place))
-            }
+            Stance::Competing { eto } => Some(self.competitor_cto(&Comp { eto, key: *key })),
             Stance::Issued { cto, .. } => Some(cto),
             Stance::Forced { .. } => None,
         }
+    }
+
+    /// The calculated time over of a competitor.
+    fn competitor_cto(&self, comp: &Comp) -> Moment
+        requires { stance_of self.now comp.now.key ≡ Some (Stance.Competing comp.now.eto) }
+        ensures { result ≡ cto_as self.now comp.now.key (Stance.Competing comp.now.eto) }
+    {
+        cto_at(&self.grid, comp.eto, self.place_at(comp))
     }
 
     /// How many flights the regulation governs: the competitors and the issued flights.
@@ -356,4 +358,13 @@ impl SlotList {
             blocked: self.blocked.clone()?,
         })
     }
+}
+
+/// Writes a competitor as issued at this time, which takes no memory.
+fn write_issued(flights: &mut BTreeMap<Key, Stance>, comp: &Comp, cto: Moment)
+    requires { at_name flights.old.entries comp.now.key ≡ Some (Stance.Competing comp.now.eto) }
+    ensures { flights.new.entries ≡ put flights.old.entries comp.now.key (Stance.Issued comp.now.eto cto) }
+{
+    let written: Result<_, _> = flights.insert(comp.key, Stance::Issued { eto: comp.eto, cto });
+    written.unwrap();
 }

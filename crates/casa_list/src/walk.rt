@@ -1,7 +1,7 @@
 //! The walk along the competitors of a list: each in turn has the first clear slot from the one that it asks
 //! for and behind the place of the one before it.
 
-ghost use Rattle.std.specs.Prelude.{◌≡◌, ◌++◌, ◌∷◌, ◌≤◌, take, drop, length, not, unwrap_or, Some, IfSome, vec_len, vec_capacity, ◌+◌, ◌<◌};
+ghost use Rattle.std.specs.Prelude.{◌≡◌, ◌∷◌, ◌≤◌, take, drop, length, not, Some, IfSome, vec_len, vec_capacity, ◌+◌, ◌<◌};
 ghost use Rattle.std.specs.List.{position, slice_get};
 ghost use Rattle.casa_flight.specs.declared.comp.Assigned.{Assigned};
 ghost use Rattle.casa_grid.specs.Slots.{slots};

@@ -15,7 +15,5 @@ mod replies;
 mod slot_list;
 mod standing;
 mod steps;
-#[cfg(test)]
-mod tests;
 
 pub use plain::Plain;

@@ -10,5 +10,3 @@ mod moment;
 pub use clock::{due, hhmm};
 pub use moment::{Moment, TimeFault};
 
-#[cfg(test)]
-mod tests;

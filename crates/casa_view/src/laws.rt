@@ -1,6 +1,6 @@
 //! Laws of the definitions, each on a function that does nothing: what a call needs to see and what it changes.
 
-ghost use Rattle.std.specs.Prelude.{◌≡◌, true, false, List, ◌++◌, None};
+ghost use Rattle.std.specs.Prelude.{◌≡◌, false, List, ◌++◌, None};
 ghost use Rattle.casa_flight.specs.declared.call.Call.{Call};
 ghost use Rattle.casa_flight.specs.declared.state.State.{State};
 ghost use Rattle.casa_flight.specs.Text.{Text};

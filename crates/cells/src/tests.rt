@@ -1,5 +1,3 @@
-ghost use Rattle.std.specs.Prelude.{◌≡◌, IfOk, ℕ};
-
 use crate::{Answer, Cells, Copying, copied};
 use casa_commit::{
     CallFault, CommitFault, DeskFault, Prepared, Room, World, commit, locked, prepare,

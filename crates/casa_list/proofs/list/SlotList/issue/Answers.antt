@@ -1,18 +1,14 @@
-use Rattle.std.proofs.Common.{◌≡◌, ◌∙◌, ◌+◌, ◌<◌, ◌≤◌, Some, None, IsOk, true, ap, sym, subst, length, vec_capacity, rules}
-use Rattle.std.specs.Option.{option_map}
+use Rattle.std.proofs.Common.{◌≡◌, ◌∙◌, ◌+◌, ◌<◌, ◌≤◌, Some, true, ap, sym, subst, length, vec_capacity, rules}
 use Rattle.std.specs.List.{remove}
-use Rattle.casa_grid.specs.Slots.{slots}
 use Rattle.casa_flight.specs.declared.comp.Comp.{Comp}
-use Rattle.casa_flight.specs.declared.row.Stance.TheVariants.{Competing, Issued}
-use Rattle.casa_flight.specs.Text.{put, same_text}
+use Rattle.casa_flight.specs.declared.row.Stance.TheVariants.{Competing}
+use Rattle.casa_flight.specs.Text.{same_text}
 use Rattle.casa_flight.proofs.MovesNobody.{place_issued}
 use Rattle.std.proofs.lemmas.Bool.{both_ways}
 use Rattle.std.proofs.lemmas.Cmp.{nat_list_eq_equiv}
-use Rattle.casa_grid.specs.Profile.{end_of}
-use Rattle.casa_grid.specs.TimeOver.{cto as time_over}
-use Rattle.casa_flight.specs.Listing.{Listing, stance_of, place_of, cto_of, cto_as}
+use Rattle.casa_flight.specs.Listing.{Listing, stance_of, place_of, cto_of}
 use Rattle.std.below.core.specs.declared.int.usize.TheConstants.{MAX}
-use Rattle.casa_list.proofs.Keeping.{index_of, standing_within, kept_issued, kept_few, is_ok_there, on_ok}
+use Rattle.casa_list.proofs.Keeping.{index_of, standing_within, kept_issued, kept_few, issue_time}
 use Rattle.casa_list.proofs.list.SlotList.issue.Goals as goal
 
 pub remove-requires : goal.remove-requires
@@ -25,12 +21,8 @@ remove-requires c =
     let within : index_of xs comp < length xs = standing_within l xs _ _ _ _ comp c.self.invariant found in
     rw at (search rules)
 
-pub unwrap-requires : goal.unwrap-requires
-unwrap-requires c =
-    let l : Listing = record { profile = c.self.inside.grid; flights = c.self.inside.flights.entries } in
-    let comp : Comp = record { eto = c.in_ok-eto.eto; key = c.args.key.now } in
-    let found : stance_of l comp.key ≡ Some (Competing comp.eto) = subst (λ v. stance_of v comp.key ≡ Some (Competing comp.eto)) (sym c.self.view_is) c.in_ok-eto.ensures.found in
-    is_ok_there c.insert-written.result c.insert-written.ensures.absent (λ none. let both : Some (Competing comp.eto) ≡ None = sym found ∙ none in cc)
+pub write_issued-requires : goal.write_issued-requires
+write_issued-requires c = subst (λ v. stance_of v c.args.key.now ≡ Some (Competing c.in_ok-eto.eto)) (sym c.self.view_is) c.in_ok-eto.ensures.found
 
 pub block-requires : goal.block-requires
 block-requires c =
@@ -42,11 +34,7 @@ invariant_of-self c =
     let l : Listing = record { profile = c.self.inside.grid; flights = c.self.inside.flights.entries } in
     let comp : Comp = record { eto = c.in_ok-eto.eto; key = c.args.key.now } in
     let found : stance_of l comp.key ≡ Some (Competing comp.eto) = subst (λ v. stance_of v comp.key ≡ Some (Competing comp.eto)) (sym c.self.view_is) c.in_ok-eto.ensures.found in
-    let place_is : c.place_at.result ≡ place_of l comp.key = c.place_at.ensures.place ∙ ap (λ (m : Listing). place_of m comp.key) (sym c.self.view_is) in
-    let time : cto_of l comp.key ≡ Some c.cto_at-cto.result =
-    ap (option_map (cto_as l comp.key)) found ∙ ap Some (sym (c.cto_at-cto.ensures ∙ ap (time_over (slots l.profile) (end_of l.profile) comp.eto) place_is)) in
-    let there : IsOk c.insert-written.result = is_ok_there c.insert-written.result c.insert-written.ensures.absent (λ none. let both : Some (Competing comp.eto) ≡ None = sym found ∙ none in cc) in
-    let written : c.insert-written.new.self.entries ≡ put l.flights comp.key (Issued comp.eto c.cto_at-cto.result) = on_ok c.insert-written.result there c.insert-written.ensures.entries in
+    let time : cto_of l comp.key ≡ Some c.competitor_cto-cto.result = issue_time l _ comp c.competitor_cto-cto.result c.self.view_is found c.competitor_cto-cto.ensures in
     let xs = c.self.inside.competitors.items in
     let ys = c.remove.new.self.items in
     let at : c.index_of-at.result ≡ index_of xs comp = rw (← c.as_slice.ensures.value) c.index_of-at.ensures.value in
@@ -54,19 +42,15 @@ invariant_of-self c =
     let room = c.self.invariant.room_is in
     let within : index_of xs comp < length xs = standing_within l xs _ _ _ _ comp c.self.invariant found in
     let enough : length ys + length c.put_flight.new.flights.items ≤ vec_capacity c.put_flight.new.flights = search rules in
-    rw written (kept_issued l xs ys _ _ _ _ _ _ _ comp c.cto_at-cto.result c.self.invariant c.block.ensures.valid found time less c.put_flight.ensures.items c.block.ensures.items enough)
+    rw c.write_issued.ensures (kept_issued l xs ys _ _ _ _ _ _ _ comp c.competitor_cto-cto.result c.self.invariant c.block.ensures.valid found time less c.put_flight.ensures.items c.block.ensures.items enough)
 
 pub returns-clause-others : goal.returns-clause-others
 returns-clause-others c =
     let l : Listing = record { profile = c.self.inside.grid; flights = c.self.inside.flights.entries } in
     let comp : Comp = record { eto = c.in_ok-eto.eto; key = c.args.key.now } in
     let found : stance_of l comp.key ≡ Some (Competing comp.eto) = subst (λ v. stance_of v comp.key ≡ Some (Competing comp.eto)) (sym c.self.view_is) c.in_ok-eto.ensures.found in
-    let place_is : c.place_at.result ≡ place_of l comp.key = c.place_at.ensures.place ∙ ap (λ (m : Listing). place_of m comp.key) (sym c.self.view_is) in
-    let time : cto_of l comp.key ≡ Some c.cto_at-cto.result =
-    ap (option_map (cto_as l comp.key)) found ∙ ap Some (sym (c.cto_at-cto.ensures ∙ ap (time_over (slots l.profile) (end_of l.profile) comp.eto) place_is)) in
-    let there : IsOk c.insert-written.result = is_ok_there c.insert-written.result c.insert-written.ensures.absent (λ none. let both : Some (Competing comp.eto) ≡ None = sym found ∙ none in cc) in
-    let written : c.insert-written.new.self.entries ≡ put l.flights comp.key (Issued comp.eto c.cto_at-cto.result) = on_ok c.insert-written.result there c.insert-written.ensures.entries in
+    let time : cto_of l comp.key ≡ Some c.competitor_cto-cto.result = issue_time l _ comp c.competitor_cto-cto.result c.self.view_is found c.competitor_cto-cto.ensures in
     λ other apart.
-    ap (λ fs. place_of (record l { flights = fs }) other) written
-    ∙ place_issued l comp.key other comp.eto c.cto_at-cto.result c.block.ensures.valid c.self.invariant.keys found time (λ same. both_ways _ apart (subst (λ q. same_text other q ≡ true) same (nat_list_eq_equiv.refl other)))
+    ap (λ fs. place_of (record l { flights = fs }) other) c.write_issued.ensures
+    ∙ place_issued l comp.key other comp.eto c.competitor_cto-cto.result c.block.ensures.valid c.self.invariant.keys found time (λ same. both_ways _ apart (subst (λ q. same_text other q ≡ true) same (nat_list_eq_equiv.refl other)))
     ∙ ap (λ (m : Listing). place_of m other) c.self.view_is

@@ -1,7 +1,6 @@
-ghost use Rattle.std.specs.Prelude.{◌≡◌, ◌++◌, ◌∷◌, [], OnOk};
-ghost use Rattle.casa_history.specs.Entries.{entries, receipts, receipt};
+//! Histories and passes.
 
-use crate::{Entry, History, Holds, Pass, Receipt, Settled, Torn, settle};
+use casa_history::{Entry, History, Holds, Pass, Receipt, Settled, Torn, settle};
 use std::alloc::{AllocError, Global};
 use std::test::Fail;
 

@@ -1,19 +1,13 @@
-use crate::{
+//! Names, plans, subjects, refusals and copies.
+
+use crate::parts::{key, loc, over, period, profile, reg};
+use casa_flight::{
     Answer, Call, Crossing, Key, Kind, ListReply, ListRow, Loc, Measure, Message, Messages, Plan,
     PlanFault, Refusal, RegId, Regulation, Reply, Row, Rows, Sts, subject,
 };
-use casa_grid::{Period, Profile};
 use casa_time::Moment;
 use std::alloc::{AllocError, Global};
 use std::test::Fail;
-
-/// A crossing of a location with this name, at this second.
-fn over(name: &[u8], eto: u32) -> Result<Crossing, Fail> {
-    Ok(Crossing {
-        loc: Loc::new(name).ok_or("a location")?,
-        eto: Moment::new(eto)?,
-    })
-}
 
 /// The fault of a plan of these, if it has one.
 fn fault_of(
@@ -77,8 +71,8 @@ fn each_fault_of_a_plan_has_its_name(rt: HostRuntime) -> Result<(), Fail> {
 #[test]
 fn a_flight_is_subject_by_its_planned_time(rt: HostRuntime) -> Result<(), Fail> {
     let regulation = Regulation {
-        id: RegId::new(b"R1").ok_or("an identifier")?,
-        loc: Loc::new(b"LA").ok_or("a location")?,
+        id: reg(b"R1")?,
+        loc: loc(b"LA")?,
         start: Moment::new(36000)?,
         end: Moment::new(37200)?,
     };
@@ -154,25 +148,16 @@ fn a_refused_growth_is_want_of_memory(rt: HostRuntime) -> Result<(), Fail> {
 #[test]
 fn copies_equal_their_sources(rt: HostRuntime) -> Result<(), Fail> {
     let alloc = rt.alloc();
-    let (begin, until) = (Moment::new(36000)?, Moment::new(37200)?);
-    let loc = Loc::new(b"LA").ok_or("a location")?;
-    let reg = RegId::new(b"R1").ok_or("an identifier")?;
-    let key = Key::new(b"A").ok_or("a key")?;
+    let (start, end) = (Moment::new(36000)?, Moment::new(37200)?);
+    let (key, loc, reg) = (key(b"A")?, loc(b"LA")?, reg(b"R1")?);
     let measure = Measure {
         loc,
-        profile: Profile::new(
-            alloc,
-            &[Period {
-                begin,
-                until,
-                rate: 30,
-            }],
-        )?,
+        profile: profile(alloc, &[period(36000, 37200, 30)?])?,
     };
     assert!(rt; measure.clone()?.profile == measure.profile);
     let row = ListRow {
         key,
-        eto: begin,
+        eto: start,
         cto: 36000,
         kind: Kind::Pre,
         slot: Some(0),
@@ -180,8 +165,8 @@ fn copies_equal_their_sources(rt: HostRuntime) -> Result<(), Fail> {
     let list = ListReply {
         reg,
         loc,
-        start: begin,
-        end: until,
+        start,
+        end,
         slots: 10,
         rows: Rows::of(vec![in alloc; row]?),
     };

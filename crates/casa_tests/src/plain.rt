@@ -1,48 +1,30 @@
-use crate::Plain;
+//! The slow sequential allocator.
+
+use crate::parts::{key, loc, over, period, profile, reg};
 use casa_flight::{
-    Answer, Call, Crossing, FlightReply, Key, Kind, ListReply, ListRow, Loc, Message, Messages,
-    Plan, Refusal, RegId, Reply, Rows, Sts,
+    Answer, Call, FlightReply, Kind, ListReply, ListRow, Message, Messages, Plan, Refusal, Reply,
+    Rows, Sts,
 };
-use casa_grid::{Period, Profile};
+use casa_plain::Plain;
 use casa_time::Moment;
 use std::alloc::{AllocError, Global};
 use std::test::Fail;
 
-/// The key with this text.
-fn key(text: &[u8]) -> Result<Key, Fail> {
-    Key::new(text).ok_or_else(|| Fail::new("no key"))
-}
-
-/// The location with this text.
-fn loc(text: &[u8]) -> Result<Loc, Fail> {
-    Loc::new(text).ok_or_else(|| Fail::new("no location"))
-}
-
-/// The identifier with this text.
-fn reg(text: &[u8]) -> Result<RegId, Fail> {
-    RegId::new(text).ok_or_else(|| Fail::new("no identifier"))
-}
-
 /// The call that opens R1 at LA from 36000 to 37200, at 30 flights per hour.
-fn open(alloc: Global) -> Option<Call> {
-    let period = Period {
-        begin: Moment::new(36_000).ok()?,
-        until: Moment::new(37_200).ok()?,
-        rate: 30,
-    };
-    let profile = Profile::new(alloc, &[period]).ok()?;
-    Some(Call::OpenReg(RegId::new(b"R1")?, Loc::new(b"LA")?, profile))
+fn open(alloc: Global) -> Result<Call, Fail> {
+    let profile = profile(alloc, &[period(36_000, 37_200, 30)?])?;
+    Ok(Call::OpenReg(reg(b"R1")?, loc(b"LA")?, profile))
 }
 
-/// The call that files a flight over LA: off-block at 30000, ten minutes of taxi.
-fn file(alloc: Global, key: &[u8], over: u32) -> Option<Call> {
-    let crossing = Crossing {
-        loc: Loc::new(b"LA")?,
-        eto: Moment::new(over).ok()?,
-    };
-    let eobt = Moment::new(30_000).ok()?;
-    let plan = Plan::new(alloc, key, eobt, 600, &[crossing], Sts::Plain).ok()?;
-    Some(Call::File(plan))
+/// The call that files a flight over LA, made again where memory was refused: off-block at 30000, ten minutes of
+/// taxi.
+fn file(alloc: Global, key: &[u8], eto: u32) -> Result<Call, Fail> {
+    let via = [over(b"LA", eto)?];
+    let eobt = Moment::new(30_000)?;
+    match Plan::new(alloc, key, eobt, 600, &via, Sts::Plain) {
+        Ok(plan) => Ok(Call::File(plan)),
+        Err(_) => Ok(Call::File(Plan::new(alloc, key, eobt, 600, &via, Sts::Plain)?)),
+    }
 }
 
 /// The reply with this answer and these messages.
@@ -94,14 +76,14 @@ fn two_flights_get_slots_two_minutes_apart(rt: HostRuntime) -> Result<(), Fail> 
     let mut plain = Plain::new(alloc);
     let (a, b, r1) = (key(b"A")?, key(b"B")?, reg(b"R1")?);
 
-    let opened = plain.step(alloc, &open(alloc).ok_or("a call")?)?;
+    let opened = plain.step(alloc, &open(alloc)?)?;
     assert_eq!(rt; opened, answered(alloc, Answer::Done, &[])?);
-    let first = plain.step(alloc, &file(alloc, b"A", 36_010).ok_or("a call")?)?;
+    let first = plain.step(alloc, &file(alloc, b"A", 36_010)?)?;
     assert_eq!(rt;
         first,
         answered(alloc, flight(b"A", 30_600, 0, false)?, &[])?
     );
-    let second = plain.step(alloc, &file(alloc, b"B", 36_005).ok_or("a call")?)?;
+    let second = plain.step(alloc, &file(alloc, b"B", 36_005)?)?;
     assert_eq!(rt;
         second,
         answered(alloc, flight(b"B", 30_600, 0, false)?, &[])?
@@ -144,10 +126,7 @@ fn reply(alloc: Global, plain: &mut Plain, call: &Call) -> Result<Reply, AllocEr
 #[test]
 fn a_refused_growth_leaves_the_call_unmade(rt: HostRuntime) -> Result<(), Fail> {
     let alloc = rt.alloc();
-    let opening = open(alloc).or_else(|| open(alloc)).ok_or("a call")?;
-    let filing = file(alloc, b"A", 36_010)
-        .or_else(|| file(alloc, b"A", 36_010))
-        .ok_or("a call")?;
+    let (opening, filing) = (open(alloc)?, file(alloc, b"A", 36_010)?);
     let mut plain = Plain::new(alloc);
     let opened = reply(alloc, &mut plain, &opening)?;
     assert!(rt; opened != Reply::Refused(Refusal::DuplicateRegulation));

@@ -1,16 +1,10 @@
-use crate::{Grid, Period, Profile, ProfileFault};
+//! Profiles and slots.
+
+use crate::parts::period;
+use casa_grid::{Grid, Period, Profile, ProfileFault};
 use casa_time::Moment;
 use std::alloc::{AllocError, Global};
 use std::test::Fail;
-
-/// A period from `begin` to `until`, in seconds, with this rate.
-fn period(begin: u32, until: u32, rate: u32) -> Result<Period, Fail> {
-    Ok(Period {
-        begin: Moment::new(begin)?,
-        until: Moment::new(until)?,
-        rate,
-    })
-}
 
 /// The fault of these periods, if they have one.
 fn fault_of(alloc: Global, periods: &[Period]) -> Option<ProfileFault> {

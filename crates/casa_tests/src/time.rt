@@ -1,4 +1,6 @@
-use crate::{Moment, TimeFault, due, hhmm};
+//! Moments of the day.
+
+use casa_time::{Moment, TimeFault, due, hhmm};
 use std::test::Fail;
 
 #[test]

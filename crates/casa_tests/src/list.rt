@@ -1,37 +1,28 @@
-use crate::{SlotList, Standing};
-use casa_flight::{Comp, Key};
-use casa_grid::{Grid, Period, Place, Profile};
+//! Slot lists.
+
+use crate::parts::{comp, key, period, profile};
+use casa_flight::Comp;
+use casa_grid::{Grid, Period, Place};
+use casa_list::{SlotList, Standing};
 use casa_time::Moment;
 use std::alloc::{AllocError, Global};
 use std::test::Fail;
 
-/// The key with this text.
-fn key(text: &[u8]) -> Result<Key, Fail> {
-    Key::new(text).ok_or_else(|| Fail::new("no key"))
+/// The slots of these periods, made again where memory was refused.
+fn grid(alloc: Global, periods: &[Period]) -> Result<Grid, Fail> {
+    let profile = profile(alloc, periods)?;
+    match Grid::of(alloc, &profile) {
+        Ok(grid) => Ok(grid),
+        Err(AllocError) => Ok(Grid::of(alloc, &profile)?),
+    }
 }
 
-/// The flight with this key and estimated time over.
-fn comp(text: &[u8], eto: u32) -> Result<Comp, Fail> {
-    Ok(Comp {
-        eto: Moment::new(eto)?,
-        key: key(text)?,
-    })
-}
-
-/// A period with this many flights per hour.
-fn period(begin: u32, until: u32, rate: u32) -> Result<Period, Fail> {
-    Ok(Period {
-        begin: Moment::new(begin)?,
-        until: Moment::new(until)?,
-        rate,
-    })
-}
-
-/// The list of these periods, with no flights.
+/// The list of these periods, with no flights, made likewise.
 fn list(alloc: Global, periods: &[Period]) -> Result<SlotList, Fail> {
-    let profile = Profile::new(alloc, periods)?;
-    let grid = Grid::of(alloc, &profile)?;
-    Ok(SlotList::new(alloc, grid)?)
+    match SlotList::new(alloc, grid(alloc, periods)?) {
+        Ok(list) => Ok(list),
+        Err(AllocError) => Ok(SlotList::new(alloc, grid(alloc, periods)?)?),
+    }
 }
 
 /// The list from 36000 to 37200 with 30 flights per hour: ten slots, two minutes apart.
@@ -114,8 +105,7 @@ fn newcomers_displace_those_planned_later(rt: HostRuntime) -> Result<(), Fail> {
         assert_eq!(rt; copy.nth(n), list.nth(n));
     }
 
-    let profile = Profile::new(alloc, &[period(36_000, 37_200, 15)?])?;
-    list.regrid(Grid::of(alloc, &profile)?)?;
+    list.regrid(grid(alloc, &[period(36_000, 37_200, 15)?])?)?;
     assert_eq!(rt; list.grid().len(), 5);
     assert_eq!(rt; list.place_of(&key(b"C")?), Some(Place::Slot(0)));
     assert_eq!(rt; list.place_of(&key(b"B")?), Some(Place::Slot(1)));
@@ -204,30 +194,11 @@ fn a_closed_period_has_no_slot(rt: HostRuntime) -> Result<(), Fail> {
     Ok(())
 }
 
-/// The grid of one period, whose growths may be refused once.
-fn grid_of(alloc: Global, period: Period) -> Result<Grid, Fail> {
-    let profile = match Profile::new(alloc, &[period]) {
-        Ok(profile) => profile,
-        Err(_) => Profile::new(alloc, &[period])?,
-    };
-    match Grid::of(alloc, &profile) {
-        Ok(grid) => Ok(grid),
-        Err(AllocError) => Ok(Grid::of(alloc, &profile)?),
-    }
-}
-
-/// The list of one period, whose growths may be refused once.
-fn list_of(alloc: Global, period: Period) -> Result<SlotList, Fail> {
-    match SlotList::new(alloc, grid_of(alloc, period)?) {
-        Ok(list) => Ok(list),
-        Err(AllocError) => Ok(SlotList::new(alloc, grid_of(alloc, period)?)?),
-    }
-}
-
+/// Run also with each allocation refused in turn: the refused call has changed nothing, and is made again.
 #[test]
 fn a_refused_growth_changes_nothing(rt: HostRuntime) -> Result<(), Fail> {
     let alloc = rt.alloc();
-    let mut list = list_of(alloc, period(36_000, 37_200, 30)?)?;
+    let mut list = ten_slots(alloc)?;
     assert_eq!(rt; enter(&mut list, comp(b"A", 36_010)?)?, Place::Slot(0));
     hold(&mut list, comp(b"B", 36_005)?, 36_015)?;
     force(&mut list, comp(b"D", 36_050)?)?;
@@ -235,10 +206,10 @@ fn a_refused_growth_changes_nothing(rt: HostRuntime) -> Result<(), Fail> {
         Ok(copy) => copy,
         Err(AllocError) => list.try_clone()?,
     };
-    let wider = period(36_000, 37_200, 15)?;
-    if let Err(AllocError) = list.regrid(grid_of(alloc, wider)?) {
+    let wider = [period(36_000, 37_200, 15)?];
+    if let Err(AllocError) = list.regrid(grid(alloc, &wider)?) {
         assert_eq!(rt; list.grid().len(), 10);
-        list.regrid(grid_of(alloc, wider)?)?;
+        list.regrid(grid(alloc, &wider)?)?;
     }
     assert_eq!(rt; (list.governed(), copy.governed()), (2, 2));
     assert_eq!(rt; list.place_of(&key(b"A")?), Some(Place::Slot(1)));

@@ -1,0 +1,19 @@
+//! Tests of the crates that the program stands on, through what is public of them.
+//!
+//! They stand in a crate of their own, so that each of those crates is proved once.
+#![tactic(auto)]
+
+#[cfg(test)]
+mod flight;
+#[cfg(test)]
+mod grid;
+#[cfg(test)]
+mod history;
+#[cfg(test)]
+mod list;
+#[cfg(test)]
+mod parts;
+#[cfg(test)]
+mod plain;
+#[cfg(test)]
+mod time;
