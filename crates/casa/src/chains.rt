@@ -11,6 +11,9 @@ use std::test::Fail;
 /// How many flights are filed.
 const FLIGHTS: u8 = 200;
 
+/// How many of them are there at most: each leaves when this many more are filed.
+const STAYING: u8 = 10;
+
 /// The one regulation, from 36000 on for two hours, with 12 flights per hour.
 fn profile(alloc: Global) -> Result<Profile, Fail> {
     let period = Period {
@@ -21,13 +24,14 @@ fn profile(alloc: Global) -> Result<Profile, Fail> {
     Ok(Profile::new(alloc, &[period])?)
 }
 
-/// Flight `i`: its key, off-block time and time over. One in four is due when it is filed at the start of the day.
+/// Flight `i`: its key, time over and off-block time. Times over lie close, so that most filings and departures move
+/// others; one flight in four is due when it is filed at the start of the day.
 fn flight(i: u8) -> Result<(Comp, Moment), Fail> {
     let i = u32::from(i);
     let letter = |n: u32| b'A' + (n % 26) as u8;
     let text = [letter(i * 11), letter(i / 26), letter(i)];
     let key = Key::new(&text).ok_or("a key")?;
-    let eto = Moment::new(36_000 + i * 2_411 % 7_200)?;
+    let eto = Moment::new(36_000 + i * 2_411 % 2_700)?;
     let eobt = if i % 4 == 0 { 7_000 } else { 30_000 };
     Ok((Comp { eto, key }, Moment::new(eobt)?))
 }
@@ -85,6 +89,12 @@ fn chains_equal_plain(rt: HostRuntime) -> Result<(), Fail> {
             list.issue(&comp.key);
         }
         assert!(rt; are_equal(&list, &listed(alloc, &mut plain, reg)?));
+        if let Some(first) = i.checked_sub(STAYING) {
+            let (leaving, _eobt) = flight(first)?;
+            plain.step(alloc, &Call::Cancel(leaving.key))?;
+            list.leave(&leaving.key);
+            assert!(rt; are_equal(&list, &listed(alloc, &mut plain, reg)?));
+        }
     }
     Ok(())
 }

@@ -70,7 +70,7 @@ pub trait Desk {
 /// Answers each line of the reader at the writer, and says how many there were.
 ///
 /// Each reply is written before a read that may wait. A session ends at its first fault: what it had written
-/// and answered by then stands, and the call of a refused line may stand in the history.
+/// and answered by then stands; so may a call whose reply could not be made or written.
 pub fn run<R: Read, W: Write, D: Desk>(
     alloc: Global,
     reader: &mut R,

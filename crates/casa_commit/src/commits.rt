@@ -41,6 +41,7 @@ pub fn commit<W: World>(
     ensures receipt { IfOk result (λ r. r ≡ receipt (length (entries room.old.history) + 1)
         (entry pass.old.desk prepared.call prepared.reply)) }
     ensures pass { IfOk result (λ r. PassWith pass.old r pass.new) }
+    ensures changes { OnOk result ∥ W.changes (W.state room.old.world) prepared.call prepared.change ∥₁ }
     ensures world { OnOk result (W.applied room.old.world (length (entries room.old.history) + 1)
         prepared.change room.new.world) }
     ensures replay { W.state room.new.world ≡ replay W.after W.opening (entries room.new.history) }
@@ -89,8 +90,8 @@ pub fn locked<W: World, F: Fn(&W::View, &W::Call) -> Result<(W::Reply, W::Change
     ensures receipt { IfOk result (λ r. r ≡ receipt (length (entries room.old.history) + 1)
         (entry pass.old.desk call.now (W.reply (W.state room.old.world) call.now))) }
     ensures pass { IfOk result (λ r. PassWith pass.old r pass.new) }
-    ensures world { OnOk result ((d : W.Change) ×
-        W.applied room.old.world (length (entries room.old.history) + 1) d room.new.world) }
+    ensures world { OnOk result ((d : W.Change) × ∥ W.changes (W.state room.old.world) call.now d ∥₁
+        × W.applied room.old.world (length (entries room.old.history) + 1) d room.new.world) }
     ensures replay { W.state room.new.world ≡ replay W.after W.opening (entries room.new.history) }
     ensures same_history { OnErr result (entries room.new.history ≡ entries room.old.history) }
     ensures same_pass { OnErr result (SamePass pass.old pass.new) }

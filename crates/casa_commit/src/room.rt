@@ -122,6 +122,7 @@ impl<W: World> Room<W> {
         ensures receipt { IfOk result (λ r. r ≡ receipt (length (entries self.old.history) + 1)
             (entry pass.old.desk prepared.call prepared.reply)) }
         ensures pass { IfOk result (λ r. PassWith pass.old r pass.new) }
+        ensures changes { OnOk result ∥ W.changes (W.state self.old.world) prepared.call prepared.change ∥₁ }
         ensures world { OnOk result (W.applied self.old.world (length (entries self.old.history) + 1)
             prepared.change self.new.world) }
         ensures back { IfErr result (λ p. p ≡ prepared) }

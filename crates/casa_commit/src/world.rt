@@ -60,7 +60,7 @@ pub trait World {
     /// The second world is the first with the change of the entry with this number applied.
     ghost applied: { Self → ℕ → Self.Change → Self → Type 0 };
 
-    /// What the call reads, with the present marks.
+    /// What the call reads, with the present marks. `AllocError` where there is no memory for it.
     fn view(&self, call: &Self::Call) -> Result<Self::View, AllocError>
         ensures for_call { IfOk result (λ v. is_for v call.now) }
         ensures of_world { IfOk result (λ v. is_of v self.now) }
@@ -73,7 +73,8 @@ pub trait World {
         ensures current { IsTrue result ↔ is_current self.now view.now }
         ensures shown { IsTrue result → good (state self.now) → shows (state self.now) view.now };
 
-    /// Makes all growths of a change, which the entry with this number will apply.
+    /// Makes all growths of a change, which the entry with this number will apply. `AllocError` where one is refused;
+    /// nothing but spare memory has changed then.
     fn fits(&mut self, number: usize, change: &Self::Change) -> Result<(), AllocError>
         ensures alike { alike self.old self.new }
         ensures room { OnOk result (has_room self.new number change.now) };
@@ -83,11 +84,11 @@ pub trait World {
         requires { has_room self.old number change }
         ensures { applied self.old number change self.new };
 
-    /// The same call in memory of its own.
+    /// The same call in memory of its own. `AllocError` where there is none.
     fn copy_call(call: &Self::Call) -> Result<Self::Call, AllocError>
         ensures { IfOk result (λ copy. copy ≡ call.now) };
 
-    /// The same reply in memory of its own.
+    /// The same reply in memory of its own. `AllocError` where there is none.
     fn copy_reply(answer: &Self::Reply) -> Result<Self::Reply, AllocError>
         ensures { IfOk result (λ copy. copy ≡ answer.now) };
 

@@ -257,8 +257,9 @@ close_stays m n id row regs not_its by governs a opened =
     let unlike : same_text id by ≡ false = ap (λ (w : Option Text). option_map_or (same_text id) w false) (sym governs) ∙ not_its in
     (a, ap (λ (es : List (Text × Measure)). at_name es by) regs ∙ at-without_other by id m.regs (apart id by unlike) ∙ opened, refl)
 
-freed_plan : (id : Text) (row : Row) → (freed (is_governed_by id row) row).plan ≡ row.plan
-freed_plan id row = elim (is_governed_by id row) as (λ b. (freed b row).plan ≡ row.plan) [ true ↦ refl | false ↦ refl ]
+pub freed_plan : (b : Bool) (row : Row) → (freed b row).plan ≡ row.plan
+freed_plan true row = refl
+freed_plan false row = refl
 
 -- whom a regulation governs
 governed_name : (id : Text) (g : Option Text) → option_map_or (same_text id) g false ≡ true → g ≡ Some id
@@ -299,7 +300,7 @@ close_message m id measure key row x good later found h = by (option_map_or test
     by true t =
         let old = passing_row m key test t in
         let g : IsGoverned m.clock m.regs old.0 id = governed_by m key old.0 id good old.1 (governed_name id old.0.governing old.2) in
-        let plans : row.plan ≡ old.0.plan = was_there s cs key row (free old.0) found (closed_row ∙ ap (option_map free) old.1) ∙ freed_plan id old.0 in
+        let plans : row.plan ≡ old.0.plan = was_there s cs key row (free old.0) found (closed_row ∙ ap (option_map free) old.1) ∙ freed_plan (is_governed_by id old.0) old.0 in
         message_cases Q key row.governing (is_issued (row_of m key)) (is_some row.issued) (ctot_before m key) (ctot_of n key row)
         (λ reg governs was now.
         let r : IsGoverned n.clock n.regs row reg = governed_by n key row reg later found governs in

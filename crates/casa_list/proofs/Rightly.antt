@@ -1,11 +1,11 @@
 -- the walk gives the places of the definitions
-use Rattle.std.proofs.Common.{◌≡◌, ℕ, ◌+◌, ◌-◌, ◌<◌, ◌≤◌, List, [], ◌∷◌, ◌++◌, length, Bool, true, false, not, ◌&&◌, ◌||◌, ◌==◌, nat_lt, refl, sym, ◌∙◌, ap, subst, arith, zero, suc, ◌⊎◌, inl, inr, cond, Option, None, Some, max, count_by}
+use Rattle.std.proofs.Common.{◌≡◌, ℕ, ◌+◌, ◌-◌, ◌<◌, ◌≤◌, List, [], ◌∷◌, ◌++◌, length, Bool, true, false, not, ◌||◌, ◌==◌, refl, sym, ◌∙◌, ap, subst, arith, zero, suc, ◌⊎◌, inl, inr, cond, Option, None, Some, max, count_by}
 use Rattle.std.specs.Option.{option_map_or}
 use Rattle.std.specs.List.{range_with_len, find, slice_get, list_any}
 use Rattle.std.proofs.lemmas.List.{length-map}
 use Rattle.std.proofs.lemmas.List.Folds.{list_any-append}
 use Rattle.std.proofs.lemmas.List.Sums.{sum_by-cons}
-use Rattle.std.proofs.lemmas.Bool.{cases_lt, cases_eq, and_parts, and_from, ltb-true, lt-ltb, leb-true, le-leb, both_ways, or_cases, or_left, or_right, eqb-true, eq-eqb, false_from_ne_true}
+use Rattle.std.proofs.lemmas.Bool.{cases_lt, cases_eq, and_from, ltb-true, lt-ltb, leb-true, le-leb, both_ways, or_cases, or_left, or_right, eqb-true, eq-eqb, false_from_ne_true}
 use Rattle.casa_grid.specs.declared.slot.Place.{Place}
 use Rattle.casa_grid.specs.declared.slot.Place.TheVariants.{Slot, Over}
 use Rattle.casa_grid.specs.declared.slot.Window.{Window}
@@ -16,6 +16,7 @@ use Rattle.casa_flight.specs.Assignment.{Occupancy, is_from, is_blocked, is_open
 use Rattle.casa_flight.specs.Listing.{Listing, competitors, occupancy, places}
 use Rattle.casa_flight.proofs.Assignment.{served_once, place_served, IsFirstFrom, find_first}
 use Rattle.casa_flight.proofs.Rising.{AreFrom, AreRising, open_rises, rising-competitors}
+use Rattle.casa_flight.proofs.Issue.{open_parts}
 use Rattle.casa_list.specs.Blocked.{counts, issued_times}
 use Rattle.casa_list.specs.Walk.{is_clear, place_asked, place_low, low_after, walked}
 
@@ -61,11 +62,10 @@ record IsOpenAt (o : Occupancy) (eto k : ℕ) : Type 0 where
   from : is_from (wanted o.slots eto) k ≡ true
   clear : not (is_blocked o k) ≡ true
 
-open_parts : (o : Occupancy) (eto k : ℕ) → is_open o eto k ≡ true → IsOpenAt o eto k
-open_parts o eto k h =
-    let outer : (nat_lt k (length o.slots) ≡ true) × ((is_from (wanted o.slots eto) k && not (is_blocked o k)) ≡ true) = and_parts _ _ h in
-    let inner : (is_from (wanted o.slots eto) k ≡ true) × (not (is_blocked o k) ≡ true) = and_parts _ _ outer.1 in
-    record { listed = ltb-true _ _ outer.0; from = inner.0; clear = inner.1 }
+open_at : (o : Occupancy) (eto k : ℕ) → is_open o eto k ≡ true → IsOpenAt o eto k
+open_at o eto k h =
+    let parts = open_parts o eto k h in
+    record { listed = ltb-true _ _ parts.0; from = parts.1; clear = ap not parts.2 }
 
 -- what is found lies in the range
 pub find_from : (p : ℕ → Bool) (a n i : ℕ) → find p (range_with_len a n) ≡ Some i → (a ≤ i) × (i < a + n) × (p i ≡ true)
@@ -80,7 +80,7 @@ served_found : (o : Occupancy) (earlier : List Assigned) (low eto asked m : ℕ)
     (found : Option ℕ) → find (is_clear (counted o)) (range_with_len m (length o.slots - m)) ≡ found → IsFirstFrom (is_clear (counted o)) m (length o.slots - m) found → IsServed o earlier eto (place_from found)
 served_found o earlier low eto asked m asks is h None found first =
     λ k lt open_is.
-    let at : IsOpenAt o eto k = open_parts o eto k open_is in
+    let at : IsOpenAt o eto k = open_at o eto k open_is in
     let from : asked ≤ k = leb-true _ _ (subst (λ w. is_from w k ≡ true) asks at.from) in
     elim (cases_lt k low) [
       | inl under ↦ h.filled k under open_is
@@ -94,7 +94,7 @@ served_found o earlier low eto asked m asks is h (Some j) found first =
       and_from _ _ (lt-ltb _ _ lt) (and_from _ _ from (sym (clear_is o j lt) ∙ first.1)),
       false_from_ne_true _ (λ taken. let under : j < low = h.below j taken in absurd (omega (arith, under, at_least, is))),
       λ k before open_is.
-          let at : IsOpenAt o eto k = open_parts o eto k open_is in
+          let at : IsOpenAt o eto k = open_at o eto k open_is in
           let k_from : asked ≤ k = leb-true _ _ (subst (λ w. is_from w k ≡ true) asks at.from) in
           elim (cases_lt k low) [
             | inl under ↦ h.filled k under open_is
@@ -104,7 +104,7 @@ served_found o earlier low eto asked m asks is h (Some j) found first =
 
 served_at : (o : Occupancy) (earlier : List Assigned) (low eto : ℕ) (asked : Option ℕ) → wanted o.slots eto ≡ asked → IsLow o earlier low eto → IsServed o earlier eto (place_asked (counted o) low asked)
 served_at o earlier low eto None asks h =
-    λ k lt open_is. absurd (both_ways _ (ap (λ w. is_from w k) asks) (open_parts o eto k open_is).from)
+    λ k lt open_is. absurd (both_ways _ (ap (λ w. is_from w k) asks) (open_at o eto k open_is).from)
 served_at o earlier low eto (Some asked) asks h =
     let size : length (counted o) ≡ length o.slots = length-counts o.slots o.issued in
     let m : ℕ = max asked low in
@@ -132,7 +132,7 @@ after_slot n k lt = ap (λ b. cond b (k + 1) n) (lt-ltb k n lt)
 
 low_step : (o : Occupancy) (earlier : List Assigned) (low : ℕ) (c : Comp) (p : Place) → IsLow o earlier low c.eto → IsServed o earlier c.eto p → IsLow o (earlier ++ record { comp = c; place = p } ∷ []) (low_after (length o.slots) p) c.eto
 low_step o earlier low c (Slot j) h served =
-    let lt : j < length o.slots = (open_parts o c.eto j served.0).listed in
+    let lt : j < length o.slots = (open_at o c.eto j served.0).listed in
     let above : low ≤ j = elim (cases_lt j low) [ inl under ↦ absurd (both_ways _ served.1 (h.filled j under served.0)) | inr at_least ↦ at_least ] in
     subst (λ m. IsLow o (earlier ++ record { comp = c; place = Slot j } ∷ []) m c.eto) (sym (after_slot (length o.slots) j lt))
     (record {

@@ -14,6 +14,8 @@ mod order;
 mod standing;
 mod walk;
 
+pub use casa_flight::Comp;
+pub use casa_grid::Place;
 pub use laws::places_are_right;
 pub use list::SlotList;
 pub use standing::Standing;

@@ -109,8 +109,8 @@ impl SlotList {
     /// Puts a competitor in and gives its place: the slot that it asks for or the first later one that is free
     /// or pre-allocated to a competitor behind it, which then looks on from there.
     ///
-    /// Competitors are ordered by estimated time over and, among equal times, by key. `AllocError` where there
-    /// is no memory for the flight; the list is then as it was.
+    /// Competitors are ordered by estimated time over and, among equal times, by key. The key must not be in the
+    /// list. `AllocError` where there is no memory for the flight; the list is then as it was.
     pub fn enter(&mut self, comp: Comp) -> Result<Place, AllocError>
         requires { stance_of self.old comp.key ≡ None }
         ensures entered { OnOk result (self.new ≡ with_competitor self.old comp.key comp.eto) }
@@ -127,7 +127,7 @@ impl SlotList {
         Ok(put_competitor(&self.grid, blocked, competitors, at, comp))
     }
 
-    /// The place that `enter` would give.
+    /// The place that `enter` would give. The key must not be in the list.
     pub fn would_get(&self, comp: &Comp) -> Place
         requires { stance_of self.now comp.now.key ≡ None }
         ensures { result ≡ place_of (with_competitor self.now comp.now.key comp.now.eto) comp.now.key }
@@ -139,7 +139,7 @@ impl SlotList {
     }
 
     /// Puts an issued flight in, with this calculated time over. The competitor that has its slot looks on from
-    /// there.
+    /// there. The key must not be in the list.
     ///
     /// `AllocError` where there is no memory for the flight; the list is then as it was.
     pub fn hold(&mut self, comp: Comp, cto: Moment) -> Result<(), AllocError>
@@ -163,7 +163,7 @@ impl SlotList {
         Ok(())
     }
 
-    /// Puts a flight in that takes no slot.
+    /// Puts a flight in that takes no slot. The key must not be in the list.
     ///
     /// `AllocError` where there is no memory for the flight; the list is then as it was.
     pub fn force(&mut self, comp: Comp) -> Result<(), AllocError>

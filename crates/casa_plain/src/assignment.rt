@@ -1,6 +1,6 @@
 //! Places: the earliest open slot that no earlier competitor has, competitor by competitor.
 
-ghost use Rattle.std.specs.Prelude.{◌≡◌, false, IfOk, length, option_copied};
+ghost use Rattle.std.specs.Prelude.{◌≡◌, ℕ, false, IfOk, length, option_copied};
 ghost use Rattle.std.specs.List.{find, list_any, range_with_len};
 ghost use Rattle.std.specs.Option.{option_map_or};
 ghost use Rattle.casa_grid.specs.declared.slot.Window.{Window};
@@ -59,11 +59,12 @@ fn is_from(asked: Option<usize>, k: usize) -> bool
     }
 }
 
-/// Whether slot `k` is open to a flight with this time over.
-fn is_open(windows: &[Window], issued: &[Moment], eto: Moment, k: usize) -> bool
-    ensures { result ≡ is_open (record { slots = windows.now; issued = issued.now }) eto k }
+/// Whether slot `k` is open to a flight that asks for this slot.
+fn is_open(windows: &[Window], issued: &[Moment], asked: Option<usize>, k: usize) -> bool
+    ensures { (eto : ℕ) → asked ≡ wanted windows.now eto →
+        result ≡ is_open (record { slots = windows.now; issued = issued.now }) eto k }
 {
-    k < windows.len() && is_from(wanted(windows, eto), k) && !is_blocked(windows, issued, k)
+    k < windows.len() && is_from(asked, k) && !is_blocked(windows, issued, k)
 }
 
 /// Whether an earlier competitor has slot `k`.
@@ -76,17 +77,18 @@ fn is_taken(earlier: &[Assigned], k: usize) -> bool
     })
 }
 
-/// Whether slot `k` is open to the flight and no earlier competitor has it.
+/// Whether slot `k` is open to a flight that asks for this slot, and no earlier competitor has it.
 fn is_free(
     windows: &[Window],
     issued: &[Moment],
     earlier: &[Assigned],
-    eto: Moment,
+    asked: Option<usize>,
     k: usize,
 ) -> bool
-    ensures { result ≡ is_free (record { slots = windows.now; issued = issued.now }) earlier.now eto k }
+    ensures { (eto : ℕ) → asked ≡ wanted windows.now eto →
+        result ≡ is_free (record { slots = windows.now; issued = issued.now }) earlier.now eto k }
 {
-    is_open(windows, issued, eto, k) && !is_taken(earlier, k)
+    is_open(windows, issued, asked, k) && !is_taken(earlier, k)
 }
 
 /// The earliest free slot.
@@ -99,7 +101,8 @@ fn first_free(
     ensures { result ≡ find (is_free (record { slots = windows.now; issued = issued.now }) earlier.now eto)
         (range_with_len 0 (length windows.now)) }
 {
-    (0..windows.len()).find(|k| is_free(windows, issued, earlier, eto, *k))
+    let asked = wanted(windows, eto);
+    (0..windows.len()).find(|k| is_free(windows, issued, earlier, asked, *k))
 }
 
 /// The place at a slot; over without one.

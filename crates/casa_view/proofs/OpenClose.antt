@@ -22,7 +22,7 @@ use Rattle.casa_flight.specs.Steps.{most_regulations, flights_over, may_compete,
 use Rattle.casa_flight.specs.Good.{IsGood, IsGoodRow, IsFree, IsGoverned}
 use Rattle.casa_flight.proofs.Entries.{text_cmp, all_at, all-each, all-both, each_found, at-map, at-put_other, at-without_other, keys-map, sorted-put, sorted-remove, apart}
 use Rattle.casa_flight.proofs.EnterAll.{row-enter_all, clock-enter_all, all-flights_over, others}
-use Rattle.casa_flight.proofs.RegMessages.{competes}
+use Rattle.casa_flight.proofs.RegMessages.{competes, freed_plan}
 use Rattle.casa_view.specs.Items.{Item, the_clock, the_catalogue, a_row, a_list, moment, row_or_none, list_or_none, contents}
 use Rattle.casa_view.specs.Footprint.{is_subject, is_list_of, governs, enters, would_write, is_accepted}
 use Rattle.casa_view.proofs.EnterAll.{IsOrdered, list-enter_all}
@@ -88,10 +88,6 @@ open_spares id loc profile m good i h = by (measure_of m id) (nat_le most_regula
 none_from_any : {X : Type 0} (p : X → Bool) (xs : List X) → list_any p xs ≡ false → AllByRecursion (λ x. p x ≡ false) xs
 none_from_any p [] h = tt
 none_from_any p (x ∷ xs) h = let both = or_parts (p x) (list_any p xs) h in (both.0, none_from_any p xs both.1)
-
-freed_plan : (b : Bool) (row : Row) → (freed b row).plan ≡ row.plan
-freed_plan true row = refl
-freed_plan false row = refl
 
 -- a flight that is not subject to a regulation stays out of its list, freed or not
 freed_stance : (other : Text) (measure : Measure) (row : Row) (b : Bool) → (b && is_some (subject row.plan (regulation other measure))) ≡ false → stance_in other measure (freed b row) ≡ stance_in other measure row

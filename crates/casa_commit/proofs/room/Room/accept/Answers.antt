@@ -1,6 +1,6 @@
 use Rattle.std.specs.declared.vec.Vec.{Vec}
 use Rattle.std.proofs.Common.{Global, set, ◌<◌, ◌≡◌, ◌+◌, List, [], ◌∷◌, ◌++◌, length, refl, sym, ap, subst, ◌∙◌, rules}
-use Rattle.std.proofs.Math.Logic.{∥∥₁_elim}
+use Rattle.std.proofs.Math.Logic.{∥∥₁_elim, ∥∥₁_map}
 use Rattle.std.proofs.lemmas.Option.{get_or_from_slice_get, slice_get_read}
 use base.Stored.{Coded-set}
 use Rattle.casa_history.specs.declared.entry.Entry.{Entry}
@@ -31,6 +31,17 @@ returns-clause-reply g c =
     (good_replay W.good W.after m.good_after 1 W.opening es m.good_opening) in
     ∥∥₁_elim c.args.prepared.holds (Coded-set g.row.W-Reply.coded _ _)
     (λ h. (h (W.state w) fine (c.requires.shown fine)).0)
+
+-- so is the prepared change what it writes
+pub returns-clause-changes : goal.returns-clause-changes
+returns-clause-changes g c =
+    let W = g.W.World in
+    let m = g.met.W.World in
+    let w = c.args.self.now.world in
+    let es = entries c.args.self.now.history in
+    let fine = subst W.good (sym c.args.self.now.replayed)
+    (good_replay W.good W.after m.good_after 1 W.opening es m.good_opening) in
+    ∥∥₁_map c.args.prepared.holds (λ h. (h (W.state w) fine (c.requires.shown fine)).1)
 
 -- the change gives the state after the call, which is the replay with the new entry
 pub invariant_of-self-clause-replayed : goal.invariant_of-self-clause-replayed
