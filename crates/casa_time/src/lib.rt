@@ -9,4 +9,3 @@ mod moment;
 
 pub use clock::{due, hhmm};
 pub use moment::{Moment, TimeFault};
-
