@@ -80,7 +80,7 @@ offer_from regs rows key plan id measure o found h =
     ] refl h
 
 -- an open regulation has a list, and so what it offers follows from the plan
-offer-is : (m : State) (key : Text) (plan : FlightPlan) (id : Text) (measure : Measure) → at_name m.regs id ≡ Some measure
+pub offer-is : (m : State) (key : Text) (plan : FlightPlan) (id : Text) (measure : Measure) → at_name m.regs id ≡ Some measure
     → offer (situation m) key plan (regulation id measure) ≡ offer_in id key (Some (listing m.rows id measure)) (subject plan (regulation id measure))
 offer-is m key plan id measure found = ap (λ (w : Option Measure). offer_in id key (option_map (listing m.rows id) w) (subject plan (regulation id measure))) found
 
@@ -97,7 +97,7 @@ best_among P beats x [] h all = h
 best_among {X} P beats x (y ∷ ys) h all =
     best_among P beats (cond (beats y x) y x) ys (elim (beats y x) as (λ (b : Bool). P (cond b y x)) [ true ↦ all.0 | false ↦ h ]) all.1
 
-most_among : (P : Offer → Type 0) (os : List Offer) (o : Offer) → AllByRecursion P os → most_penalising os ≡ Some o → P o
+pub most_among : (P : Offer → Type 0) (os : List Offer) (o : Offer) → AllByRecursion P os → most_penalising os ≡ Some o → P o
 most_among P [] o all h = cc
 most_among P (x ∷ xs) o all h =
     let beats : Offer → Offer → Bool = λ (x best : Offer). nat_lt best.delay x.delay in
@@ -109,7 +109,7 @@ pub choice-offer : (m : State) (key : Text) (plan : FlightPlan) (o : Offer) → 
 choice-offer m key plan o sorted h = most_among (IsOfferOf m.regs plan) (offers (situation m) key plan) o (each_offer m key plan sorted) h
 
 -- there is a choice if there is an offer
-most_none : (os : List Offer) → most_penalising os ≡ None → os ≡ []
+pub most_none : (os : List Offer) → most_penalising os ≡ None → os ≡ []
 most_none [] h = refl
 most_none (o ∷ os) h = cc
 

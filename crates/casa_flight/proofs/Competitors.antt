@@ -146,7 +146,7 @@ ranked-next cs e fs =
       | Some c ↦ refl
     ]
 
-less_apart : (k q : Text) → text_cmp k q ≡ Less → k ≡ q → ⊥
+pub less_apart : (k q : Text) → text_cmp k q ≡ Less → k ≡ q → ⊥
 less_apart k q less same =
     let tied : is_eq (text_cmp k q) ≡ true = subst (λ (p : Text). is_eq (text_cmp k p) ≡ true) same (itself k) in
     both_ways _ (ap is_eq less) tied

@@ -117,7 +117,7 @@ all-drop P (suc n) (x ∷ xs) h = all-drop P n xs h.1
 all-insert : {X : Type 0} (P : X → Type 0) (xs : List X) (n : ℕ) (x : X) → P x → AllByRecursion P xs → AllByRecursion P (insert xs n x)
 all-insert P xs n x p h = all-append P (take n xs) (x ∷ drop n xs) (all-take P n xs h) (p, all-drop P n xs h)
 
-all-fold : {X : Type 0} (P : X → Type 0) (precedes : X → X → Bool) (xs ys : List X) → AllByRecursion P xs → AllByRecursion P ys → AllByRecursion P (fold (λ (zs : List X) (x : X). put_by precedes x zs) ys xs)
+pub all-fold : {X : Type 0} (P : X → Type 0) (precedes : X → X → Bool) (xs ys : List X) → AllByRecursion P xs → AllByRecursion P ys → AllByRecursion P (fold (λ (zs : List X) (x : X). put_by precedes x zs) ys xs)
 all-fold P precedes [] ys h g = g
 all-fold P precedes (x ∷ xs) ys h g =
     all-fold P precedes xs (put_by precedes x ys) h.1 (all-insert P ys (unwrap_or (position (λ y. not (precedes y x)) ys) (length ys)) x h.0 g)

@@ -20,4 +20,6 @@ pub mod Told
 pub mod EnterAll
 pub mod CallMessages
 pub mod RegMessages
+pub mod InOrder
+pub mod Chosen
 mod Worked

@@ -101,7 +101,7 @@ contains-first : {Y : Type 0} (w : Option Y) (ys : List Y) (y : Y) → w ≡ Som
 contains-first None ys y h = cc
 contains-first (Some z) ys y h = let same : z ≡ y = cc in (0, omega arith, same)
 
-contains-given : {X Y : Type 0} (g : Text × X → Option Y) (k : Text) (v : X) (y : Y) (es : List (Text × X)) → at_name es k ≡ Some v → g (k, v) ≡ Some y → Contains (filter_map g es) y
+pub contains-given : {X Y : Type 0} (g : Text × X → Option Y) (k : Text) (v : X) (y : Y) (es : List (Text × X)) → at_name es k ≡ Some v → g (k, v) ≡ Some y → Contains (filter_map g es) y
 contains-given g k v y [] found h = cc
 contains-given {X} {Y} g k v y (e ∷ es) found h =
     elim (is_eq (text_cmp k e.0)) as (λ b. is_eq (text_cmp k e.0) ≡ b → cond b (Some e.1) (at_name es k) ≡ Some v → Contains (filter_map g (e ∷ es)) y) [

@@ -1,11 +1,12 @@
 //! Laws of the definitions, each on a function that does nothing: what the contracts of this crate mean.
 
-ghost use Rattle.std.specs.Prelude.{◌≡◌, ℕ, ◌-◌, List, [], ◌∷◌, ◌++◌, take, length, map, not, Some, None, true, unwrap_or};
+ghost use Rattle.std.specs.Prelude.{◌≡◌, ◌↔◌, ◌⊎◌, ℕ, ◌-◌, ◌≤◌, List, [], ◌∷◌, ◌++◌, take, length, map, not, Some, None, true, is_some, unwrap_or};
 ghost use Rattle.std.specs.Option.{option_map, option_and_then};
 ghost use Rattle.std.specs.List.{All, Contains, filter};
 ghost use Rattle.std.specs.List.Sorted.{IsStrictlySortedBy};
 ghost use Rattle.std.specs.Cmp.Lexicographic.{slice_cmp};
 ghost use Rattle.std.specs.Ordering.{nat_cmp};
+ghost use Rattle.std.specs.declared.cmp.Ordering.TheVariants.{Less};
 ghost use Rattle.casa_grid.specs.Profile.{IsProfile, end_of};
 ghost use Rattle.casa_grid.specs.Slots.{slots};
 ghost use Rattle.casa_grid.specs.TimeOver.{cto};
@@ -21,7 +22,8 @@ ghost use Rattle.casa_flight.specs.State.{row_of, measure_of, with_row, regulati
 ghost use Rattle.casa_flight.specs.Assignment.{Occupancy, IsRight, assignment, Precedes};
 ghost use Rattle.casa_flight.specs.Listing.{Listing, listing, list_of, stance_in, stance_of, places, place_of};
 ghost use Rattle.casa_flight.specs.Listing.{cto_of, delay_of, governing_list};
-ghost use Rattle.casa_flight.specs.Entry.{Offer, situation, offer};
+ghost use Rattle.casa_flight.specs.Entry.{Offer, situation, offer, offers, choice};
+ghost use Rattle.casa_flight.specs.FlightPlan.{FlightPlan};
 ghost use Rattle.casa_flight.specs.Good.{AreInOrder, IsGood};
 ghost use Rattle.casa_flight.specs.State.{empty};
 ghost use Rattle.casa_flight.specs.Steps.{refused, step, next};
@@ -105,6 +107,34 @@ pub fn offer_is_the_delay_there()
         let there : Row = record row { governing = Some id; issued = None } in
         option_map (λ (o : Offer). o.cto) (offer (situation m) key row.plan (regulation id measure)) ≡
         option_and_then (λ (l : Listing). cto_of l key) (governing_list (with_row m key there) there) }
+{}
+
+/// The choice is the most penalising of the offers: one of them, none delays more, and of those that delay as much it
+/// has the smallest identifier. There is none exactly where nothing is offered.
+pub fn choice_is_most_penalising()
+    ensures among { (m : State) (key : Text) (plan : FlightPlan) (best : Offer) →
+        choice (situation m) key plan ≡ Some best → Contains (offers (situation m) key plan) best }
+    ensures greatest { (m : State) (key : Text) (plan : FlightPlan) (best : Offer) →
+        choice (situation m) key plan ≡ Some best →
+        All (λ (o : Offer). o.delay ≤ best.delay) (offers (situation m) key plan) }
+    ensures ties { (m : State) (key : Text) (plan : FlightPlan) (best o : Offer) → AreInOrder m.regs →
+        choice (situation m) key plan ≡ Some best → Contains (offers (situation m) key plan) o →
+        o.delay ≡ best.delay → (best ≡ o) ⊎ (slice_cmp nat_cmp best.id o.id ≡ Less) }
+    ensures none { (m : State) (key : Text) (plan : FlightPlan) →
+        choice (situation m) key plan ≡ None ↔ offers (situation m) key plan ≡ [] }
+{}
+
+/// The offers to a flight are those of the open regulations, and an open regulation makes one exactly where the
+/// flight's plan is subject to it.
+pub fn offers_are_of_open_regulations()
+    ensures open { (m : State) (key : Text) (plan : FlightPlan) (o : Offer) → AreInOrder m.regs →
+        Contains (offers (situation m) key plan) o ↔
+        (measure : Measure) × (measure_of m o.id ≡ Some measure) ×
+        (offer (situation m) key plan (regulation o.id measure) ≡ Some o) }
+    ensures subject { (m : State) (key id : Text) (plan : FlightPlan) (measure : Measure) →
+        measure_of m id ≡ Some measure →
+        is_some (offer (situation m) key plan (regulation id measure)) ≡
+        is_some (subject plan (regulation id measure)) }
 {}
 
 /// A competitor that becomes issued at the calculated time over that it has moves nobody: in a list with a valid
