@@ -29,7 +29,7 @@ above-behind : {X : Type 0} (k q : Text) (w : Option X) (es : List (Text × X)) 
 above-behind k q None es less h = h
 above-behind k q (Some x) es less h = (less, h)
 
-above-kept : {X Y : Type 0} (f : X → Option Y) (k : Text) (es : List (Text × X)) → Above k es → Above k (kept f es)
+pub above-kept : {X Y : Type 0} (f : X → Option Y) (k : Text) (es : List (Text × X)) → Above k es → Above k (kept f es)
 above-kept f k [] h = tt
 above-kept f k (e ∷ es) h = above-behind k e.0 (f e.1) (kept f es) h.0 (above-kept f k es h.1)
 

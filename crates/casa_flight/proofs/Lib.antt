@@ -22,4 +22,5 @@ pub mod CallMessages
 pub mod RegMessages
 pub mod InOrder
 pub mod Chosen
+pub mod Planned
 mod Worked

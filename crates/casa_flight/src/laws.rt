@@ -2,7 +2,7 @@
 
 ghost use Rattle.std.specs.Prelude.{◌≡◌, ◌↔◌, ◌⊎◌, ℕ, ◌-◌, ◌≤◌, List, [], ◌∷◌, ◌++◌, take, length, map, not, Some, None, true, is_some, unwrap_or};
 ghost use Rattle.std.specs.Option.{option_map, option_and_then};
-ghost use Rattle.std.specs.List.{All, Contains, filter};
+ghost use Rattle.std.specs.List.{All, AllPairs, Contains, filter};
 ghost use Rattle.std.specs.List.Sorted.{IsStrictlySortedBy};
 ghost use Rattle.std.specs.Cmp.Lexicographic.{slice_cmp};
 ghost use Rattle.std.specs.Ordering.{nat_cmp};
@@ -21,6 +21,7 @@ ghost use Rattle.casa_flight.specs.Text.{Text, same_text, put, without};
 ghost use Rattle.casa_flight.specs.State.{row_of, measure_of, with_row, regulation, subject};
 ghost use Rattle.casa_flight.specs.Assignment.{Occupancy, IsRight, assignment, Precedes};
 ghost use Rattle.casa_flight.specs.Listing.{Listing, listing, list_of, stance_in, stance_of, places, place_of};
+ghost use Rattle.casa_flight.specs.Listing.{is_before, competitors};
 ghost use Rattle.casa_flight.specs.Listing.{cto_of, delay_of, governing_list};
 ghost use Rattle.casa_flight.specs.Entry.{Offer, situation, offer, offers, choice};
 ghost use Rattle.casa_flight.specs.FlightPlan.{FlightPlan};
@@ -52,6 +53,17 @@ pub fn places_rise()
     ensures { (l : Listing) (before : List Assigned) (a : Assigned) (between : List Assigned) (b : Assigned)
         (after : List Assigned) →
         places l ≡ before ++ a ∷ between ++ b ∷ after → Precedes a.place b.place }
+{}
+
+/// The lists of a state are in the order of their keys. The competitors of such a list are its flights that compete,
+/// and each is planned before all later ones, by time over and, among equal times, by key: so each is there once.
+pub fn competitors_are_in_order()
+    ensures lists { (m : State) (id : Text) (l : Listing) →
+        AreInOrder m.rows → list_of m id ≡ Some l → AreInOrder l.flights }
+    ensures who { (l : Listing) (c : Comp) → AreInOrder l.flights →
+        Contains (competitors l) c ↔ (stance_of l c.key ≡ Some (Competing c.eto)) }
+    ensures order { (l : Listing) → AreInOrder l.flights →
+        AllPairs (λ (a b : Comp). is_before a b ≡ true) (competitors l) }
 {}
 
 /// A written or removed row changes the entry of its own flight in each list, and nothing else there. A flight
