@@ -1,6 +1,6 @@
 //! Laws of the definitions, each on a function that does nothing: what the contracts of this crate mean.
 
-ghost use Rattle.std.specs.Prelude.{◌≡◌, ◌↔◌, ◌⊎◌, ℕ, ◌-◌, ◌≤◌, List, [], ◌∷◌, ◌++◌, take, length, map, not, Some, None, true, is_some, unwrap_or};
+ghost use Rattle.std.specs.Prelude.{◌≡◌, ◌↔◌, ◌⊎◌, ℕ, ◌-◌, ◌≤◌, Bool, List, [], ◌∷◌, ◌++◌, take, length, map, not, Some, None, true, is_some, unwrap_or};
 ghost use Rattle.std.specs.Option.{option_map, option_and_then};
 ghost use Rattle.std.specs.List.{All, AllPairs, Contains, filter};
 ghost use Rattle.std.specs.List.Sorted.{IsStrictlySortedBy};
@@ -17,7 +17,7 @@ ghost use Rattle.casa_flight.specs.declared.row.Row.{Row};
 ghost use Rattle.casa_flight.specs.declared.row.Stance.{Stance};
 ghost use Rattle.casa_flight.specs.declared.row.Stance.TheVariants.{Competing, Issued};
 ghost use Rattle.casa_flight.specs.declared.state.State.{State};
-ghost use Rattle.casa_flight.specs.Text.{Text, same_text, put, without};
+ghost use Rattle.casa_flight.specs.Text.{Text, same_text, at_name, put, without};
 ghost use Rattle.casa_flight.specs.State.{row_of, measure_of, with_row, regulation, subject};
 ghost use Rattle.casa_flight.specs.Assignment.{Occupancy, IsRight, assignment, Precedes};
 ghost use Rattle.casa_flight.specs.Listing.{Listing, listing, list_of, stance_in, stance_of, places, place_of};
@@ -27,8 +27,10 @@ ghost use Rattle.casa_flight.specs.Entry.{Offer, situation, offer, offers, choic
 ghost use Rattle.casa_flight.specs.FlightPlan.{FlightPlan};
 ghost use Rattle.casa_flight.specs.Good.{AreInOrder, IsGood};
 ghost use Rattle.casa_flight.specs.State.{empty};
-ghost use Rattle.casa_flight.specs.Steps.{refused, step, next};
-ghost use Rattle.casa_flight.specs.Replies.{reply};
+ghost use Rattle.casa_flight.specs.Steps.{refused, step, next, flights_over};
+ghost use Rattle.casa_flight.specs.Replies.{reply, row_in, is_row_before, list_rows};
+ghost use Rattle.casa_flight.specs.declared.regulation.Regulation.{Regulation};
+ghost use Rattle.casa_flight.specs.declared.reply.ListRow.{ListRow};
 ghost use Rattle.casa_flight.specs.Messages.{messages_in, told, CanCome, is_silent, Tells};
 ghost use Rattle.casa_flight.specs.declared.call.Call.{Call};
 ghost use Rattle.casa_flight.specs.declared.call.Refusal.{Refusal};
@@ -64,6 +66,24 @@ pub fn competitors_are_in_order()
         Contains (competitors l) c ↔ (stance_of l c.key ≡ Some (Competing c.eto)) }
     ensures order { (l : Listing) → AreInOrder l.flights →
         AllPairs (λ (a b : Comp). is_before a b ≡ true) (competitors l) }
+{}
+
+/// The flights that enter when a regulation is opened or closed are those whose rows pass the test and whose plans are
+/// subject to the regulation. Each enters once, at its time over there: the earlier first and, among equal times, by key.
+pub fn entering_flights_are_in_order()
+    ensures who { (test : Row → Bool) (r : Regulation) (rows : List (Text × Row)) (c : Comp) → AreInOrder rows →
+        Contains (flights_over test r rows) c ↔
+        (row : Row) × (at_name rows c.key ≡ Some row) × (test row ≡ true) × (subject row.plan r ≡ Some c.eto) }
+    ensures order { (test : Row → Bool) (r : Regulation) (rows : List (Text × Row)) → AreInOrder rows →
+        AllPairs (λ (a b : Comp). is_before a b ≡ true) (flights_over test r rows) }
+{}
+
+/// The rows of a list are those of its flights, each once, by calculated time over and, among equal times, by key.
+pub fn rows_are_in_order()
+    ensures who { (m : State) (l : Listing) (row : ListRow) → AreInOrder l.flights →
+        Contains (list_rows m l) row ↔ (option_map (row_in m l row.key) (stance_of l row.key) ≡ Some row) }
+    ensures order { (m : State) (l : Listing) → AreInOrder l.flights →
+        AllPairs (λ (a b : ListRow). is_row_before a b ≡ true) (list_rows m l) }
 {}
 
 /// A written or removed row changes the entry of its own flight in each list, and nothing else there. A flight
