@@ -5,7 +5,7 @@ use Rattle.std.specs.Option.{option_map_or}
 use Rattle.std.specs.List.{All, AllByRecursion, Contains, best_of, filter_map}
 use Rattle.std.proofs.lemmas.Bool.{ltb-true, ltb-false}
 use Rattle.std.proofs.lemmas.Cmp.{nat_list_cmp_total}
-use Rattle.std.proofs.lemmas.List.Elements.{All-contains, All-contains_itself, All-from_recursion, recursion_from_All}
+use Rattle.std.proofs.lemmas.List.Elements.{All-contains, All-from_recursion}
 use Rattle.casa_flight.specs.declared.regulation.Measure.{Measure}
 use Rattle.casa_flight.specs.declared.state.State.{State}
 use Rattle.casa_flight.specs.Text.{Text}
@@ -16,7 +16,7 @@ use Rattle.casa_flight.specs.Entry.{Offer, offer_in, offer, offers, most_penalis
 use Rattle.casa_flight.specs.Good.{AreInOrder}
 use Rattle.casa_flight.proofs.Entries.{text_cmp, filter_map-map}
 use Rattle.casa_flight.proofs.Choice.{offer-is, most_among, most_none}
-use Rattle.casa_flight.proofs.InOrder.{PairsByRecursion, HasName, names_rise, contains-kept}
+use Rattle.casa_flight.proofs.InOrder.{PairsByRecursion, each_itself, HasName, names_rise, contains-kept}
 
 abbrev best : Offer → List Offer → Offer
 best o os = best_of (λ (x best : Offer). nat_lt best.delay x.delay) o os
@@ -66,7 +66,7 @@ first_tied x (y ∷ ys) h =
 pub choice_among : (m : State) (key : Text) (plan : FlightPlan) (best : Offer) → choice (situation m) key plan ≡ Some best → Contains (offers (situation m) key plan) best
 choice_among m key plan best chosen =
     let os : List Offer = offers (situation m) key plan in
-    most_among (Contains os) os best (recursion_from_All (Contains os) os (All-contains_itself os)) chosen
+    most_among (Contains os) os best (each_itself os) chosen
 
 most_greatest : (os : List Offer) (o : Offer) → most_penalising os ≡ Some o → AllByRecursion (λ (x : Offer). x.delay ≤ o.delay) os
 most_greatest [] o h = cc

@@ -100,7 +100,7 @@ regs-enter_all s [] = refl
 regs-enter_all s (c ∷ cs) = regs-enter_all (reenter s c.key (row_of s c.key)) cs ∙ regs-reenter s c.key (row_of s c.key)
 
 -- what holds of each flight holds of each once they are put in order
-all-append : {X : Type 0} (P : X → Type 0) (xs ys : List X) → AllByRecursion P xs → AllByRecursion P ys → AllByRecursion P (xs ++ ys)
+pub all-append : {X : Type 0} (P : X → Type 0) (xs ys : List X) → AllByRecursion P xs → AllByRecursion P ys → AllByRecursion P (xs ++ ys)
 all-append P [] ys h g = g
 all-append P (x ∷ xs) ys h g = (h.0, all-append P xs ys h.1 g)
 

@@ -84,13 +84,13 @@ any-in_order : {X : Type 0} (precedes : X → X → Bool) (p : X → Bool) (xs :
 any-in_order precedes p xs = any-fold precedes p xs [] ∙ or_none (list_any p xs)
 
 -- a flight over a regulation, by whether it passes a test and its time over there
-abbrev comp_if : Bool → Option ℕ → Text → Option Comp
+abbrev pub comp_if : Bool → Option ℕ → Text → Option Comp
 comp_if b o key = cond b (option_map (λ (eto : ℕ). record { eto = eto; key = key }) o) None
 
 abbrev comps : (Row → Bool) → Regulation → List (Text × Row) → List Comp
 comps test r rows = filter_map (λ (e : Text × Row). comp_if (test e.1) (subject e.1.plan r) e.0) rows
 
-comp_if-key : (b : Bool) (o : Option ℕ) (key : Text) (c : Comp) → comp_if b o key ≡ Some c → c.key ≡ key
+pub comp_if-key : (b : Bool) (o : Option ℕ) (key : Text) (c : Comp) → comp_if b o key ≡ Some c → c.key ≡ key
 comp_if-key true (Some eto) key c h = let same : record { eto = eto; key = key } ≡ c = cc in sym (ap (λ (d : Comp). d.key) same)
 comp_if-key true None key c h = cc
 comp_if-key false o key c h = cc

@@ -49,7 +49,7 @@ each_fold P precedes (x ∷ xs) ys h =
     let here : P x × AllByRecursion P ys = each_put P precedes x ys later.0 in
     (here.1, (here.0, later.1))
 
-each_itself : {X : Type 0} (xs : List X) → AllByRecursion (Contains xs) xs
+pub each_itself : {X : Type 0} (xs : List X) → AllByRecursion (Contains xs) xs
 each_itself xs = recursion_from_All (Contains xs) xs (All-contains_itself xs)
 
 all_contained : {X : Type 0} (P : X → Type 0) (xs : List X) (x : X) → AllByRecursion P xs → Contains xs x → P x
@@ -87,22 +87,48 @@ turn-put {X} precedes on x (y ∷ ys) c h =
           subst (InTurn precedes) (sym (put_first precedes x y ys p)) ((less, rest), h)
     ] refl
 
-turn-fold : {X : Type 0} (precedes : X → X → Bool) → GoesOn precedes → (xs ys : List X) → PairsByRecursion (Comparable precedes) xs → AllByRecursion (λ (x : X). AllByRecursion (Comparable precedes x) ys) xs → InTurn precedes ys
-    → InTurn precedes (fold (λ (zs : List X) (x : X). put_by precedes x zs) ys xs)
-turn-fold precedes on [] ys c d h = h
-turn-fold {X} precedes on (x ∷ xs) ys c d h =
-    let more : AllByRecursion (λ (z : X). AllByRecursion (Comparable precedes z) (put_by precedes x ys)) xs =
-    all-each (λ (z : X). Comparable precedes x z × AllByRecursion (Comparable precedes z) ys) (λ (z : X). AllByRecursion (Comparable precedes z) (put_by precedes x ys))
-    (λ z q. all-put_by (Comparable precedes z) precedes x (flipped precedes x z q.0) ys q.1) xs
-    (all-both (Comparable precedes x) (λ (z : X). AllByRecursion (Comparable precedes z) ys) xs c.0 d.1) in
-    turn-fold precedes on xs (put_by precedes x ys) c.1 more (turn-put precedes on x ys d.0 h)
-
-all-always : {X : Type 0} (P : X → Type 0) → ((x : X) → P x) → (xs : List X) → AllByRecursion P xs
+pub all-always : {X : Type 0} (P : X → Type 0) → ((x : X) → P x) → (xs : List X) → AllByRecursion P xs
 all-always P f [] = tt
 all-always P f (x ∷ xs) = (f x, all-always P f xs)
 
+abbrev IsTwoWay : {X : Type 0} → (X → X → Type 0) → Type 0
+IsTwoWay {X} R = (x y : X) → R x y → R y x
+
+-- what stays so with each element that is put in, where R holds of it and those that are there, is so of what is in order
+put-keeps : {X : Type 0} (precedes : X → X → Bool) (R : X → X → Type 0) → IsTwoWay R → (Keeps : List X → Type 0)
+    → ((x : X) (ys : List X) → AllByRecursion (R x) ys → Keeps ys → Keeps (put_by precedes x ys))
+    → (xs ys : List X) → PairsByRecursion R xs → AllByRecursion (λ (x : X). AllByRecursion (R x) ys) xs → Keeps ys
+    → Keeps (fold (λ (zs : List X) (x : X). put_by precedes x zs) ys xs)
+put-keeps precedes R flip Keeps put [] ys pairs each h = h
+put-keeps {X} precedes R flip Keeps put (x ∷ xs) ys pairs each h =
+    let more : AllByRecursion (λ (z : X). AllByRecursion (R z) (put_by precedes x ys)) xs =
+    all-each (λ (z : X). R x z × AllByRecursion (R z) ys) (λ (z : X). AllByRecursion (R z) (put_by precedes x ys))
+    (λ z q. all-put_by (R z) precedes x (flip x z q.0) ys q.1) xs
+    (all-both (R x) (λ (z : X). AllByRecursion (R z) ys) xs pairs.0 each.1) in
+    put-keeps precedes R flip Keeps put xs (put_by precedes x ys) pairs.1 more (put x ys each.0 h)
+
+order-keeps : {X : Type 0} (precedes : X → X → Bool) (R : X → X → Type 0) → IsTwoWay R → (Keeps : List X → Type 0)
+    → ((x : X) (ys : List X) → AllByRecursion (R x) ys → Keeps ys → Keeps (put_by precedes x ys))
+    → Keeps [] → (xs : List X) → PairsByRecursion R xs → Keeps (in_order precedes xs)
+order-keeps {X} precedes R flip Keeps put none xs pairs =
+    put-keeps precedes R flip Keeps put xs [] pairs (all-always (λ (x : X). AllByRecursion (R x) []) (λ x. tt) xs) none
+
+-- each comes before all later ones
 turn-in_order : {X : Type 0} (precedes : X → X → Bool) → GoesOn precedes → (xs : List X) → PairsByRecursion (Comparable precedes) xs → InTurn precedes (in_order precedes xs)
-turn-in_order {X} precedes on xs c = turn-fold precedes on xs [] c (all-always (λ (x : X). AllByRecursion (Comparable precedes x) []) (λ x. tt) xs) tt
+turn-in_order {X} precedes on xs c =
+    order-keeps precedes (Comparable precedes) (flipped precedes) (InTurn precedes) (turn-put precedes on) tt xs c
+
+-- and what holds of any two both ways holds of any two that are in order
+pairs-put : {X : Type 0} (precedes : X → X → Bool) (R : X → X → Type 0) → IsTwoWay R → (x : X) (ys : List X) → AllByRecursion (R x) ys → PairsByRecursion R ys → PairsByRecursion R (put_by precedes x ys)
+pairs-put precedes R flip x [] c h = (tt, tt)
+pairs-put {X} precedes R flip x (y ∷ ys) c h =
+    elim (precedes y x) as (λ b. precedes y x ≡ b → PairsByRecursion R (put_by precedes x (y ∷ ys))) [
+      | true ↦ λ p. subst (PairsByRecursion R) (sym (put_later precedes x y ys p)) (all-put_by (R y) precedes x (flip x y c.0) ys h.0, pairs-put precedes R flip x ys c.1 h.1)
+      | false ↦ λ p. subst (PairsByRecursion R) (sym (put_first precedes x y ys p)) (c, h)
+    ] refl
+
+pairs-in_order : {X : Type 0} (precedes : X → X → Bool) (R : X → X → Type 0) → IsTwoWay R → (xs : List X) → PairsByRecursion R xs → PairsByRecursion R (in_order precedes xs)
+pairs-in_order {X} precedes R flip xs h = order-keeps precedes R flip (PairsByRecursion R) (pairs-put precedes R flip) tt xs h
 
 -- what is kept of the entries of a map has the names of its entries
 abbrev pub HasName : {X S : Type 0} → (X → Text) → (Text × S → Option X) → Type 0
@@ -156,3 +182,14 @@ turn-planned {X} comp kind whose es sorted =
     turn-in_order (λ (a b : X). is_before (comp a) (comp b)) (λ x y z. before_on (comp x) (comp y) (comp z)) (filter_map kind es)
     (pairs-each (λ (x y : X). text_cmp (comp x).key (comp y).key ≡ Less) (Comparable (λ (a b : X). is_before (comp a) (comp b)))
     (λ x y less. before_total (comp x) (comp y) (less_apart (comp x).key (comp y).key less)) (filter_map kind es) (names_rise (λ (x : X). (comp x).key) kind whose es sorted))
+
+-- no two of them have the same key
+abbrev pub AreApart : {X : Type 0} → (X → Comp) → X → X → Type 0
+AreApart {X} comp x y = (comp x).key ≡ (comp y).key → ⊥
+
+pub apart-planned : {X S : Type 0} (comp : X → Comp) (kind : Text × S → Option X) → HasName (λ (x : X). (comp x).key) kind → (es : List (Text × S)) → AreInOrder es
+    → PairsByRecursion (AreApart comp) (in_order (λ (a b : X). is_before (comp a) (comp b)) (filter_map kind es))
+apart-planned {X} comp kind whose es sorted =
+    pairs-in_order (λ (a b : X). is_before (comp a) (comp b)) (AreApart comp) (λ x y other same. other (sym same)) (filter_map kind es)
+    (pairs-each (λ (x y : X). text_cmp (comp x).key (comp y).key ≡ Less) (AreApart comp)
+    (λ x y less. less_apart (comp x).key (comp y).key less) (filter_map kind es) (names_rise (λ (x : X). (comp x).key) kind whose es sorted))

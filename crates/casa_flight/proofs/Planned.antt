@@ -1,5 +1,5 @@
 -- the competitors of a list, the flights over a regulation and the rows of a list: who is there, and in which order
-use Rattle.std.proofs.Common.{◌≡◌, ◌↔◌, ℕ, List, [], ◌∷◌, map, Bool, true, false, cond, refl, sym, ap, subst, ◌∙◌, Option, None, Some}
+use Rattle.std.proofs.Common.{◌≡◌, ◌↔◌, ℕ, List, [], ◌∷◌, map, Bool, true, false, refl, sym, ap, subst, ◌∙◌, Option, None, Some}
 use Rattle.std.specs.Option.{option_map, option_map_or}
 use Rattle.std.specs.List.{AllPairs, Contains, cons_option, filter_map}
 use Rattle.std.specs.List.Sorted.{IsStrictlySortedBy}
@@ -18,6 +18,7 @@ use Rattle.casa_flight.specs.Replies.{row_in, is_row_before, list_rows}
 use Rattle.casa_flight.specs.Steps.{flights_over}
 use Rattle.casa_flight.specs.Good.{AreInOrder}
 use Rattle.casa_flight.proofs.Kept.{above-kept}
+use Rattle.casa_flight.proofs.GoodRegs.{comp_if, comp_if-key}
 use Rattle.casa_flight.proofs.InOrder.{HasName, PairsByRecursion, pairs_from_recursion, contains-planned, turn-planned}
 
 -- what is kept of a map is in the order of its names
@@ -40,7 +41,7 @@ list_sorted m id l sorted =
     ]
 
 -- the competitors of a list
-competitor_key : HasName (λ (c : Comp). c.key) (λ (e : Text × Stance). competitor e.0 e.1)
+pub competitor_key : HasName (λ (c : Comp). c.key) (λ (e : Text × Stance). competitor e.0 e.1)
 competitor_key (key, Competing eto) c h = sym (ap (λ (w : Option Comp). option_map_or (λ (d : Comp). d.key) w key) h)
 competitor_key (key, Issued eto cto) c h = cc
 competitor_key (key, Forced eto) c h = cc
@@ -63,30 +64,23 @@ competitors_order l sorted =
     (turn-planned (λ (d : Comp). d) (λ (e : Text × Stance). competitor e.0 e.1) competitor_key l.flights sorted)
 
 -- the flights that pass a test and are subject to a regulation
-abbrev over_if : Bool → Option ℕ → Text → Option Comp
-over_if b o key = cond b (option_map (λ (eto : ℕ). record { eto = eto; key = key }) o) None
-
 abbrev over : (Row → Bool) → Regulation → Text × Row → Option Comp
-over test r e = over_if (test e.1) (subject e.1.plan r) e.0
+over test r e = comp_if (test e.1) (subject e.1.plan r) e.0
 
-abbrev IsOver : Bool → Option ℕ → Text → Comp → Type 0
-IsOver b o key c = (b ≡ true) × (o ≡ Some c.eto) × (c.key ≡ key)
-
-is_over : (b : Bool) (o : Option ℕ) (key : Text) (c : Comp) → over_if b o key ≡ Some c → IsOver b o key c
-is_over true (Some eto) key c h =
-    (refl, ap (λ (w : Option Comp). option_map (λ (d : Comp). d.eto) w) h, sym (ap (λ (w : Option Comp). option_map_or (λ (d : Comp). d.key) w key) h))
+is_over : (b : Bool) (o : Option ℕ) (key : Text) (c : Comp) → comp_if b o key ≡ Some c → (b ≡ true) × (o ≡ Some c.eto)
+is_over true (Some eto) key c h = (refl, ap (λ (w : Option Comp). option_map (λ (d : Comp). d.eto) w) h)
 is_over true None key c h = cc
 is_over false o key c h = cc
 
 over_key : (test : Row → Bool) (r : Regulation) → HasName (λ (c : Comp). c.key) (over test r)
-over_key test r e c h = (is_over (test e.1) (subject e.1.plan r) e.0 c h).2
+over_key test r e c h = comp_if-key (test e.1) (subject e.1.plan r) e.0 c h
 
 pub over_who : (test : Row → Bool) (r : Regulation) (rows : List (Text × Row)) (c : Comp) → AreInOrder rows
     → Contains (flights_over test r rows) c ↔ (row : Row) × (at_name rows c.key ≡ Some row) × (test row ≡ true) × (subject row.plan r ≡ Some c.eto)
 over_who test r rows c sorted =
     let there = contains-planned (λ (d : Comp). d) (over test r) (over_key test r) rows sorted c in (
       λ h. let k = there.0 h in let is = is_over (test k.0) (subject k.0.plan r) c.key c k.2 in (k.0, k.1, is.0, is.1),
-      λ k. there.1 (k.0, k.1, λ i. over_if (k.2 i) (k.3 i) c.key),
+      λ k. there.1 (k.0, k.1, λ i. comp_if (k.2 i) (k.3 i) c.key),
     )
 
 pub over_order : (test : Row → Bool) (r : Regulation) (rows : List (Text × Row)) → AreInOrder rows → AllPairs (λ (a b : Comp). is_before a b ≡ true) (flights_over test r rows)

@@ -63,14 +63,14 @@ competitor_key key (Competing eto) c h = cc
 competitor_key key (Issued eto cto) c h = cc
 competitor_key key (Forced eto) c h = cc
 
-issued_key : (key : Text) (s : Stance) (f : Comp × Standing) → issued_flight key s ≡ Some f → f.0.key ≡ key
+pub issued_key : (key : Text) (s : Stance) (f : Comp × Standing) → issued_flight key s ≡ Some f → f.0.key ≡ key
 issued_key key (Competing eto) f h = cc
 issued_key key (Issued eto cto) f h =
     let same : f ≡ (record { eto = eto; key = key }, IssuedAt cto) = cc in
     ap (λ (g : Comp × Standing). g.0.key) same
 issued_key key (Forced eto) f h = cc
 
-forced_key : (key : Text) (s : Stance) (f : Comp × Standing) → forced_flight key s ≡ Some f → f.0.key ≡ key
+pub forced_key : (key : Text) (s : Stance) (f : Comp × Standing) → forced_flight key s ≡ Some f → f.0.key ≡ key
 forced_key key (Competing eto) f h = cc
 forced_key key (Issued eto cto) f h = cc
 forced_key key (Forced eto) f h =

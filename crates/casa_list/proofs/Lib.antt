@@ -6,3 +6,4 @@ pub mod Settled
 pub mod Counted
 pub mod Changes
 pub mod Keeping
+pub mod Once

@@ -1,5 +1,5 @@
 use Rattle.std.specs.Prelude.{ℕ, ◌+◌, List, ◌++◌, map, length, Bool, not, unwrap_or, is_some, Option, None, Some}
-use Rattle.std.specs.Option.{option_map_or, option_and_then}
+use Rattle.std.specs.Option.{option_map, option_map_or, option_and_then}
 use Rattle.std.specs.List.{filter_map, position}
 use Rattle.casa_grid.specs.declared.slot.Place.{Place}
 use Rattle.casa_grid.specs.Slots.{slots, window_of}
@@ -37,6 +37,15 @@ forced_flights l = in_order is_flight_before (filter_map (λ (e : Text × Stance
 -- each flight once, as it stands: the competitors in their order, then the issued, then the forced flights
 abbrev pub standings : Listing → List (Comp × Standing)
 standings l = map (λ (a : Assigned). (a.comp, Pre a.place)) (places l) ++ issued_flights l ++ forced_flights l
+
+-- a flight of the list as it stands there
+abbrev pub standing_as : Listing → Text → Stance → Comp × Standing
+standing_as l key (Competing eto) = (record { eto = eto; key = key }, Pre (place_of l key))
+standing_as l key (Issued eto cto) = (record { eto = eto; key = key }, IssuedAt cto)
+standing_as l key (Forced eto) = (record { eto = eto; key = key }, NoSlot)
+
+abbrev pub standing_of : Listing → Text → Option (Comp × Standing)
+standing_of l key = option_map (standing_as l key) (stance_of l key)
 
 -- how many flights the regulation governs: competitors and issued ones
 abbrev pub count_governed : Listing → ℕ
