@@ -2,7 +2,7 @@
 use Rattle.std.proofs.Common.{◌≡◌, ℕ, ◌+◌, ◌≤◌, List, [], ◌∷◌, ◌++◌, length, take, drop, Bool, true, false, not, refl, sym, ◌∙◌, ap, subst, arith, zero, suc, cond, Option, None, Some, unwrap_or}
 use Rattle.std.specs.Option.{option_map_or}
 use Rattle.std.specs.Ordering.{is_eq}
-use Rattle.std.specs.List.{AllByRecursion, filter_map, fold, insert, position, position_or_len, remove, slice_get}
+use Rattle.std.specs.List.{AllByRecursion, filter_map, insert, position, position_or_len, remove, slice_get}
 use Rattle.std.specs.Cmp.Lexicographic.{same_text as text_is}
 use Rattle.std.proofs.lemmas.List.{length-map}
 use Rattle.std.proofs.lemmas.List.Folds.{find_at}
@@ -18,9 +18,10 @@ use Rattle.casa_flight.specs.Text.{Text, same_text, at_name, put, without}
 use Rattle.casa_flight.specs.Good.{AreInOrder}
 use Rattle.casa_flight.specs.Listing.{Listing, put_by, in_order, is_before, competitor, competitors, issued_cto, places, place_of, stance_of}
 use Rattle.casa_flight.proofs.Competitors.{Ordered}
+use Rattle.casa_flight.proofs.EnterAll.{all-fold}
 use Rattle.casa_flight.proofs.Entries.{text_cmp, same_name, itself, at-put, at-without_other, none_at, sorted-put, sorted-remove, all-filter_map}
 use Rattle.casa_flight.proofs.Kept.{at-without_same, same_entries}
-use Rattle.casa_flight.proofs.Rising.{put_at, all-put_by}
+use Rattle.casa_flight.proofs.Rising.{put_at}
 use Rattle.casa_list.specs.declared.standing.Standing.{Standing}
 use Rattle.casa_list.specs.declared.standing.Standing.TheVariants.{Issued as IssuedAt, Forced as NoSlot}
 use Rattle.casa_list.specs.Blocked.{counts, issued_times}
@@ -175,15 +176,12 @@ unlike a b h = false_from_ne_true _ (λ same. both_ways _ h (subst (λ q. is_eq 
     named : (a b : Text) → same_text a b ≡ true → a ≡ b
     named a b same = text_is a b (sym same)
 
-all-in_order : (P : Comp → Type 0) (cs ds : List Comp) → AllByRecursion P ds → AllByRecursion P cs → AllByRecursion P (fold (λ ys x. put_by is_before x ys) ds cs)
-all-in_order P [] ds h g = h
-all-in_order P (c ∷ cs) ds h g = all-in_order P cs (put_by is_before c ds) (all-put_by P is_before c g.0 ds h) g.1
-
 pub other_keys : (l : Listing) (key : Text) → IsAbsent key l.flights → AllByRecursion (λ (d : Comp). same_text key d.key ≡ false) (competitors l)
 other_keys l key h =
-    all-in_order (λ (d : Comp). same_text key d.key ≡ false) (filter_map (λ (e : Text × Stance). competitor e.0 e.1) l.flights) [] tt
+    all-fold (λ (d : Comp). same_text key d.key ≡ false) is_before (filter_map (λ (e : Text × Stance). competitor e.0 e.1) l.flights) []
     (all-filter_map (λ (e : Text × Stance). is_eq (text_cmp key e.0) ≡ false) (λ (d : Comp). same_text key d.key ≡ false) (λ (e : Text × Stance). competitor e.0 e.1)
     (λ e d other is. unlike key d.key (subst (λ q. is_eq (text_cmp key q) ≡ false) (sym (competitor_key e.0 e.1 d is)) other)) l.flights h)
+    tt
 
 first_inserted : (p : Comp → Bool) (i : ℕ) (c : Comp) (cs : List Comp) → p c ≡ true → AllByRecursion (λ (d : Comp). p d ≡ false) cs → i ≤ length cs → position_or_len p (insert cs i c) ≡ i
 first_inserted p zero c cs here h le = ap (λ b. cond (not b) (1 + position_or_len p cs) 0) here
