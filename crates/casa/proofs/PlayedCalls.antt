@@ -82,10 +82,10 @@ stopped_first : (cs : List Call) (r v w : Option (List ℕ)) →
 stopped_first cs r v w h = if_some _ _ (λ xs p. (p.0, p.1, p.2, stopped cs v w p.0 p.3)) r h
 
 -- where the desk is the sequential allocator, a session ends as it does over that
-pub first-ends : (cs : List Call) (result : Result ℕ SessionFault) (r s v w : Option (List ℕ)) → Ends result r s [] (played empty 1 cs) v w → FirstEnds result r s v w
+pub first-ends : (cs : List Call) (result : Result ℕ SessionFault) (r s v w : Option (List ℕ)) → Ends ⊥ result r s [] (played empty 1 cs) v w → FirstEnds result r s v w
 first-ends cs (Ok n) r s v w h = if_some _ _ (λ xs p. (answered cs v w (lines_of xs) p.0, p.1, p.2)) r h
 first-ends cs (Err LineTooLong) r s v w h = if_some _ _ (λ xs p. (answered cs v w (lines_of xs) p.0, p.1)) r h
 first-ends cs (Err ReadFailed) r s v w h = (h.0, h.1, answered cs v w (ended_lines h.0) h.2, h.3)
 first-ends cs (Err (WriteFailed n)) r s v w h = if_some _ _ (λ xs p. (p.0, p.1, p.2, cut cs v w p.0 n p.3)) r h
-first-ends cs (Err ForeignPass) r s v w h = stopped_first cs r v w h
+first-ends cs (Err ForeignPass) r s v w h = absurd h.0
 first-ends cs (Err NoMemory) r s v w h = stopped_first cs r v w h

@@ -28,9 +28,9 @@ pub record Between (r l : Option (List ℕ)) (a b : List Receipt) (u v : Option 
   pub lines : length done ≡ count
   pub bytes : written ≡ counted (length (transcript answered.receipts done))
 
-pub after_one : (r l m : Option (List ℕ)) (a b c : List Receipt) (u v w : Option (List ℕ)) (count before n : ℕ) (line : List ℕ) → Between r l a b u v count before
-    → IsLine line → Consumes l m (line ++ 10 ∷ []) → LineEnds (Ok n) before (line_call line) b c v w → Between r m a c u w (count + 1) n
-after_one r l m a b c u v w count before n line p is_line q (text, replied, written, told) =
+pub after_one : (foreign : Type 0) (r l m : Option (List ℕ)) (a b c : List Receipt) (u v w : Option (List ℕ)) (count before n : ℕ) (line : List ℕ) → Between r l a b u v count before
+    → IsLine line → Consumes l m (line ++ 10 ∷ []) → LineEnds foreign (Ok n) before (line_call line) b c v w → Between r m a c u w (count + 1) n
+after_one foreign r l m a b c u v w count before n line p is_line q (text, replied, written, told) =
     let first = transcript p.answered.receipts p.done in
     let text_is : transcript replied.receipts (line ∷ []) ≡ text = one_line line replied.receipts is_line.short ∙ sym replied.told in
     let all : transcript (p.answered.receipts ++ replied.receipts) (p.done ++ line ∷ []) ≡ first ++ text =
@@ -72,9 +72,9 @@ lines_from : (r l : Option (List ℕ)) (a b : List Receipt) (u v : Option (List 
 lines_from r l a b u v count before ys p = lines_of-append p.taken ys p.whole ∙ ap (λ d. d ++ lines_of ys) p.ended
 
 -- the input ended, after a last line without LF
-pub ends_after : (r s l m : Option (List ℕ)) (a b c : List Receipt) (u v w : Option (List ℕ)) (count before n : ℕ) (line : List ℕ) → Between r l a b u v count before
-    → IsLine line → 0 < length line → Consumes l m line → IsAtEnd m → LineEnds (Ok n) before (line_call line) b c v w → Ends (Ok (count + 1)) r s a c u w
-ends_after r s l m a b c u v w count before n line p is_line some q end (text, replied, written, told) =
+pub ends_after : (foreign : Type 0) (r s l m : Option (List ℕ)) (a b c : List Receipt) (u v w : Option (List ℕ)) (count before n : ℕ) (line : List ℕ) → Between r l a b u v count before
+    → IsLine line → 0 < length line → Consumes l m line → IsAtEnd m → LineEnds foreign (Ok n) before (line_call line) b c v w → Ends foreign (Ok (count + 1)) r s a c u w
+ends_after foreign r s l m a b c u v w count before n line p is_line some q end (text, replied, written, told) =
     known r l p.taken (λ xs. Answered a c u w (lines_of xs) × (has_too_long (lines_of xs) ≡ false) × (count + 1 ≡ length (lines_of xs))) p.consumed (λ ys e.
     let only : lines_of ys ≡ line ∷ [] = ap lines_of (all_of l m line ys q end e) ∙ line_only line is_line.whole some in
     let all : lines_of (p.taken ++ ys) ≡ p.done ++ line ∷ [] = lines_from r l a b u v count before ys p ∙ ap (λ z. p.done ++ z) only in
@@ -86,11 +86,11 @@ ends_after r s l m a b c u v w count before n line p is_line some q end (text, r
     ))
 
 -- a line was not answered
-pub ends_at_line : (fault : SessionFault) (r s l : Option (List ℕ)) (a b c : List Receipt) (u v w : Option (List ℕ)) (count before : ℕ) (line : List ℕ) → Between r l a b u v count before
-    → IsLine line → ((ys : List ℕ) → l ≡ Some ys → (rest : List (List ℕ)) × (lines_of ys ≡ line ∷ rest)) → LineEnds (Err fault) before (line_call line) b c v w → Ends (Err fault) r s a c u w
-ends_at_line LineTooLong r s l a b c u v w count before line p is_line f h = absurd h
-ends_at_line ReadFailed r s l a b c u v w count before line p is_line f h = absurd h
-ends_at_line (WriteFailed n) r s l a b c u v w count before line p is_line f (text, replied, cut) =
+pub ends_at_line : (foreign : Type 0) (fault : SessionFault) (r s l : Option (List ℕ)) (a b c : List Receipt) (u v w : Option (List ℕ)) (count before : ℕ) (line : List ℕ) → Between r l a b u v count before
+    → IsLine line → ((ys : List ℕ) → l ≡ Some ys → (rest : List (List ℕ)) × (lines_of ys ≡ line ∷ rest)) → LineEnds foreign (Err fault) before (line_call line) b c v w → Ends foreign (Err fault) r s a c u w
+ends_at_line foreign LineTooLong r s l a b c u v w count before line p is_line f h = absurd h
+ends_at_line foreign ReadFailed r s l a b c u v w count before line p is_line f h = absurd h
+ends_at_line foreign (WriteFailed n) r s l a b c u v w count before line p is_line f (text, replied, cut) =
     known r l p.taken (λ xs. (lines rest : List (List ℕ)) × (lines_of xs ≡ lines ++ rest) × Cut a c u w lines n) p.consumed (λ ys e.
     let (rest, first) = f ys e in (
       p.done ++ line ∷ [],
@@ -98,10 +98,12 @@ ends_at_line (WriteFailed n) r s l a b c u v w count before line p is_line f (te
       lines_from r l a b u v count before ys p ∙ ap (λ z. p.done ++ z) first ∙ sym (append_assoc p.done (line ∷ []) rest),
       cut_line a b c u v w p.done line text before n p.short p.answered p.bytes is_line.short replied cut,
     ))
-ends_at_line ForeignPass r s l a b c u v w count before line p is_line f (kept, keeps) =
-    known r l p.taken (λ xs. (lines rest : List (List ℕ)) × (lines_of xs ≡ lines ++ rest) × Stopped a c u w lines) p.consumed (λ ys e.
-    (p.done, lines_of ys, lines_from r l a b u v count before ys p, stopped a b c u v w p.done p.answered kept keeps))
-ends_at_line NoMemory r s l a b c u v w count before line p is_line f (kept, keeps) =
+ends_at_line foreign ForeignPass r s l a b c u v w count before line p is_line f (is_foreign, kept, keeps) = (
+  is_foreign,
+  known r l p.taken (λ xs. (lines rest : List (List ℕ)) × (lines_of xs ≡ lines ++ rest) × Stopped a c u w lines) p.consumed (λ ys e.
+      (p.done, lines_of ys, lines_from r l a b u v count before ys p, stopped a b c u v w p.done p.answered kept keeps)),
+)
+ends_at_line foreign NoMemory r s l a b c u v w count before line p is_line f (kept, keeps) =
     known r l p.taken (λ xs. (lines rest : List (List ℕ)) × (lines_of xs ≡ lines ++ rest) × Stopped a c u w lines) p.consumed (λ ys e.
     (p.done, lines_of ys, lines_from r l a b u v count before ys p, stopped a b c u v w p.done p.answered kept keeps))
 
@@ -114,9 +116,9 @@ pub last_first : (l m : Option (List ℕ)) (line : List ℕ) → IsLine line →
 last_first l m line is_line some q end ys e = ([], ap lines_of (all_of l m line ys q end e) ∙ line_only line is_line.whole some)
 
 -- the next line is too long
-pub ends_too_long : (fault : SessionFault) (r s l : Option (List ℕ)) (a b : List Receipt) (u v w : Option (List ℕ)) (count before : ℕ) → Between r l a b u v count before
-    → BeginsTooLong l → TooLongEnds fault before v w → Ends (Err fault) r s a b u w
-ends_too_long LineTooLong r s l a b u v w count before p long h =
+pub ends_too_long : (foreign : Type 0) (fault : SessionFault) (r s l : Option (List ℕ)) (a b : List Receipt) (u v w : Option (List ℕ)) (count before : ℕ) → Between r l a b u v count before
+    → BeginsTooLong l → TooLongEnds fault before v w → Ends foreign (Err fault) r s a b u w
+ends_too_long foreign LineTooLong r s l a b u v w count before p long h =
     known r l p.taken (λ xs. Answered a b u w (lines_of xs) × (has_too_long (lines_of xs) ≡ true)) p.consumed (λ ys e.
     let (line, rest, no_lf, too_long, split) = at_some l _ ys e long in
     let (first, tail, is, first_long) = long_first line rest no_lf too_long in
@@ -124,7 +126,7 @@ ends_too_long LineTooLong r s l a b u v w count before p long h =
     let told : has_too_long (first ∷ tail) ≡ true = rw first_long refl in
     let text : Answered b b v w (first ∷ tail) = record { receipts = []; grows = sym (append-nil b); called = rw first_long refl; written = rw first_long h } in
     rw all (answered-append a b b u v w p.done (first ∷ tail) p.short p.answered text, has_too_long-append p.done (first ∷ tail) p.short ∙ told))
-ends_too_long (WriteFailed n) r s l a b u v w count before p long h =
+ends_too_long foreign (WriteFailed n) r s l a b u v w count before p long h =
     known r l p.taken (λ xs. (lines rest : List (List ℕ)) × (lines_of xs ≡ lines ++ rest) × Cut a b u w lines n) p.consumed (λ ys e.
     let (line, rest, no_lf, too_long, split) = at_some l _ ys e long in
     let (first, tail, is, first_long) = long_first line rest no_lf too_long in
@@ -135,18 +137,18 @@ ends_too_long (WriteFailed n) r s l a b u v w count before p long h =
       lines_from r l a b u v count before ys p ∙ ap (λ z. p.done ++ lines_of z) split ∙ ap (λ z. p.done ++ z) is ∙ sym (append_assoc p.done (first ∷ []) tail),
       cut_after a b b u v w p.done (first ∷ []) before n p.short p.answered p.bytes [] (sym (append-nil b)) (sym no_call) too_long_text text_is h,
     ))
-ends_too_long ReadFailed r s l a b u v w count before p long h = absurd h
-ends_too_long ForeignPass r s l a b u v w count before p long h = absurd h
-ends_too_long NoMemory r s l a b u v w count before p long h = absurd h
+ends_too_long foreign ReadFailed r s l a b u v w count before p long h = absurd h
+ends_too_long foreign ForeignPass r s l a b u v w count before p long h = absurd h
+ends_too_long foreign NoMemory r s l a b u v w count before p long h = absurd h
 
-pub ends_unread : (r s l : Option (List ℕ)) (a b : List Receipt) (u v : Option (List ℕ)) (count before : ℕ) → Between r l a b u v count before
-    → (part : List ℕ) × HasNoLf part × Consumes l s part → Ends (Err ReadFailed) r s a b u v
-ends_unread r s l a b u v count before p (part, no_lf, q) =
+pub ends_unread : (foreign : Type 0) (r s l : Option (List ℕ)) (a b : List Receipt) (u v : Option (List ℕ)) (count before : ℕ) → Between r l a b u v count before
+    → (part : List ℕ) × HasNoLf part × Consumes l s part → Ends foreign (Err ReadFailed) r s a b u v
+ends_unread foreign r s l a b u v count before p (part, no_lf, q) =
     let same : ended_lines (p.taken ++ part) ≡ p.done = ended_kept p.taken part no_lf ∙ p.ended in
     (p.taken ++ part, Consumes-trans r l s p.taken part p.consumed q, rw same p.answered, rw same p.short)
 
-pub ends_without_memory : (r s l : Option (List ℕ)) (a b : List Receipt) (u v : Option (List ℕ)) (count before : ℕ) → Between r l a b u v count before → Ends (Err NoMemory) r s a b u v
-ends_without_memory r s l a b u v count before p =
+pub ends_without_memory : (foreign : Type 0) (r s l : Option (List ℕ)) (a b : List Receipt) (u v : Option (List ℕ)) (count before : ℕ) → Between r l a b u v count before → Ends foreign (Err NoMemory) r s a b u v
+ends_without_memory foreign r s l a b u v count before p =
     known r l p.taken (λ xs. (lines rest : List (List ℕ)) × (lines_of xs ≡ lines ++ rest) × Stopped a b u v lines) p.consumed (λ ys e.
     let kept : Kept b b = record { last = []; grows = sym (append-nil b); at_most_one = omega arith } in
     (p.done, lines_of ys, lines_from r l a b u v count before ys p, stopped a b b u v v p.done p.answered kept (Keeps-refl v)))

@@ -20,7 +20,7 @@ AnsweredFirst r v w =
 
 -- how it ends, of an input with r to s left: with the transcript of all its lines; with that up to and with the first line
 -- that is too long; with that of the lines ended before a read failed; after the first bytes of that of the first lines
--- where a write failed; with that of the first lines where memory was refused
+-- where a write failed; with that of the first lines where memory was refused; never with a foreign pass
 abbrev pub FirstEnds : Result ℕ SessionFault → (r s : Option (List ℕ)) (v w : Option (List ℕ)) → Type 0
 FirstEnds (Ok n) r s v w =
     IfSome r (λ xs.
@@ -34,5 +34,5 @@ FirstEnds (Err (WriteFailed n)) r s v w =
     IfSome r (λ xs. (lines rest : List (List ℕ)) × (lines_of xs ≡ lines ++ rest)
     × ((count : ℕ) × (count ≤ length (transcript_of lines)) × (n ≡ counted count)
     × Appends v w (take count (transcript_of lines))))
-FirstEnds (Err ForeignPass) r s v w = AnsweredFirst r v w
+FirstEnds (Err ForeignPass) r s v w = ⊥
 FirstEnds (Err NoMemory) r s v w = AnsweredFirst r v w

@@ -70,21 +70,21 @@ pub record Stopped (a b : List Receipt) (v w : Option (List ℕ)) (lines : List 
 
 -- how a session ends, of an input with r to s left: with the transcript of all its lines, with that up to a line that is
 -- too long, with that of the lines ended before a read failed, within it where a write failed, or with that of the first
--- lines where a call was refused for want of memory or for a pass of another engine
-abbrev pub Ends : Result ℕ SessionFault → (r s : Option (List ℕ)) (a b : List Receipt) (v w : Option (List ℕ)) → Type 0
-Ends (Ok n) r s a b v w =
+-- lines where memory was refused, or where a desk that may be foreign was so
+abbrev pub Ends : (foreign : Type 0) → Result ℕ SessionFault → (r s : Option (List ℕ)) (a b : List Receipt) (v w : Option (List ℕ)) → Type 0
+Ends foreign (Ok n) r s a b v w =
     IfSome r (λ xs.
     Answered a b v w (lines_of xs) × (has_too_long (lines_of xs) ≡ false) × (n ≡ length (lines_of xs)))
-Ends (Err LineTooLong) r s a b v w =
+Ends foreign (Err LineTooLong) r s a b v w =
     IfSome r (λ xs. Answered a b v w (lines_of xs) × (has_too_long (lines_of xs) ≡ true))
-Ends (Err ReadFailed) r s a b v w =
+Ends foreign (Err ReadFailed) r s a b v w =
     (taken : List ℕ) × Consumes r s taken × Answered a b v w (ended_lines taken)
     × (has_too_long (ended_lines taken) ≡ false)
-Ends (Err (WriteFailed n)) r s a b v w =
+Ends foreign (Err (WriteFailed n)) r s a b v w =
     IfSome r (λ xs. (lines rest : List (List ℕ)) × (lines_of xs ≡ lines ++ rest) × Cut a b v w lines n)
-Ends (Err ForeignPass) r s a b v w =
-    IfSome r (λ xs. (lines rest : List (List ℕ)) × (lines_of xs ≡ lines ++ rest) × Stopped a b v w lines)
-Ends (Err NoMemory) r s a b v w =
+Ends foreign (Err ForeignPass) r s a b v w =
+    foreign × IfSome r (λ xs. (lines rest : List (List ℕ)) × (lines_of xs ≡ lines ++ rest) × Stopped a b v w lines)
+Ends foreign (Err NoMemory) r s a b v w =
     IfSome r (λ xs. (lines rest : List (List ℕ)) × (lines_of xs ≡ lines ++ rest) × Stopped a b v w lines)
 
 -- from the receipts a to b a line of this meaning was answered, by this text
@@ -107,22 +107,23 @@ pub record CutText (text : List ℕ) (before n : ℕ) (v w : Option (List ℕ)) 
   pub told : n ≡ counted (before + count)
   pub written : Appends v w (take count text)
 
-abbrev pub IsRefused : SessionFault → Type 0
-IsRefused NoMemory = Unit {0}
-IsRefused ForeignPass = Unit {0}
-IsRefused LineTooLong = ⊥
-IsRefused ReadFailed = ⊥
-IsRefused (WriteFailed n) = ⊥
+-- a line has no text for want of memory, or for a desk that may be foreign
+abbrev pub IsRefused : (foreign : Type 0) → SessionFault → Type 0
+IsRefused foreign NoMemory = Unit {0}
+IsRefused foreign ForeignPass = foreign
+IsRefused foreign LineTooLong = ⊥
+IsRefused foreign ReadFailed = ⊥
+IsRefused foreign (WriteFailed n) = ⊥
 
 -- how the answer to a line ends, after `before` written bytes
-abbrev pub LineEnds : Result ℕ SessionFault → ℕ → Result Call WireFault → (a b : List Receipt) (v w : Option (List ℕ)) → Type 0
-LineEnds (Ok n) before meaning a b v w =
+abbrev pub LineEnds : (foreign : Type 0) → Result ℕ SessionFault → ℕ → Result Call WireFault → (a b : List Receipt) (v w : Option (List ℕ)) → Type 0
+LineEnds foreign (Ok n) before meaning a b v w =
     (text : List ℕ) × Replied a b meaning text × Appends v w text × (n ≡ counted (before + length text))
-LineEnds (Err (WriteFailed n)) before meaning a b v w = (text : List ℕ) × Replied a b meaning text × CutText text before n v w
-LineEnds (Err LineTooLong) before meaning a b v w = ⊥
-LineEnds (Err ReadFailed) before meaning a b v w = ⊥
-LineEnds (Err ForeignPass) before meaning a b v w = Kept a b × Keeps v w
-LineEnds (Err NoMemory) before meaning a b v w = Kept a b × Keeps v w
+LineEnds foreign (Err (WriteFailed n)) before meaning a b v w = (text : List ℕ) × Replied a b meaning text × CutText text before n v w
+LineEnds foreign (Err LineTooLong) before meaning a b v w = ⊥
+LineEnds foreign (Err ReadFailed) before meaning a b v w = ⊥
+LineEnds foreign (Err ForeignPass) before meaning a b v w = foreign × Kept a b × Keeps v w
+LineEnds foreign (Err NoMemory) before meaning a b v w = Kept a b × Keeps v w
 
 -- how the text for a line that is too long ends, after `before` written bytes
 abbrev pub TooLongEnds : SessionFault → ℕ → (v w : Option (List ℕ)) → Type 0

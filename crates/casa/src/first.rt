@@ -66,6 +66,8 @@ impl PlainDesk {
 impl Desk for PlainDesk {
     ghost answered = { λ calls. played empty 1 calls };
 
+    ghost may_be_foreign = { ⊥ };
+
     fn answer(&mut self, alloc: Global, call: &Call) -> Result<Receipt, CallFault> {
         self.receipt(alloc, call).map_err(|_| CallFault::NoMemory)
     }

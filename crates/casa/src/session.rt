@@ -1,6 +1,6 @@
 //! Answers the lines of an input, one after the other.
 
-ghost use Rattle.std.specs.Prelude.{◌≡◌, ◌∷◌, [], ◌++◌, List, IfOk, IfErr, OnErr};
+ghost use Rattle.std.specs.Prelude.{◌≡◌, ◌∷◌, [], ◌++◌, List, Err, IfOk, IfErr, OnErr};
 ghost use Rattle.casa.specs.declared.session.Receipt.{Receipt};
 ghost use Rattle.casa.specs.Commands.{line_call};
 ghost use Rattle.casa.specs.Transcript.{Ends, IsRefused, Kept, LineEnds, Replied, TooLongEnds};
@@ -60,11 +60,16 @@ pub trait Desk {
     // The receipts so far.
     ghost answered: { Self → List Receipt };
 
-    /// The receipt of the call. After a fault the desk has answered nothing more.
+    // Desks of this type may be another allocator's.
+    ghost may_be_foreign: { Type 0 };
+
+    /// The receipt of the call. After a fault the desk has answered nothing more; `ForeignPass` only comes of a
+    /// desk that may be foreign.
     fn answer(&mut self, alloc: Global, call: &Call) -> Result<Receipt, CallFault>
         ensures ok { IfOk result (λ receipt. answered self.new ≡ answered self.old ++ receipt ∷ []) }
         ensures called { IfOk result (λ receipt. receipt.call ≡ call.now) }
-        ensures err { OnErr result (answered self.new ≡ answered self.old) };
+        ensures err { OnErr result (answered self.new ≡ answered self.old) }
+        ensures foreign { result ≡ Err CallFault.ForeignPass → may_be_foreign };
 }
 
 /// Answers each line of the reader at the writer, and says how many there were.
@@ -77,7 +82,7 @@ pub fn run<R: Read, W: Write, D: Desk>(
     writer: &mut W,
     desk: &mut D,
 ) -> Result<u64, SessionFault>
-    ensures { Ends result
+    ensures { Ends D.may_be_foreign result
         (R.remaining reader.old) (R.remaining reader.new) (D.answered desk.old) (D.answered desk.new)
         (W.contents writer.old) (W.contents writer.new) }
 {
@@ -110,7 +115,7 @@ fn answer_line<W: Write, D: Desk>(
     desk: &mut D,
     written: u64,
 ) -> Result<u64, SessionFault>
-    ensures { LineEnds result written (line_call line.now)
+    ensures { LineEnds D.may_be_foreign result written (line_call line.now)
         (D.answered desk.old) (D.answered desk.new) (W.contents writer.old) (W.contents writer.new) }
 {
     let text = match line_reply(alloc, desk, line) {
@@ -128,7 +133,7 @@ fn line_reply<D: Desk>(alloc: Global, desk: &mut D, line: &[u8]) -> Result<Vec<u
     ensures ok { IfOk result (λ text.
         Replied (D.answered desk.old) (D.answered desk.new) (line_call line.now) text.items) }
     ensures err { OnErr result (Kept (D.answered desk.old) (D.answered desk.new)) }
-    ensures refused { IfErr result IsRefused }
+    ensures refused { IfErr result (IsRefused D.may_be_foreign) }
 {
     match read_call(alloc, line) {
         Ok(call) => match desk.answer(alloc, &call) {

@@ -209,6 +209,8 @@ fn refused(call: &Call, position: u64) -> Result<Receipt, AllocError>
 impl Desk for Refusing {
     ghost answered = { λ desk. desk.receipts.items };
 
+    ghost may_be_foreign = { ⊥ };
+
     fn answer(&mut self, alloc: Global, call: &Call) -> Result<Receipt, CallFault> {
         let _ = alloc;
         let position = (self.receipts.len() as u64).saturating_add(1);

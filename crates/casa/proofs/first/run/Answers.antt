@@ -9,6 +9,6 @@ pub returns : goal.returns
 returns g c =
     first-ends c.run.new.desk c.run.result (g.R.Read.remaining c.args.reader.now) (g.R.Read.remaining c.run.new.reader)
     (g.W.Write.contents c.args.writer.now) (g.W.Write.contents c.run.new.writer)
-    (subst (λ before. Ends c.run.result (g.R.Read.remaining c.args.reader.now) (g.R.Read.remaining c.run.new.reader)
+    (subst (λ before. Ends ⊥ c.run.result (g.R.Read.remaining c.args.reader.now) (g.R.Read.remaining c.run.new.reader)
     (played empty 1 before) (played empty 1 c.run.new.desk) (g.W.Write.contents c.args.writer.now) (g.W.Write.contents c.run.new.writer))
     c.new-desk.ensures c.run.ensures)
