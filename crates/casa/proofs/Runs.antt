@@ -8,12 +8,12 @@ use Rattle.casa.specs.declared.session.Receipt.{Receipt}
 use Rattle.casa.specs.declared.session.SessionFault.{SessionFault}
 use Rattle.casa.specs.declared.session.SessionFault.TheVariants.{LineTooLong, ReadFailed, WriteFailed, ForeignPass, NoMemory}
 use Rattle.casa.specs.Commands.{line_call}
-use Rattle.casa.specs.Lines.{ended_lines, lines_of, rest_from, has_too_long, HasNoLf}
+use Rattle.casa.specs.Lines.{ended_lines, lines_of, rest_from, has_too_long}
 use Rattle.casa.specs.LineReader.{BeginsTooLong, IsLine}
 use Rattle.casa.specs.ReplyTexts.{too_long_text}
 use Rattle.casa.specs.Sending.{counted}
 use Rattle.casa.specs.Transcript.{calls, transcript, Answered, Cut, Ends, Kept, LineEnds, Stopped, TooLongEnds}
-use Rattle.casa.proofs.Splitting.{ended_kept, ended_more, has_too_long-append, line_first, line_only, lines_of-append, long_first, whole_more}
+use Rattle.casa.proofs.Splitting.{ended_kept, ended_more, has_too_long-append, line_first, line_only, lines_of-append, long_first, short_part, whole_more}
 use Rattle.casa.proofs.Transcripts.{answered-append, answered_line, cut_after, cut_line, one_line, receipts-answered-append, receipts-answered_line, stopped, transcript-append}
 
 -- between two lines: those that were taken from r to l were answered, with receipts from a to b and bytes from u to v
@@ -142,10 +142,11 @@ ends_too_long foreign ForeignPass r s l a b u v w count before p long h = absurd
 ends_too_long foreign NoMemory r s l a b u v w count before p long h = absurd h
 
 pub ends_unread : (foreign : Type 0) (r s l : Option (List ℕ)) (a b : List Receipt) (u v : Option (List ℕ)) (count before : ℕ) → Between r l a b u v count before
-    → (part : List ℕ) × HasNoLf part × Consumes l s part → Ends foreign (Err ReadFailed) r s a b u v
-ends_unread foreign r s l a b u v count before p (part, no_lf, q) =
-    let same : ended_lines (p.taken ++ part) ≡ p.done = ended_kept p.taken part no_lf ∙ p.ended in
-    (p.taken ++ part, Consumes-trans r l s p.taken part p.consumed q, rw same p.answered, rw same p.short)
+    → (part : List ℕ) × IsLine part × Consumes l s part → Ends foreign (Err ReadFailed) r s a b u v
+ends_unread foreign r s l a b u v count before p (part, is_line, q) =
+    let same : ended_lines (p.taken ++ part) ≡ p.done = ended_kept p.taken part is_line.whole ∙ p.ended in
+    let all : lines_of (p.taken ++ part) ≡ p.done ++ lines_of part = lines_from r l a b u v count before part p in
+    (p.taken ++ part, Consumes-trans r l s p.taken part p.consumed q, rw same p.answered, rw all (has_too_long-append p.done (lines_of part) p.short ∙ short_part part is_line.whole is_line.short))
 
 pub ends_without_memory : (foreign : Type 0) (r s l : Option (List ℕ)) (a b : List Receipt) (u v : Option (List ℕ)) (count before : ℕ) → Between r l a b u v count before → Ends foreign (Err NoMemory) r s a b u v
 ends_without_memory foreign r s l a b u v count before p =

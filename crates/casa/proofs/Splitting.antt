@@ -62,6 +62,13 @@ if_any-some (b ∷ bs) h = refl
 pub line_only : (line : List ℕ) → HasNoLf line → 0 < length line → lines_of line ≡ line ∷ []
 line_only line h some = rw (none_ended [] line h, all_rest [] line h) (if_any-some line some)
 
+short_if_any : (part : List ℕ) → is_too_long part ≡ false → has_too_long (if_any part) ≡ false
+short_if_any [] h = refl
+short_if_any (b ∷ bs) h = rw h refl
+
+pub short_part : (part : List ℕ) → HasNoLf part → is_too_long part ≡ false → has_too_long (lines_of part) ≡ false
+short_part part h short = rw (none_ended [] part h, all_rest [] part h) (short_if_any part short)
+
 pub ended_more : (xs line : List ℕ) → rest_from [] xs ≡ [] → HasNoLf line → ended_lines (xs ++ (line ++ 10 ∷ [])) ≡ ended_lines xs ++ line ∷ []
 ended_more xs line e h = ended_from-append [] xs (line ++ 10 ∷ []) ∙ ap (λ l. ended_lines xs ++ ended_from l (line ++ 10 ∷ [])) e ∙ ap (λ l. ended_lines xs ++ l) (one_ended line [] h)
 

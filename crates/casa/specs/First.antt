@@ -19,8 +19,9 @@ AnsweredFirst r v w =
     IfSome r (λ xs. (lines rest : List (List ℕ)) × (lines_of xs ≡ lines ++ rest) × Appends v w (transcript_of lines))
 
 -- how it ends, of an input with r to s left: with the transcript of all its lines; with that up to and with the first line
--- that is too long; with that of the lines ended before a read failed; after the first bytes of that of the first lines
--- where a write failed; with that of the first lines where memory was refused; never with a foreign pass
+-- that is too long; with that of the lines ended before a read failed, where no line is too long, the unfinished one
+-- neither; after the first bytes of that of the first lines where a write failed; with that of the first lines where memory
+-- was refused; never for a foreign pass
 abbrev pub FirstEnds : Result ℕ SessionFault → (r s : Option (List ℕ)) (v w : Option (List ℕ)) → Type 0
 FirstEnds (Ok n) r s v w =
     IfSome r (λ xs.
@@ -29,7 +30,7 @@ FirstEnds (Err LineTooLong) r s v w =
     IfSome r (λ xs. Appends v w (transcript_of (lines_of xs)) × (has_too_long (lines_of xs) ≡ true))
 FirstEnds (Err ReadFailed) r s v w =
     (taken : List ℕ) × Consumes r s taken × Appends v w (transcript_of (ended_lines taken))
-    × (has_too_long (ended_lines taken) ≡ false)
+    × (has_too_long (lines_of taken) ≡ false)
 FirstEnds (Err (WriteFailed n)) r s v w =
     IfSome r (λ xs. (lines rest : List (List ℕ)) × (lines_of xs ≡ lines ++ rest)
     × ((count : ℕ) × (count ≤ length (transcript_of lines)) × (n ≡ counted count)

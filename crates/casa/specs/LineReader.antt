@@ -42,10 +42,11 @@ abbrev pub BeginsTooLong : Option (List ℕ) → Type 0
 BeginsTooLong known =
     IfSome known (λ xs. (line rest : List ℕ) × HasNoLf line × (is_too_long line ≡ true) × (xs ≡ line ++ rest))
 
--- why no line is given, of what was left: before a read that failed all pending bytes and all that was read are no line
+-- why no line is given, of what was left: it begins with a line that is too long, or a read failed and all that was
+-- pending and that was read before are part of one line, which is not yet too long
 abbrev pub IsFault : LineFault → Option (List ℕ) → Option (List ℕ) → Type 0
 IsFault LineTooLong old source = BeginsTooLong old
-IsFault ReadFailed old source = (part : List ℕ) × HasNoLf part × Consumes old source part
+IsFault ReadFailed old source = (part : List ℕ) × IsLine part × Consumes old source part
 IsFault NoMemory old source = Unit {0}
 
 -- each ended line takes a step at least

@@ -68,9 +68,10 @@ pub record Stopped (a b : List Receipt) (v w : Option (List ℕ)) (lines : List 
   pub called : calls_of receipts ≡ calls lines
   pub written : Appends v w (transcript receipts lines)
 
--- how a session ends, of an input with r to s left: with the transcript of all its lines, with that up to a line that is
--- too long, with that of the lines ended before a read failed, within it where a write failed, or with that of the first
--- lines where memory was refused, or where a desk that may be foreign was so
+-- how a session ends, of an input with r to s left: with the transcript of all its lines; with that up to a line that is
+-- too long; with that of the lines ended before a read failed, where no line is too long, the unfinished one neither;
+-- within that of the first lines where a write failed; or with that of the first lines where memory was refused, or where
+-- a desk that may be foreign was so
 abbrev pub Ends : (foreign : Type 0) → Result ℕ SessionFault → (r s : Option (List ℕ)) (a b : List Receipt) (v w : Option (List ℕ)) → Type 0
 Ends foreign (Ok n) r s a b v w =
     IfSome r (λ xs.
@@ -79,7 +80,7 @@ Ends foreign (Err LineTooLong) r s a b v w =
     IfSome r (λ xs. Answered a b v w (lines_of xs) × (has_too_long (lines_of xs) ≡ true))
 Ends foreign (Err ReadFailed) r s a b v w =
     (taken : List ℕ) × Consumes r s taken × Answered a b v w (ended_lines taken)
-    × (has_too_long (ended_lines taken) ≡ false)
+    × (has_too_long (lines_of taken) ≡ false)
 Ends foreign (Err (WriteFailed n)) r s a b v w =
     IfSome r (λ xs. (lines rest : List (List ℕ)) × (lines_of xs ≡ lines ++ rest) × Cut a b v w lines n)
 Ends foreign (Err ForeignPass) r s a b v w =
