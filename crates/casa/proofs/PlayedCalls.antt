@@ -79,7 +79,7 @@ cut cs v w lines n h =
 
 stopped_first : (cs : List Call) (r v w : Option (List ℕ)) →
     IfSome r (λ xs. (lines rest : List (List ℕ)) × (lines_of xs ≡ lines ++ rest) × Stopped [] (played empty 1 cs) v w lines) → AnsweredFirst r v w
-stopped_first cs r v w h = if_some _ _ (λ xs p. (p.0, p.1, p.2, stopped cs v w p.0 p.3)) r h
+stopped_first cs r v w h = if_some _ _ (λ xs p. (p.0, p.1, p.2, p.3.short, stopped cs v w p.0 p.3)) r h
 
 -- where the desk is the sequential allocator, a session ends as it does over that
 pub first-ends : (cs : List Call) (result : Result ℕ SessionFault) (r s v w : Option (List ℕ)) → Ends ⊥ result r s [] (played empty 1 cs) v w → FirstEnds result r s v w

@@ -101,11 +101,11 @@ ends_at_line foreign (WriteFailed n) r s l a b c u v w count before line p is_li
 ends_at_line foreign ForeignPass r s l a b c u v w count before line p is_line f (is_foreign, kept, keeps) = (
   is_foreign,
   known r l p.taken (λ xs. (lines rest : List (List ℕ)) × (lines_of xs ≡ lines ++ rest) × Stopped a c u w lines) p.consumed (λ ys e.
-      (p.done, lines_of ys, lines_from r l a b u v count before ys p, stopped a b c u v w p.done p.answered kept keeps)),
+      (p.done, lines_of ys, lines_from r l a b u v count before ys p, stopped a b c u v w p.done p.short p.answered kept keeps)),
 )
 ends_at_line foreign NoMemory r s l a b c u v w count before line p is_line f (kept, keeps) =
     known r l p.taken (λ xs. (lines rest : List (List ℕ)) × (lines_of xs ≡ lines ++ rest) × Stopped a c u w lines) p.consumed (λ ys e.
-    (p.done, lines_of ys, lines_from r l a b u v count before ys p, stopped a b c u v w p.done p.answered kept keeps))
+    (p.done, lines_of ys, lines_from r l a b u v count before ys p, stopped a b c u v w p.done p.short p.answered kept keeps))
 
 pub ended_first : (l m : Option (List ℕ)) (line : List ℕ) → IsLine line → Consumes l m (line ++ 10 ∷ []) → (ys : List ℕ) → l ≡ Some ys → (rest : List (List ℕ)) × (lines_of ys ≡ line ∷ rest)
 ended_first l m line is_line q ys e =
@@ -152,7 +152,7 @@ pub ends_without_memory : (foreign : Type 0) (r s l : Option (List ℕ)) (a b : 
 ends_without_memory foreign r s l a b u v count before p =
     known r l p.taken (λ xs. (lines rest : List (List ℕ)) × (lines_of xs ≡ lines ++ rest) × Stopped a b u v lines) p.consumed (λ ys e.
     let kept : Kept b b = record { last = []; grows = sym (append-nil b); at_most_one = omega arith } in
-    (p.done, lines_of ys, lines_from r l a b u v count before ys p, stopped a b b u v v p.done p.answered kept (Keeps-refl v)))
+    (p.done, lines_of ys, lines_from r l a b u v count before ys p, stopped a b b u v v p.done p.short p.answered kept (Keeps-refl v)))
 
 -- what holds of the fault that a `?` passes on
 pub passed_on : {T E : Type 0} (r : Result T E) (fault : E) (P : Result T E → Type 0) → IsErr r × IsErrAnd r (λ x. x ≡ fault) → P (Err fault) → P r

@@ -116,8 +116,9 @@ cut_line a b c u v w ls line text before n h p counts short q cut =
     cut_after a b c u v w ls (line ∷ []) before n h p counts q.receipts q.grows (q.called ∙ sym (one_call line short)) text (one_line line q.receipts short ∙ sym q.told) cut
 
 -- a line for which there was no receipt, or one too many
-pub stopped : (a b c : List Receipt) (u v w : Option (List ℕ)) (ls : List (List ℕ)) → Answered a b u v ls → Kept b c → Keeps v w → Stopped a c u w ls
-stopped a b c u v w ls p q keeps = record {
+pub stopped : (a b c : List Receipt) (u v w : Option (List ℕ)) (ls : List (List ℕ)) → has_too_long ls ≡ false → Answered a b u v ls → Kept b c → Keeps v w → Stopped a c u w ls
+stopped a b c u v w ls short p q keeps = record {
+  short = short;
   receipts = p.receipts;
   last = q.last;
   at_most_one = q.at_most_one;

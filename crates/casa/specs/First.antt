@@ -13,15 +13,16 @@ use Rattle.casa.specs.Played.{played}
 abbrev pub transcript_of : List (List ℕ) → List ℕ
 transcript_of lines = transcript (played empty 1 (calls lines)) lines
 
--- the first lines of an input were answered, and their transcript was written and nothing else
+-- the first lines of an input, none of them too long, were answered, and their transcript was written and nothing else
 abbrev pub AnsweredFirst : Option (List ℕ) → (v w : Option (List ℕ)) → Type 0
 AnsweredFirst r v w =
-    IfSome r (λ xs. (lines rest : List (List ℕ)) × (lines_of xs ≡ lines ++ rest) × Appends v w (transcript_of lines))
+    IfSome r (λ xs. (lines rest : List (List ℕ)) × (lines_of xs ≡ lines ++ rest) × (has_too_long lines ≡ false)
+    × Appends v w (transcript_of lines))
 
 -- how it ends, of an input with r to s left: with the transcript of all its lines; with that up to and with the first line
 -- that is too long; with that of the lines ended before a read failed, where no line is too long, the unfinished one
--- neither; after the first bytes of that of the first lines where a write failed; with that of the first lines where memory
--- was refused; never for a foreign pass
+-- neither; after the first bytes of that of the first lines where a write failed; with that of the first lines, none too
+-- long, where memory was refused; never for a foreign pass
 abbrev pub FirstEnds : Result ℕ SessionFault → (r s : Option (List ℕ)) (v w : Option (List ℕ)) → Type 0
 FirstEnds (Ok n) r s v w =
     IfSome r (λ xs.

@@ -59,8 +59,10 @@ pub record Cut (a b : List Receipt) (v w : Option (List ℕ)) (lines : List (Lis
   pub told : n ≡ counted count
   pub written : Appends v w (take count (transcript receipts lines))
 
--- the calls of the lines were answered, and perhaps one more; the transcript of the lines was written and nothing else
+-- none of the lines is too long; their calls were answered, and perhaps one more; their transcript was written and nothing
+-- else
 pub record Stopped (a b : List Receipt) (v w : Option (List ℕ)) (lines : List (List ℕ)) : Type 0 where
+  pub short : has_too_long lines ≡ false
   pub receipts : List Receipt
   pub last : List Receipt
   pub at_most_one : length last ≤ 1
@@ -70,8 +72,8 @@ pub record Stopped (a b : List Receipt) (v w : Option (List ℕ)) (lines : List 
 
 -- how a session ends, of an input with r to s left: with the transcript of all its lines; with that up to a line that is
 -- too long; with that of the lines ended before a read failed, where no line is too long, the unfinished one neither;
--- within that of the first lines where a write failed; or with that of the first lines where memory was refused, or where
--- a desk that may be foreign was so
+-- within that of the first lines where a write failed; or with that of the first lines, none too long, where memory was
+-- refused or a desk that may be foreign was so
 abbrev pub Ends : (foreign : Type 0) → Result ℕ SessionFault → (r s : Option (List ℕ)) (a b : List Receipt) (v w : Option (List ℕ)) → Type 0
 Ends foreign (Ok n) r s a b v w =
     IfSome r (λ xs.
