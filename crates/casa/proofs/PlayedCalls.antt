@@ -1,5 +1,5 @@
 -- the receipts that the sequential allocator gives from the empty state, and how a session over them ends
-use Rattle.std.proofs.Common.{◌≡◌, ℕ, ◌+◌, ◌≤◌, List, [], ◌∷◌, ◌++◌, refl, sym, ap, subst, ◌∙◌, length, take, arith, Option, None, Some}
+use Rattle.std.proofs.Common.{◌≡◌, ℕ, ◌+◌, ◌<◌, List, [], ◌∷◌, ◌++◌, refl, sym, ap, subst, ◌∙◌, length, take, arith, Option, None, Some}
 use Rattle.std.specs.Prelude.{fold, Result, Ok, Err, IfSome}
 use Rattle.std.specs.Io.KnownBytes.{Appends}
 use Rattle.casa_flight.specs.declared.call.Call.{Call}
@@ -68,11 +68,11 @@ if_some P Q f None h = tt
 if_some P Q f (Some x) h = f x h
 
 cut : (cs : List Call) (v w : Option (List ℕ)) (lines : List (List ℕ)) (n : ℕ) → Cut [] (played empty 1 cs) v w lines n →
-    (count : ℕ) × (count ≤ length (transcript_of lines)) × (n ≡ counted count) × Appends v w (take count (transcript_of lines))
+    (count : ℕ) × (count < length (transcript_of lines)) × (n ≡ counted count) × Appends v w (take count (transcript_of lines))
 cut cs v w lines n h =
     let same = answered-played cs h.receipts lines h.grows h.called in (
       h.count,
-      subst (λ rs. h.count ≤ length (transcript rs lines)) same h.within,
+      subst (λ rs. h.count < length (transcript rs lines)) same h.within,
       h.told,
       subst (λ rs. Appends v w (take h.count (transcript rs lines))) same h.written,
     )

@@ -1,5 +1,5 @@
 -- how a session over the slow allocator ends, from the empty state
-use Rattle.std.specs.Prelude.{◌≡◌, ℕ, ◌≤◌, List, ◌++◌, length, take, true, false, Option, Result, Ok, Err, IfSome}
+use Rattle.std.specs.Prelude.{◌≡◌, ℕ, ◌<◌, List, ◌++◌, length, take, true, false, Option, Result, Ok, Err, IfSome}
 use Rattle.std.specs.Io.KnownBytes.{Appends, Consumes}
 use Rattle.casa_flight.specs.State.{empty}
 use Rattle.casa.specs.declared.session.SessionFault.{SessionFault}
@@ -21,8 +21,8 @@ AnsweredFirst r v w =
 
 -- how it ends, of an input with r to s left: with the transcript of all its lines; with that up to and with the first line
 -- that is too long; with that of the lines ended before a read failed, where no line is too long, the unfinished one
--- neither; after the first bytes of that of the first lines where a write failed; with that of the first lines, none too
--- long, where memory was refused; never for a foreign pass
+-- neither; after the first bytes of that of the first lines, not all of it, where a write failed; with that of the first
+-- lines, none too long, where memory was refused; never for a foreign pass
 abbrev pub FirstEnds : Result ℕ SessionFault → (r s : Option (List ℕ)) (v w : Option (List ℕ)) → Type 0
 FirstEnds (Ok n) r s v w =
     IfSome r (λ xs.
@@ -34,7 +34,7 @@ FirstEnds (Err ReadFailed) r s v w =
     × (has_too_long (lines_of taken) ≡ false)
 FirstEnds (Err (WriteFailed n)) r s v w =
     IfSome r (λ xs. (lines rest : List (List ℕ)) × (lines_of xs ≡ lines ++ rest)
-    × ((count : ℕ) × (count ≤ length (transcript_of lines)) × (n ≡ counted count)
+    × ((count : ℕ) × (count < length (transcript_of lines)) × (n ≡ counted count)
     × Appends v w (take count (transcript_of lines))))
 FirstEnds (Err ForeignPass) r s v w = ⊥
 FirstEnds (Err NoMemory) r s v w = AnsweredFirst r v w

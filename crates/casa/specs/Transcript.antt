@@ -1,5 +1,5 @@
 -- what a session writes for what it reads, whatever the desk answers
-use Rattle.std.specs.Prelude.{◌≡◌, ℕ, ◌+◌, ◌≤◌, List, [], ◌∷◌, ◌++◌, map, length, take, drop, true, false, Option, Result, Ok, Err, IfSome, if◌then◌else◌}
+use Rattle.std.specs.Prelude.{◌≡◌, ℕ, ◌+◌, ◌≤◌, ◌<◌, List, [], ◌∷◌, ◌++◌, map, length, take, drop, true, false, Option, Result, Ok, Err, IfSome, if◌then◌else◌}
 use Rattle.std.specs.Io.KnownBytes.{Appends, Consumes, Keeps}
 use Rattle.casa_flight.specs.declared.call.Call.{Call}
 use Rattle.casa.specs.declared.fault.WireFault.{WireFault}
@@ -49,13 +49,14 @@ pub record Answered (a b : List Receipt) (v w : Option (List ℕ)) (lines : List
   pub called : calls_of receipts ≡ calls lines
   pub written : Appends v w (transcript receipts lines)
 
--- the calls of the lines were answered, and the first n bytes of their transcript were written, where n is counted
+-- the calls of the lines were answered, and the first n bytes of their transcript, not all of it, were written, where n is
+-- counted
 pub record Cut (a b : List Receipt) (v w : Option (List ℕ)) (lines : List (List ℕ)) (n : ℕ) : Type 0 where
   pub receipts : List Receipt
   pub grows : b ≡ a ++ receipts
   pub called : calls_of receipts ≡ calls lines
   pub count : ℕ
-  pub within : count ≤ length (transcript receipts lines)
+  pub within : count < length (transcript receipts lines)
   pub told : n ≡ counted count
   pub written : Appends v w (take count (transcript receipts lines))
 
@@ -72,8 +73,8 @@ pub record Stopped (a b : List Receipt) (v w : Option (List ℕ)) (lines : List 
 
 -- how a session ends, of an input with r to s left: with the transcript of all its lines; with that up to a line that is
 -- too long; with that of the lines ended before a read failed, where no line is too long, the unfinished one neither;
--- within that of the first lines where a write failed; or with that of the first lines, none too long, where memory was
--- refused or a desk that may be foreign was so
+-- within that of the first lines, before its end, where a write failed; or with that of the first lines, none too long,
+-- where memory was refused or a desk that may be foreign was so
 abbrev pub Ends : (foreign : Type 0) → Result ℕ SessionFault → (r s : Option (List ℕ)) (a b : List Receipt) (v w : Option (List ℕ)) → Type 0
 Ends foreign (Ok n) r s a b v w =
     IfSome r (λ xs.
@@ -103,10 +104,10 @@ pub record Kept (a b : List Receipt) : Type 0 where
   pub grows : b ≡ a ++ last
   pub at_most_one : length last ≤ 1
 
--- the first k bytes of a text were written after `before` bytes, and n is how many these are
+-- the first bytes of a text, not all of it, were written after `before` bytes, and n is how many these are in all
 pub record CutText (text : List ℕ) (before n : ℕ) (v w : Option (List ℕ)) : Type 0 where
   pub count : ℕ
-  pub within : count ≤ length text
+  pub within : count < length text
   pub told : n ≡ counted (before + count)
   pub written : Appends v w (take count text)
 

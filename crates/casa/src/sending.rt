@@ -1,6 +1,6 @@
 //! Writes whole texts, and counts their bytes.
 
-ghost use Rattle.std.specs.Prelude.{◌≡◌, ℕ, ◌+◌, ◌≤◌, length, take, IfOk, IfErr, OnOk};
+ghost use Rattle.std.specs.Prelude.{◌≡◌, ℕ, ◌+◌, ◌<◌, length, take, IfOk, IfErr, OnOk};
 ghost use Rattle.std.specs.Io.KnownBytes.{Appends};
 ghost use Rattle.casa.specs.Sending.{counted};
 
@@ -16,20 +16,23 @@ pub struct Unsent {
 /// Writes all the bytes, and answers how many the writer has taken in all where it had taken `written` before.
 /// The count stays at `u64::MAX` once it is there.
 ///
-/// An interrupted write is made again. `Unsent` where a write fails in another way, or takes no byte.
+/// An interrupted write is made again. `Unsent` where a write fails in another way or takes no byte, before all
+/// bytes are written.
 pub fn send<W: Write>(writer: &mut W, bytes: &[u8], written: u64) -> Result<u64, Unsent>
     ensures ok { OnOk result (Appends (W.contents writer.old) (W.contents writer.new) bytes.now) }
     ensures count { IfOk result (λ n. n ≡ counted (written + length bytes.now)) }
-    ensures err { IfErr result (λ e. (k : ℕ) × (k ≤ length bytes.now) ×
+    ensures err { IfErr result (λ e. (k : ℕ) × (k < length bytes.now) ×
         Appends (W.contents writer.old) (W.contents writer.new) (take k bytes.now) ×
         (e.written ≡ counted (written + k))) }
 {
     let mut at = 0;
     let mut count = written;
-    'tries: for _ in 0..u64::MAX {
-        if at >= bytes.len() {
-            return Ok(count);
+    let mut tries_left = u64::MAX;
+    'tries: while at < bytes.len() {
+        if tries_left == 0 {
+            return Err(Unsent { written: count });
         }
+        tries_left -= 1;
         match writer.write(&bytes[at..]) {
             Ok(0) => return Err(Unsent { written: count }),
             Ok(n) => {
@@ -43,5 +46,5 @@ pub fn send<W: Write>(writer: &mut W, bytes: &[u8], written: u64) -> Result<u64,
             }
         }
     }
-    Err(Unsent { written: count })
+    Ok(count)
 }

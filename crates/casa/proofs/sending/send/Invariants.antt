@@ -9,3 +9,6 @@ invariant-tries g l = record {
   appended : Appends (g.W.Write.contents l.fn.writer) (g.W.Write.contents l.writer) (take l.at l.bytes);
   counted_so : l.count ≡ counted (l.written + l.at);
 }
+
+abbrev pub decreases-tries : goal.decreases-tries
+decreases-tries g l = l.tries_left
