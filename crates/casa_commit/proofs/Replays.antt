@@ -1,4 +1,4 @@
-use Rattle.std.proofs.Common.{◌≡◌, ℕ, zero, suc, ◌+◌, ◌<◌, ◌≤◌, Some, List, [], ◌∷◌, ◌++◌, length, sym, refl, ap, ◌∙◌, inl, inr, arith, add-zero, length-append, rules}
+use Rattle.std.proofs.Common.{◌≡◌, ℕ, zero, suc, ◌+◌, ◌<◌, ◌≤◌, Some, List, [], ◌∷◌, ◌++◌, length, sym, refl, ap, ◌∙◌, inl, inr, arith, add-zero, length-append, subst, rules}
 use Rattle.std.specs.Prelude.{slice_get}
 use Rattle.std.proofs.lemmas.List.{take-append-le}
 use Rattle.std.proofs.Math.Seq.{take-append_seam}
@@ -31,12 +31,18 @@ pub pushed_behind : {X : Type 0} → (new grown old : List X) (x : X) → new �
 pushed_behind {X} new grown old x pushed same = pushed ∙ ap (λ (xs : List X). xs ++ x ∷ []) same
 
 -- a replay from a good state is good
-pub good_replay : {S C R : Type 0} → (good : S → Type 0) (after : ℕ → S → C → S)
+good_replay : {S C R : Type 0} → (good : S → Type 0) (after : ℕ → S → C → S)
     → ((n : ℕ) (s : S) (c : C) → good s → good (after n s c))
     → (n : ℕ) (s : S) (es : List (Entry C R)) → good s → good (replay_from after n s es)
 good_replay good after keeps n s [] fine = fine
 good_replay good after keeps n s (e ∷ es) fine =
     good_replay good after keeps (n + 1) (after n s e.call) es (keeps n s e.call fine)
+
+-- so is a state that is the replay of a history from a good opening
+pub good_state : {S C R : Type 0} → (good : S → Type 0) (after : ℕ → S → C → S)
+    → ((n : ℕ) (s : S) (c : C) → good s → good (after n s c))
+    → (opening : S) → good opening → (es : List (Entry C R)) (s : S) → s ≡ replay after opening es → good s
+good_state good after keeps opening fine es s was = subst good (sym was) (good_replay good after keeps 1 opening es fine)
 
 -- what stands before an appended element stays where it is
 slice_get-before : {X : Type 0} → (xs ys : List X) (k : ℕ) → k < length xs → slice_get (xs ++ ys) k ≡ slice_get xs k

@@ -9,7 +9,7 @@ use Rattle.casa_history.specs.Entries.{entries}
 use Rattle.casa_commit.specs.declared.tally.Tally.{Tally}
 use Rattle.casa_commit.specs.Legal.{entry, replay, IsLegal}
 use Rattle.casa_commit.specs.Desks.{AreTallies, no_calls}
-use Rattle.casa_commit.proofs.Replays.{pushed_behind, replay_push, good_replay, legal_push}
+use Rattle.casa_commit.proofs.Replays.{pushed_behind, replay_push, good_state, legal_push}
 use Rattle.casa_commit.proofs.Tallies.{tallies_push}
 use Rattle.casa_commit.proofs.room.Room.accept.Given.{Over}
 use Rattle.casa_commit.proofs.room.Room.accept.Goals as goal
@@ -27,8 +27,7 @@ returns-clause-reply g c =
     let m = g.met.W.World in
     let w = c.args.self.now.world in
     let es = entries c.args.self.now.history in
-    let fine = subst W.good (sym c.args.self.now.replayed)
-    (good_replay W.good W.after m.good_after 1 W.opening es m.good_opening) in
+    let fine = good_state W.good W.after m.good_after W.opening m.good_opening es (W.state w) c.args.self.now.replayed in
     ∥∥₁_elim c.args.prepared.holds (Coded-set g.row.W-Reply.coded _ _)
     (λ h. (h (W.state w) fine (c.requires.shown fine)).0)
 
@@ -39,8 +38,7 @@ returns-clause-changes g c =
     let m = g.met.W.World in
     let w = c.args.self.now.world in
     let es = entries c.args.self.now.history in
-    let fine = subst W.good (sym c.args.self.now.replayed)
-    (good_replay W.good W.after m.good_after 1 W.opening es m.good_opening) in
+    let fine = good_state W.good W.after m.good_after W.opening m.good_opening es (W.state w) c.args.self.now.replayed in
     ∥∥₁_map c.args.prepared.holds (λ h. (h (W.state w) fine (c.requires.shown fine)).1)
 
 -- the change gives the state after the call, which is the replay with the new entry
@@ -55,7 +53,7 @@ invariant_of-self-clause-replayed g c =
     let w' = c.apply.new.self in
     let e : OfWorld g = entry c.desk-desk.result p.call p.reply in
     let was : W.state w ≡ replay W.after W.opening es = c.args.self.now.replayed in
-    let fine = subst W.good (sym was) (good_replay W.good W.after m.good_after 1 W.opening es m.good_opening) in
+    let fine = good_state W.good W.after m.good_after W.opening m.good_opening es (W.state w) was in
     let applied =
     m.alike_applied w c.grow-grown.new.self.world n p.change w' c.grow-grown.ensures.world c.apply.ensures in
     let number : n ≡ length es + 1 = ap (λ (r : ReceiptOfWorld g). r.position) c.in-Ok.ensures.second in
@@ -77,7 +75,7 @@ invariant_of-self-clause-legal g c =
     let p = c.args.prepared in
     let e : OfWorld g = entry c.desk-desk.result p.call p.reply in
     let was : W.state w ≡ replay W.after W.opening es = c.args.self.now.replayed in
-    let fine = subst W.good (sym was) (good_replay W.good W.after m.good_after 1 W.opening es m.good_opening) in
+    let fine = good_state W.good W.after m.good_after W.opening m.good_opening es (W.state w) was in
     let says : p.reply ≡ W.reply (W.state w) p.call =
     ∥∥₁_elim p.holds (Coded-set g.row.W-Reply.coded _ _)
     (λ h. (h (W.state w) fine (c.requires.shown fine)).0) in
