@@ -75,7 +75,8 @@ fn message_of(
     }
 }
 
-/// The message to the operator of a flight that is now filed under a key.
+/// The message to the operator of a flight that is now filed under a key. Take-off times are worked out where a message
+/// could have them.
 fn message(
     alloc: Global,
     old: &Plain,
@@ -85,17 +86,15 @@ fn message(
 ) -> Result<Option<Message>, AllocError>
     ensures { IfOk result (λ m. m ≡ message old.now new.now key row.now) }
 {
-    let was_issued = is_issued(old.row(key));
-    let before = old.ctot_before(alloc, key)?;
-    let now = new.ctot_of(alloc, key, row)?;
-    Ok(message_of(
-        key,
-        row.governing,
-        was_issued,
-        row.issued.is_some(),
-        before,
-        now,
-    ))
+    let was = is_issued(old.row(key));
+    let is = row.issued.is_some();
+    let before = if was && is {
+        old.ctot_before(alloc, key)?
+    } else {
+        0
+    };
+    let now = if is { new.ctot_of(alloc, key, row)? } else { 0 };
+    Ok(message_of(key, row.governing, was, is, before, now))
 }
 
 /// The messages to the operators of these flights.
