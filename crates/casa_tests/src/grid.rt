@@ -11,15 +11,26 @@ fn fault_of(alloc: Global, periods: &[Period]) -> Option<ProfileFault> {
     Profile::new(alloc, periods).err()
 }
 
+/// The slots of two hours from 36000 on, with 28 flights per hour.
+fn two_hours(alloc: Global) -> Result<Grid, Fail> {
+    let profile = Profile::new(alloc, &[period(36000, 43200, 28)?])?;
+    Ok(Grid::of(alloc, &profile)?)
+}
+
 #[test]
 fn rate_28_gives_56_slots_in_two_hours(rt: HostRuntime) -> Result<(), Fail> {
-    let profile = Profile::new(rt.alloc(), &[period(36000, 43200, 28)?])?;
-    let grid = Grid::of(rt.alloc(), &profile)?;
+    let grid = two_hours(rt.alloc())?;
     assert_eq!(rt; grid.len(), 56);
     for (k, begin) in [(0, 36000), (1, 36128), (2, 36257), (3, 36385), (55, 43071)] {
         assert!(rt; k < grid.len());
         assert_eq!(rt; grid.begin(k).secs(), begin, "slot {k}");
     }
+    Ok(())
+}
+
+#[test]
+fn the_asked_slot_is_the_first_that_ends_later(rt: HostRuntime) -> Result<(), Fail> {
+    let grid = two_hours(rt.alloc())?;
     for (eto, slot) in [
         (36127, Some(0)),
         (36128, Some(1)),
@@ -27,14 +38,34 @@ fn rate_28_gives_56_slots_in_two_hours(rt: HostRuntime) -> Result<(), Fail> {
         (43200, None),
     ] {
         assert_eq!(rt; grid.wanted(Moment::new(eto)?), slot, "asked at {eto}");
-        assert_eq!(rt; grid.window_of(Moment::new(eto)?), slot, "held at {eto}");
     }
-    assert_eq!(rt; grid.window_of(Moment::new(35999)?), None);
+    Ok(())
+}
+
+#[test]
+fn the_slot_of_a_moment_has_it_in_its_window(rt: HostRuntime) -> Result<(), Fail> {
+    let grid = two_hours(rt.alloc())?;
+    for (at, slot) in [
+        (35999, None),
+        (36127, Some(0)),
+        (43199, Some(55)),
+        (43200, None),
+    ] {
+        assert_eq!(rt; grid.window_of(Moment::new(at)?), slot, "held at {at}");
+    }
+    Ok(())
+}
+
+#[test]
+fn a_profile_is_its_periods(rt: HostRuntime) -> Result<(), Fail> {
+    let alloc = rt.alloc();
+    let periods = [period(36000, 43200, 28)?];
+    let profile = Profile::new(alloc, &periods)?;
+    assert_eq!(rt; profile.periods(), periods.as_slice());
     let (start, end) = profile.span();
     assert_eq!(rt; (start.secs(), end.secs()), (36000, 43200));
-    assert!(rt; *grid.profile() == profile);
     assert!(rt; profile.clone()? == profile);
-    assert_eq!(rt; profile.periods(), [period(36000, 43200, 28)?].as_slice());
+    assert!(rt; *Grid::of(alloc, &profile)?.profile() == profile);
     Ok(())
 }
 

@@ -77,46 +77,85 @@ fn cto_of(list: &SlotList, text: &[u8]) -> Result<Option<u32>, Fail> {
     Ok(list.cto_of(&key(text)?).map(|at| at.secs()))
 }
 
+/// Ten slots with the competitor B, C issued at 36015 and the forced flight D.
+fn three_flights(alloc: Global) -> Result<SlotList, Fail> {
+    let mut list = ten_slots(alloc)?;
+    enter(&mut list, comp(b"B", 36_005)?)?;
+    hold(&mut list, comp(b"C", 36_005)?, 36_015)?;
+    force(&mut list, comp(b"D", 36_050)?)?;
+    Ok(list)
+}
+
 #[test]
 fn newcomers_displace_those_planned_later(rt: HostRuntime) -> Result<(), Fail> {
-    let alloc = rt.alloc();
-    let mut list = ten_slots(alloc)?;
+    let mut list = ten_slots(rt.alloc())?;
     assert_eq!(rt; enter(&mut list, comp(b"A", 36_010)?)?, Place::Slot(0));
     let b = comp(b"B", 36_005)?;
     assert_eq!(rt; would_get(&list, &b)?, Place::Slot(0));
     assert_eq!(rt; enter(&mut list, b)?, Place::Slot(0));
     assert_eq!(rt; list.place_of(&key(b"A")?), Some(Place::Slot(1)));
+    Ok(())
+}
 
-    assert_eq!(rt; list.issue(&key(b"A")?), Some(Moment::new(36_120)?));
-    assert_eq!(rt; list.issue(&key(b"A")?), None);
+#[test]
+fn competitors_make_way_for_a_held_flight(rt: HostRuntime) -> Result<(), Fail> {
+    let mut list = ten_slots(rt.alloc())?;
+    assert_eq!(rt; enter(&mut list, comp(b"B", 36_005)?)?, Place::Slot(0));
     hold(&mut list, comp(b"C", 36_005)?, 36_015)?;
-    assert_eq!(rt; list.place_of(&key(b"B")?), Some(Place::Slot(2)));
-    assert_eq!(rt; list.leave(&key(b"A")?), Some(Place::Slot(1)));
     assert_eq!(rt; list.place_of(&key(b"B")?), Some(Place::Slot(1)));
     assert_eq!(rt; cto_of(&list, b"B")?, Some(36_120));
+    assert_eq!(rt; list.leave(&key(b"C")?), Some(Place::Slot(0)));
+    assert_eq!(rt; list.place_of(&key(b"B")?), Some(Place::Slot(0)));
     assert_eq!(rt; list.leave(&key(b"Z")?), None);
+    Ok(())
+}
 
-    force(&mut list, comp(b"D", 36_050)?)?;
+#[test]
+fn forced_flights_take_no_slot(rt: HostRuntime) -> Result<(), Fail> {
+    let mut list = three_flights(rt.alloc())?;
     assert_eq!(rt; list.place_of(&key(b"B")?), Some(Place::Slot(1)));
     assert_eq!(rt; list.place_of(&key(b"D")?), None);
     assert_eq!(rt; list.governed(), 2);
+    assert!(rt; list.unforce(&key(b"D")?));
+    assert_eq!(rt; list.nth(2), None);
+    Ok(())
+}
+
+#[test]
+fn a_list_is_read_in_order(rt: HostRuntime) -> Result<(), Fail> {
+    let list = three_flights(rt.alloc())?;
+    let (b, c, d) = (
+        comp(b"B", 36_005)?,
+        comp(b"C", 36_005)?,
+        comp(b"D", 36_050)?,
+    );
+    let issued = Standing::Issued(Moment::new(36_015)?);
+    assert_eq!(rt; list.nth(0), Some((b, Standing::Pre(Place::Slot(1)))));
+    assert_eq!(rt; list.nth(1), Some((c, issued)));
+    assert_eq!(rt; list.nth(2), Some((d, Standing::Forced)));
+    assert_eq!(rt; list.nth(3), None);
+    Ok(())
+}
+
+#[test]
+fn a_copy_is_the_same_list(rt: HostRuntime) -> Result<(), Fail> {
+    let list = three_flights(rt.alloc())?;
     let copy = list.try_clone()?;
     for n in 0..4 {
         assert_eq!(rt; copy.nth(n), list.nth(n));
     }
+    Ok(())
+}
 
+#[test]
+fn new_slots_place_competitors_anew(rt: HostRuntime) -> Result<(), Fail> {
+    let alloc = rt.alloc();
+    let mut list = three_flights(alloc)?;
     list.regrid(grid(alloc, &[period(36_000, 37_200, 15)?])?)?;
     assert_eq!(rt; list.grid().len(), 5);
     assert_eq!(rt; list.place_of(&key(b"C")?), Some(Place::Slot(0)));
     assert_eq!(rt; list.place_of(&key(b"B")?), Some(Place::Slot(1)));
     assert_eq!(rt; cto_of(&list, b"B")?, Some(36_240));
-    let c = Standing::Issued(Moment::new(36_015)?);
-    assert_eq!(rt; list.nth(0), Some((b, Standing::Pre(Place::Slot(1)))));
-    assert_eq!(rt; list.nth(1), Some((comp(b"C", 36_005)?, c)));
-    assert_eq!(rt; list.nth(2), Some((comp(b"D", 36_050)?, Standing::Forced)));
-    assert_eq!(rt; list.nth(3), None);
-    assert!(rt; list.unforce(&key(b"D")?));
-    assert_eq!(rt; list.nth(2), None);
     Ok(())
 }
 
@@ -196,24 +235,35 @@ fn a_closed_period_has_no_slot(rt: HostRuntime) -> Result<(), Fail> {
 
 /// Run also with each allocation refused in turn: the refused call has changed nothing, and is made again.
 #[test]
-fn a_refused_growth_changes_nothing(rt: HostRuntime) -> Result<(), Fail> {
-    let alloc = rt.alloc();
-    let mut list = ten_slots(alloc)?;
-    assert_eq!(rt; enter(&mut list, comp(b"A", 36_010)?)?, Place::Slot(0));
-    hold(&mut list, comp(b"B", 36_005)?, 36_015)?;
-    force(&mut list, comp(b"D", 36_050)?)?;
+fn a_refused_growth_leaves_the_flight_out(rt: HostRuntime) -> Result<(), Fail> {
+    let list = three_flights(rt.alloc())?;
+    assert_eq!(rt; list.governed(), 2);
+    assert_eq!(rt; cto_of(&list, b"B")?, Some(36_120));
+    Ok(())
+}
+
+/// Likewise.
+#[test]
+fn a_refused_growth_copies_nothing(rt: HostRuntime) -> Result<(), Fail> {
+    let list = three_flights(rt.alloc())?;
     let copy = match list.try_clone() {
         Ok(copy) => copy,
         Err(AllocError) => list.try_clone()?,
     };
+    assert_eq!(rt; (list.governed(), copy.governed()), (2, 2));
+    Ok(())
+}
+
+/// Likewise.
+#[test]
+fn a_refused_growth_leaves_the_slots(rt: HostRuntime) -> Result<(), Fail> {
+    let alloc = rt.alloc();
+    let mut list = three_flights(alloc)?;
     let wider = [period(36_000, 37_200, 15)?];
     if let Err(AllocError) = list.regrid(grid(alloc, &wider)?) {
-        assert_eq!(rt; list.grid().len(), 10);
+        assert_eq!(rt; (list.grid().len(), list.governed()), (10, 2));
         list.regrid(grid(alloc, &wider)?)?;
     }
-    assert_eq!(rt; (list.governed(), copy.governed()), (2, 2));
-    assert_eq!(rt; list.place_of(&key(b"A")?), Some(Place::Slot(1)));
-    assert_eq!(rt; cto_of(&list, b"A")?, Some(36_240));
-    assert_eq!(rt; cto_of(&copy, b"A")?, Some(36_120));
+    assert_eq!(rt; cto_of(&list, b"B")?, Some(36_240));
     Ok(())
 }

@@ -70,32 +70,47 @@ fn list(alloc: Global, rows: &[ListRow]) -> Result<Answer, Fail> {
     }))
 }
 
+/// The allocator once R1 is open and the flights A and B are filed.
+fn two_filed(alloc: Global) -> Result<Plain, Fail> {
+    let mut plain = Plain::new(alloc);
+    plain.step(alloc, &open(alloc)?)?;
+    plain.step(alloc, &file(alloc, b"A", 36_010)?)?;
+    plain.step(alloc, &file(alloc, b"B", 36_005)?)?;
+    Ok(plain)
+}
+
+#[test]
+fn a_flight_gets_the_slot_that_it_asks_for(rt: HostRuntime) -> Result<(), Fail> {
+    let alloc = rt.alloc();
+    let mut plain = Plain::new(alloc);
+    let opened = plain.step(alloc, &open(alloc)?)?;
+    assert_eq!(rt; opened, answered(alloc, Answer::Done, &[])?);
+    let filed = plain.step(alloc, &file(alloc, b"A", 36_010)?)?;
+    assert_eq!(rt;
+        filed,
+        answered(alloc, flight(b"A", 30_600, 0, false)?, &[])?
+    );
+    Ok(())
+}
+
 #[test]
 fn two_flights_get_slots_two_minutes_apart(rt: HostRuntime) -> Result<(), Fail> {
     let alloc = rt.alloc();
-    let mut plain = Plain::new(alloc);
-    let (a, b, r1) = (key(b"A")?, key(b"B")?, reg(b"R1")?);
-
-    let opened = plain.step(alloc, &open(alloc)?)?;
-    assert_eq!(rt; opened, answered(alloc, Answer::Done, &[])?);
-    let first = plain.step(alloc, &file(alloc, b"A", 36_010)?)?;
-    assert_eq!(rt;
-        first,
-        answered(alloc, flight(b"A", 30_600, 0, false)?, &[])?
-    );
-    let second = plain.step(alloc, &file(alloc, b"B", 36_005)?)?;
-    assert_eq!(rt;
-        second,
-        answered(alloc, flight(b"B", 30_600, 0, false)?, &[])?
-    );
-
+    let mut plain = two_filed(alloc)?;
     let rows = [
         row(b"B", 36_005, 36_005, Kind::Pre, 0)?,
         row(b"A", 36_010, 36_120, Kind::Pre, 1)?,
     ];
-    let listed = plain.step(alloc, &Call::List(r1))?;
+    let listed = plain.step(alloc, &Call::List(reg(b"R1")?))?;
     assert_eq!(rt; listed, answered(alloc, list(alloc, &rows)?, &[])?);
+    Ok(())
+}
 
+#[test]
+fn flights_are_issued_two_hours_ahead(rt: HostRuntime) -> Result<(), Fail> {
+    let alloc = rt.alloc();
+    let mut plain = two_filed(alloc)?;
+    let (a, b, r1) = (key(b"A")?, key(b"B")?, reg(b"R1")?);
     let sent = [Message::Sam(a, 30_710, r1), Message::Sam(b, 30_600, r1)];
     let ticked = plain.step(alloc, &Call::Tick(Moment::new(22_800)?))?;
     assert_eq!(rt; ticked, answered(alloc, Answer::Done, &sent)?);
@@ -104,11 +119,18 @@ fn two_flights_get_slots_two_minutes_apart(rt: HostRuntime) -> Result<(), Fail> 
         shown,
         answered(alloc, flight(b"A", 30_710, 110, true)?, &[])?
     );
+    Ok(())
+}
+
+#[test]
+fn closing_takes_issued_slots_back(rt: HostRuntime) -> Result<(), Fail> {
+    let alloc = rt.alloc();
+    let mut plain = two_filed(alloc)?;
+    plain.step(alloc, &Call::Tick(Moment::new(22_800)?))?;
     let back = plain.step(alloc, &Call::Tick(Moment::new(22_799)?))?;
     assert_eq!(rt; back, Reply::Refused(Refusal::BackInTime));
-
-    let closed = plain.step(alloc, &Call::CloseReg(r1))?;
-    let dropped = [Message::Slc(a), Message::Slc(b)];
+    let closed = plain.step(alloc, &Call::CloseReg(reg(b"R1")?))?;
+    let dropped = [Message::Slc(key(b"A")?), Message::Slc(key(b"B")?)];
     assert_eq!(rt; closed, answered(alloc, Answer::Done, &dropped)?);
     Ok(())
 }
