@@ -7,27 +7,29 @@ use crate::period::Period;
 use casa_time::Moment;
 use std::alloc::{AllocError, Global};
 use std::marker::Model;
+use std::sync::ArcSlice;
 use thiserror::Error;
 
 /// The periods of a regulation, in order of time, each beginning where the one before ends.
 ///
-/// Contracts see a profile as the list of its periods.
+/// Contracts see a profile as the list of its periods, which copies share.
 #[derive(Drop, Debug)]
 pub struct Profile {
-    periods: Vec<Period>,
+    periods: ArcSlice<Period>,
 }
 
 impl Model for Profile {
     ghost use Rattle.std.specs.Prelude.{List};
+    ghost use Rattle.std.specs.Arc.{arc_slice_items};
     ghost use Rattle.casa_grid.specs.declared.period.Period.{Period};
 
     ghost Value = { List Period };
 
     ghost use Rattle.casa_grid.specs.Profile.{IsProfile};
 
-    ghost view = { λ p. p.periods.items };
+    ghost view = { λ p. arc_slice_items p.periods };
 
-    ghost invariant = { λ p. IsProfile p.periods.items };
+    ghost invariant = { λ p. IsProfile (arc_slice_items p.periods) };
 }
 
 /// Why periods make no profile, in the order of the checks.
@@ -77,7 +79,7 @@ impl Profile {
         if let Some(fault) = first_fault(periods) {
             return Err(fault);
         }
-        let Ok(periods) = Vec::from_slice(alloc, periods) else {
+        let Ok(periods) = ArcSlice::from_slice(alloc, periods) else {
             return Err(ProfileFault::NoMemory);
         };
         Ok(Profile { periods })
@@ -95,15 +97,17 @@ impl Profile {
     pub fn span(&self) -> (Moment, Moment)
         ensures { result ≡ (start_of self.now, end_of self.now) }
     {
-        let last = self.periods.len() - 1;
-        (self.periods[0].begin, self.periods[last].until)
+        let periods = self.periods.as_slice();
+        let last = periods.len() - 1;
+        (periods[0].begin, periods[last].until)
     }
 }
 
 impl Clone for Profile {
     ghost is_clone = { λ profile copy. copy ≡ profile };
 
-    /// The same profile in memory of its own, or `AllocError` where there is no memory for it.
+    /// The same profile, whose periods the copy shares: it takes no memory of its own. `AllocError` where they are
+    /// shared too often to be counted.
     fn clone(&self) -> Result<Profile, AllocError>
         ensures { IfOk result (λ copy. copy ≡ self.now) }
     {
