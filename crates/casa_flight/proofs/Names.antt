@@ -9,8 +9,8 @@ use Rattle.casa_flight.specs.NameInside.{IsInside}
 short : (t : List ℕ) → is_name t ≡ true → length t ≤ 10
 short t h = leb-true (length t) 10 (and_parts _ _ (and_parts _ _ h).1).0
 
-pub inside : (t rest : List ℕ) → is_name t ≡ true → rest ≡ replicate (10 - length t) 0 → IsInside (record { bytes = t ++ rest; len = length t })
-inside t rest h e =
+pub inside : {Kind : Type 0} (t rest : List ℕ) → is_name t ≡ true → rest ≡ replicate (10 - length t) 0 → IsInside {Kind = Kind} (record { bytes = t ++ rest; len = length t; kind = record {} })
+inside {Kind = Kind} t rest h e =
     let front : take (length t) (t ++ rest) ≡ t = take-append_seam t rest in
     let size : length (t ++ rest) ≡ 10 = length-append t rest ∙ ap (λ n. length t + n) (ap length e ∙ length-replicate (10 - length t) 0) ∙ omega (arith, short t h) in
     record {

@@ -3,17 +3,17 @@ use Rattle.std.proofs.Common.{◌≡◌, ℕ, List, true, ap, rules}
 use Rattle.std.proofs.lemmas.Bool.{and_parts, eqb-true}
 use Rattle.casa_grid.proofs.Equal.{pointwise-true, profile_same}
 use Rattle.casa_flight.specs.FlightPlan.{FlightPlan}
+use Rattle.casa_flight.specs.Text.{same_text}
 use Rattle.casa_flight.specs.declared.plan.Crossing.{Crossing}
 use Rattle.casa_flight.specs.declared.plan.Sts.{Sts}
 use Rattle.casa_flight.specs.contracts.plan.CrossingPartialEq.TheImpl.{ghosts as crossing}
 use Rattle.casa_flight.specs.contracts.plan.StsPartialEq.TheImpl.{ghosts as sts}
-use Rattle.casa_flight.specs.contracts.key.KeyPartialEq.TheImpl.{ghosts as key}
 use Rattle.casa_flight.specs.PlanEquality.{plan_eq}
 use Rattle.casa_flight.specs.declared.call.Call.{Call}
 use Rattle.casa_flight.specs.declared.call.Call.TheVariants.{File, Amend, Cancel, Revise, Exempt, OpenReg, CloseReg, Rates, Tick, Show, List as ListOf}
 use Rattle.casa_flight.specs.contracts.call.CallPartialEq.TheImpl.{ghosts as call}
 
-pub text_same : (a b : List ℕ) → key.eq a b ≡ true → a ≡ b
+pub text_same : (a b : List ℕ) → same_text a b ≡ true → a ≡ b
 text_same a b h = pointwise-true _ eqb-true a b h
 
 pub crossing_same : (a b : Crossing) → crossing.eq a b ≡ true → a ≡ b

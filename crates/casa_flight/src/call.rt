@@ -1,11 +1,12 @@
 ghost use Rattle.std.specs.Prelude.{◌≡◌, IfOk};
 ghost use Rattle.casa_flight.specs.Refusals.{code_of, name_of};
 
-use crate::key::{Key, Loc, RegId};
+use crate::name::{Key, Loc, RegId};
 use crate::plan::Plan;
 use casa_grid::Profile;
 use casa_time::Moment;
 use std::alloc::AllocError;
+use thiserror::Error;
 
 /// What a desk asks of the allocator.
 #[derive(Drop, Debug, PartialEq, Eq)]
@@ -35,7 +36,8 @@ pub enum Call {
 }
 
 impl Call {
-    /// The same call in memory of its own, or `AllocError` where there is no memory for it.
+    /// The same call; what owns memory in it is shared, so that it takes none of its own. `AllocError` where it is shared
+    /// too often to be counted.
     pub fn try_clone(&self) -> Result<Call, AllocError>
         ensures { IfOk result (λ copy. copy ≡ self.now) }
     {
@@ -56,25 +58,34 @@ impl Call {
 }
 
 /// Why the allocator refuses a call. A refused call changes nothing.
-#[derive(Clone, Copy, PartialEq, Eq, Debug)]
+#[derive(Clone, Copy, PartialEq, Eq, Debug, Error)]
 pub enum Refusal {
     /// The key of the filed plan is in use.
+    #[error("the key of the filed plan is in use")]
     Duplicate,
     /// No flight has this key.
+    #[error("no flight has this key")]
     NoFlight,
     /// The plan's off-block time is before the clock.
+    #[error("the plan's off-block time is before the clock")]
     Late,
     /// The flight is exempt, by a mark or by its plan.
+    #[error("the flight is exempt already")]
     AlreadyExempt,
     /// A regulation is open under this identifier.
+    #[error("a regulation is open under this identifier")]
     DuplicateRegulation,
     /// No regulation is open under this identifier.
+    #[error("no regulation is open under this identifier")]
     NoRegulation,
     /// 256 regulations are open.
+    #[error("256 regulations are open")]
     TooManyRegulations,
     /// The new profile has another start or end.
+    #[error("the new profile has another start or end")]
     SpanChanged,
     /// The new time is before the clock.
+    #[error("the new time is before the clock")]
     BackInTime,
 }
 

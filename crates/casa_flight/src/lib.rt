@@ -7,19 +7,18 @@
 mod call;
 mod comp;
 mod equality;
-mod key;
 mod laws;
 mod name;
 mod plan;
 mod regulation;
 mod reply;
 mod row;
+mod shared;
 mod state;
 
 pub use call::{Call, Refusal};
 pub use comp::{Assigned, Comp};
 pub use equality::{call_equality, reply_equality};
-pub use key::{Key, Loc, RegId};
 pub use laws::{
     assignment_is_right, calls_without_messages, choice_is_most_penalising,
     competitors_are_in_order, delay_is_of_the_place, entering_flights_are_in_order,
@@ -27,8 +26,10 @@ pub use laws::{
     offer_is_the_delay_there, offers_are_of_open_regulations, places_rise, rows_are_in_order,
     written_row_changes_its_entries,
 };
+pub use name::{Key, Loc, Name, OfFlight, OfLocation, OfRegulation, RegId};
 pub use plan::{Crossing, Plan, PlanFault, Sts};
 pub use regulation::{Measure, Regulation};
 pub use reply::{Answer, FlightReply, Kind, ListReply, ListRow, Message, Messages, Reply, Rows};
 pub use row::{Row, Stance, subject};
+pub use shared::SharedSlice;
 pub use state::State;

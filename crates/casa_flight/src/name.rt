@@ -1,4 +1,4 @@
-ghost use Rattle.std.specs.Prelude.{◌≡◌, ◌==◌, ◌↔◌, true, IsSome, IfSome};
+ghost use Rattle.std.specs.Prelude.{◌≡◌, ◌==◌, ◌↔◌, true, IsSome, IfSome, Some};
 ghost use Rattle.std.specs.List.{list_all};
 ghost use Rattle.std.specs.Ordering.{nat_cmp, as_partial_cmp};
 ghost use Rattle.std.specs.Cmp.{partial_order_from_own_ties};
@@ -8,21 +8,44 @@ ghost use Rattle.std.proofs.Common.{rules};
 ghost use Rattle.casa_flight.specs.Text.{is_name, is_name_byte};
 
 use std::cmp::Ordering;
-use std::marker::Model;
+use std::marker::{Model, PhantomData};
+use std::{fmt, str};
 
 /// The longest name, in characters.
 const MAX_LEN: usize = 10;
 
-/// A text of 1 to 10 characters of A to Z and 0 to 9.
+/// A text of 1 to 10 characters of A to Z and 0 to 9, which names a thing of this kind.
 ///
-/// Contracts see a name as the list of its bytes.
+/// Contracts see a name as the list of its bytes. Names are ordered byte by byte.
 #[derive(Clone, Copy, Debug)]
-pub struct Name {
+pub struct Name<Kind> {
     bytes: [u8; MAX_LEN],
     len: usize,
+    kind: PhantomData<Kind>,
 }
 
-impl Model for Name {
+/// The kind of names that flights have.
+#[derive(Clone, Copy, Debug)]
+pub struct OfFlight;
+
+/// The kind of names that locations have.
+#[derive(Clone, Copy, Debug)]
+pub struct OfLocation;
+
+/// The kind of names that regulations have.
+#[derive(Clone, Copy, Debug)]
+pub struct OfRegulation;
+
+/// The key of a flight.
+pub type Key = Name<OfFlight>;
+
+/// A location that flights cross and regulations protect.
+pub type Loc = Name<OfLocation>;
+
+/// The identifier of a regulation.
+pub type RegId = Name<OfRegulation>;
+
+impl<Kind> Model for Name<Kind> {
     ghost use Rattle.std.specs.Prelude.{List, ℕ, take};
 
     ghost Value = { List ℕ };
@@ -58,9 +81,9 @@ fn is_name_byte(byte: u8) -> bool
     (b'0' <= byte && byte <= b'9') || (b'A' <= byte && byte <= b'Z')
 }
 
-impl Name {
-    /// The name with these bytes, or `None` where they are no name.
-    pub fn new(text: &[u8]) -> Option<Name>
+impl<Kind> Name<Kind> {
+    /// The name with these bytes, or `None` where they are not 1 to 10 characters of A to Z and 0 to 9.
+    pub fn new(text: &[u8]) -> Option<Name<Kind>>
         ensures valid { IsSome result ↔ (is_name text.now ≡ true) }
         ensures value { IfSome result (λ name. name ≡ text.now) }
     {
@@ -73,6 +96,7 @@ impl Name {
         Some(Name {
             bytes,
             len: text.len(),
+            kind: PhantomData,
         })
     }
 
@@ -84,21 +108,32 @@ impl Name {
     }
 }
 
-impl PartialEq for Name {
+impl<Kind> fmt::Display for Name<Kind> {
+    ghost output = { λ name. Some name };
+
+    fn fmt<W: fmt::Write>(&self, f: &mut fmt::Formatter<W>) -> fmt::Result {
+        match str::from_utf8(self.as_bytes()) {
+            Ok(text) => f.write_str(text),
+            Err(_) => Err(fmt::Error),
+        }
+    }
+}
+
+impl<Kind> PartialEq for Name<Kind> {
     ghost eq = { pointwise ◌==◌ };
 
     ghost laws = { Prim.search (comparing, rules) };
 
-    fn eq(&self, other: &Name) -> bool {
+    fn eq(&self, other: &Name<Kind>) -> bool {
         self.as_bytes() == other.as_bytes()
     }
 }
 
-impl Eq for Name {
+impl<Kind> Eq for Name<Kind> {
     ghost laws = { Prim.search (comparing, rules) };
 }
 
-impl Ord for Name {
+impl<Kind> Ord for Name<Kind> {
     ghost cmp = { slice_cmp nat_cmp };
 
     ghost total = { Prim.search (comparing, rules) };
@@ -107,17 +142,17 @@ impl Ord for Name {
 
     ghost matches_eq = { Prim.search (comparing, rules) };
 
-    fn cmp(&self, other: &Name) -> Ordering {
+    fn cmp(&self, other: &Name<Kind>) -> Ordering {
         self.as_bytes().cmp(other.as_bytes())
     }
 }
 
-impl PartialOrd for Name {
+impl<Kind> PartialOrd for Name<Kind> {
     ghost partial_cmp = { as_partial_cmp (slice_cmp nat_cmp) };
 
     ghost laws = { partial_order_from_own_ties (Prim.search (comparing, rules)) (Prim.search (comparing, rules)) };
 
-    fn partial_cmp(&self, other: &Name) -> Option<Ordering> {
+    fn partial_cmp(&self, other: &Name<Kind>) -> Option<Ordering> {
         Some(self.cmp(other))
     }
 }

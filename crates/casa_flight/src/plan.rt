@@ -4,13 +4,13 @@ ghost use Rattle.casa_time.specs.Moment.{last_moment};
 ghost use Rattle.casa_flight.specs.declared.plan.Crossing.{Crossing};
 ghost use Rattle.casa_flight.specs.Text.{same_text};
 ghost use Rattle.casa_flight.specs.FlightPlan.{FlightPlan, etot};
-ghost use Rattle.casa_flight.specs.PlanFaults.{plan_fault, has_twice, has_early};
+ghost use Rattle.casa_flight.specs.PlanFaults.{plan_fault, name_of, has_twice, has_early};
 
-use crate::key::{Key, Loc};
-use crate::name::is_name;
+use crate::name::{Key, Loc, is_name};
 use casa_time::Moment;
 use std::alloc::{AllocError, Global};
 use std::marker::Model;
+use std::sync::ArcSlice;
 use thiserror::Error;
 
 /// The special status of a flight, by its plan's STS indicator. Every one but `Plain` exempts it.
@@ -33,50 +33,68 @@ pub struct Crossing {
 
 /// A flight plan: its key, off-block time, taxi time in seconds, crossings and status.
 ///
-/// Contracts see a plan as the record of these, with the crossings as a list.
+/// Contracts see a plan as the record of these, with the crossings as a list, which copies share.
 #[derive(Drop, Debug)]
 pub struct Plan {
     key: Key,
     eobt: Moment,
     taxi: u32,
-    via: Vec<Crossing>,
+    via: ArcSlice<Crossing>,
     sts: Sts,
 }
 
 impl Model for Plan {
+    ghost use Rattle.std.specs.Arc.{arc_slice_items};
     ghost use Rattle.casa_flight.specs.FlightPlan.{FlightPlan, IsValid};
 
     ghost Value = { FlightPlan };
 
-    ghost view = { λ p. record { key = p.key; eobt = p.eobt; taxi = p.taxi; via = p.via.items; sts = p.sts } };
+    ghost view = { λ p. record { key = p.key; eobt = p.eobt; taxi = p.taxi; via = arc_slice_items p.via; sts = p.sts } };
 
-    ghost invariant = { λ p. IsValid p.eobt p.taxi p.via.items };
+    ghost invariant = { λ p. IsValid p.eobt p.taxi (arc_slice_items p.via) };
 }
 
 /// Why there is no such plan, in the order of the checks.
 #[derive(Clone, Copy, PartialEq, Eq, Debug, Error)]
 pub enum PlanFault {
     /// The key is not 1 to 10 characters of A to Z and 0 to 9.
-    #[error("BadKey")]
+    #[error("the key is not 1 to 10 characters of A to Z and 0 to 9")]
     BadKey,
     /// The taxi time is above 3,600 seconds.
-    #[error("TaxiTooLong")]
+    #[error("the taxi time is above 3,600 seconds")]
     TaxiTooLong,
     /// There are more than 32 crossings.
-    #[error("TooManyCrossings")]
+    #[error("there are more than 32 crossings")]
     TooManyCrossings,
     /// A location is crossed twice.
-    #[error("SameLocation")]
+    #[error("a location is crossed twice")]
     SameLocation,
     /// A location is crossed before the estimated take-off.
-    #[error("EtoBeforeTakeOff")]
+    #[error("a location is crossed before the estimated take-off")]
     EtoBeforeTakeOff,
     /// The estimated take-off is after second 172,799.
-    #[error("OutOfRange")]
+    #[error("the estimated take-off is after second 172,799")]
     OutOfRange,
     /// There is no memory for the plan.
-    #[error("NoMemory")]
+    #[error("there is no memory for the plan")]
     NoMemory,
+}
+
+impl PlanFault {
+    /// The name of the fault, as in `"BadKey"`.
+    pub fn name(self) -> &'static str
+        ensures { result.now ≡ name_of self }
+    {
+        match self {
+            PlanFault::BadKey => "BadKey",
+            PlanFault::TaxiTooLong => "TaxiTooLong",
+            PlanFault::TooManyCrossings => "TooManyCrossings",
+            PlanFault::SameLocation => "SameLocation",
+            PlanFault::EtoBeforeTakeOff => "EtoBeforeTakeOff",
+            PlanFault::OutOfRange => "OutOfRange",
+            PlanFault::NoMemory => "NoMemory",
+        }
+    }
 }
 
 /// The longest taxi time, in seconds.
@@ -111,7 +129,7 @@ impl Plan {
         let Some(key) = Key::new(key) else {
             return Err(PlanFault::BadKey);
         };
-        let Ok(via) = Vec::from_slice(alloc, via) else {
+        let Ok(via) = ArcSlice::from_slice(alloc, via) else {
             return Err(PlanFault::NoMemory);
         };
         Ok(Plan {
@@ -167,7 +185,8 @@ impl Plan {
         self.via.as_slice()
     }
 
-    /// The same plan in memory of its own, or `AllocError` where there is no memory for it.
+    /// The same plan, whose crossings the copy shares: it takes no memory of its own. `AllocError` where they are shared
+    /// too often to be counted.
     pub fn try_clone(&self) -> Result<Plan, AllocError>
         ensures { IfOk result (λ p. p ≡ self.now) }
     {
@@ -212,7 +231,7 @@ impl Eq for Plan {
     ghost laws = { plan_eq_laws };
 }
 
-/// The first fault of a plan of these but for want of memory.
+/// The first fault of a plan of these, memory aside.
 fn first_fault(key: &[u8], eobt: Moment, taxi: u32, via: &[Crossing]) -> Option<PlanFault>
     ensures { result ≡ plan_fault key.now eobt taxi via.now }
 {

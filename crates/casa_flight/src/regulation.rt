@@ -1,6 +1,6 @@
 ghost use Rattle.std.specs.Prelude.{◌≡◌, IfOk};
 
-use crate::key::{Loc, RegId};
+use crate::name::{Loc, RegId};
 use casa_grid::Profile;
 use casa_time::Moment;
 use std::alloc::AllocError;
@@ -25,7 +25,8 @@ pub struct Measure {
 impl Clone for Measure {
     ghost is_clone = { λ measure copy. copy ≡ measure };
 
-    /// The same measure in memory of its own, or `AllocError` where there is no memory for it.
+    /// The same measure; what owns memory in it is shared, so that it takes none of its own. `AllocError` where it is shared
+    /// too often to be counted.
     fn clone(&self) -> Result<Measure, AllocError>
         ensures { IfOk result (λ copy. copy ≡ self.now) }
     {

@@ -1,10 +1,10 @@
 ghost use Rattle.std.specs.Prelude.{◌≡◌, IfOk};
 
 use crate::call::Refusal;
-use crate::key::{Key, Loc, RegId};
+use crate::name::{Key, Loc, RegId};
+use crate::shared::SharedSlice;
 use casa_time::Moment;
 use std::alloc::AllocError;
-use std::marker::Model;
 
 /// What the allocator replies to a call.
 #[derive(Drop, Debug, PartialEq, Eq)]
@@ -86,135 +86,14 @@ pub enum Message {
 }
 
 /// The rows of a list, in their order.
-///
-/// Contracts see them as their list.
-#[derive(Drop, Debug)]
-pub struct Rows {
-    items: Vec<ListRow>,
-}
-
-impl Model for Rows {
-    ghost use Rattle.std.specs.Prelude.{List};
-    ghost use Rattle.casa_flight.specs.declared.reply.ListRow.{ListRow};
-
-    ghost Value = { List ListRow };
-
-    ghost view = { λ l. l.items.items };
-}
-
-impl Rows {
-    /// These rows.
-    pub fn of(items: Vec<ListRow>) -> Rows
-        ensures { result ≡ items.items }
-    {
-        Rows { items }
-    }
-
-    /// The rows, in order.
-    pub fn as_slice(&self) -> &[ListRow]
-        ensures { result.now ≡ self.now }
-    {
-        self.items.as_slice()
-    }
-
-    /// The same rows in memory of their own, or `AllocError` where there is no memory for them.
-    pub fn try_clone(&self) -> Result<Rows, AllocError>
-        ensures { IfOk result (λ copy. copy ≡ self.now) }
-    {
-        Ok(Rows {
-            items: self.items.clone()?,
-        })
-    }
-}
-
-impl PartialEq for Rows {
-    ghost use Rattle.std.specs.Cmp.{partial_equiv_from_equiv};
-    ghost use Rattle.std.specs.Cmp.Lexicographic.{pointwise};
-    ghost use Rattle.std.proofs.lemmas.Cmp.{lists_equiv};
-    ghost use Rattle.casa_flight.specs.contracts.reply.ListRowEq.TheImpl.Laws.{laws-law as item_laws};
-
-    ghost eq = { pointwise ⟦<ListRow as PartialEq>⟧.eq };
-
-    ghost laws = { partial_equiv_from_equiv (lists_equiv item_laws) };
-
-    fn eq(&self, other: &Rows) -> bool {
-        self.as_slice() == other.as_slice()
-    }
-}
-
-impl Eq for Rows {
-    ghost use Rattle.std.proofs.lemmas.Cmp.{lists_equiv};
-    ghost use Rattle.casa_flight.specs.contracts.reply.ListRowEq.TheImpl.Laws.{laws-law as item_laws};
-
-    ghost laws = { lists_equiv item_laws };
-}
+pub type Rows = SharedSlice<ListRow>;
 
 /// The messages of a call, in the order of the keys.
-///
-/// Contracts see them as their list.
-#[derive(Drop, Debug)]
-pub struct Messages {
-    items: Vec<Message>,
-}
-
-impl Model for Messages {
-    ghost use Rattle.std.specs.Prelude.{List};
-    ghost use Rattle.casa_flight.specs.declared.reply.Message.{Message};
-
-    ghost Value = { List Message };
-
-    ghost view = { λ l. l.items.items };
-}
-
-impl Messages {
-    /// These messages.
-    pub fn of(items: Vec<Message>) -> Messages
-        ensures { result ≡ items.items }
-    {
-        Messages { items }
-    }
-
-    /// The messages, in order.
-    pub fn as_slice(&self) -> &[Message]
-        ensures { result.now ≡ self.now }
-    {
-        self.items.as_slice()
-    }
-
-    /// The same messages in memory of their own, or `AllocError` where there is no memory for them.
-    pub fn try_clone(&self) -> Result<Messages, AllocError>
-        ensures { IfOk result (λ copy. copy ≡ self.now) }
-    {
-        Ok(Messages {
-            items: self.items.clone()?,
-        })
-    }
-}
-
-impl PartialEq for Messages {
-    ghost use Rattle.std.specs.Cmp.{partial_equiv_from_equiv};
-    ghost use Rattle.std.specs.Cmp.Lexicographic.{pointwise};
-    ghost use Rattle.std.proofs.lemmas.Cmp.{lists_equiv};
-    ghost use Rattle.casa_flight.specs.contracts.reply.MessageEq.TheImpl.Laws.{laws-law as item_laws};
-
-    ghost eq = { pointwise ⟦<Message as PartialEq>⟧.eq };
-
-    ghost laws = { partial_equiv_from_equiv (lists_equiv item_laws) };
-
-    fn eq(&self, other: &Messages) -> bool {
-        self.as_slice() == other.as_slice()
-    }
-}
-
-impl Eq for Messages {
-    ghost use Rattle.std.proofs.lemmas.Cmp.{lists_equiv};
-    ghost use Rattle.casa_flight.specs.contracts.reply.MessageEq.TheImpl.Laws.{laws-law as item_laws};
-
-    ghost laws = { lists_equiv item_laws };
-}
+pub type Messages = SharedSlice<Message>;
 
 impl ListReply {
-    /// The same list in memory of its own, or `AllocError` where there is no memory for it.
+    /// The same list; rows and messages are shared, so that it takes no memory of its own. `AllocError` where they are
+    /// shared too often to be counted.
     pub fn try_clone(&self) -> Result<ListReply, AllocError>
         ensures { IfOk result (λ copy. copy ≡ self.now) }
     {
@@ -230,7 +109,8 @@ impl ListReply {
 }
 
 impl Answer {
-    /// The same answer in memory of its own, or `AllocError` where there is no memory for it.
+    /// The same answer; rows and messages are shared, so that it takes no memory of its own. `AllocError` where they are
+    /// shared too often to be counted.
     pub fn try_clone(&self) -> Result<Answer, AllocError>
         ensures { IfOk result (λ copy. copy ≡ self.now) }
     {
@@ -243,7 +123,8 @@ impl Answer {
 }
 
 impl Reply {
-    /// The same reply in memory of its own, or `AllocError` where there is no memory for it.
+    /// The same reply; rows and messages are shared, so that it takes no memory of its own. `AllocError` where they are
+    /// shared too often to be counted.
     pub fn try_clone(&self) -> Result<Reply, AllocError>
         ensures { IfOk result (λ copy. copy ≡ self.now) }
     {

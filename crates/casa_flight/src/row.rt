@@ -1,7 +1,7 @@
 ghost use Rattle.std.specs.Prelude.{◌≡◌, IfOk};
 ghost use Rattle.casa_flight.specs.State.{subject};
 
-use crate::key::RegId;
+use crate::name::RegId;
 use crate::plan::Plan;
 use crate::regulation::Regulation;
 use casa_time::Moment;
@@ -49,7 +49,8 @@ pub fn subject(row: &Row, regulation: &Regulation) -> Option<Moment>
 impl Clone for Row {
     ghost is_clone = { λ row copy. copy ≡ row };
 
-    /// The same row in memory of its own, or `AllocError` where there is no memory for it.
+    /// The same row; what owns memory in it is shared, so that it takes none of its own. `AllocError` where it is shared
+    /// too often to be counted.
     fn clone(&self) -> Result<Row, AllocError>
         ensures { IfOk result (λ copy. copy ≡ self.now) }
     {

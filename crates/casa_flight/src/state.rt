@@ -1,4 +1,4 @@
-use crate::key::{Key, RegId};
+use crate::name::{Key, RegId};
 use crate::regulation::Measure;
 use crate::row::Row;
 use casa_time::Moment;

@@ -168,9 +168,9 @@ fn copies_equal_their_sources(rt: HostRuntime) -> Result<(), Fail> {
         start,
         end,
         slots: 10,
-        rows: Rows::of(vec![in alloc; row]?),
+        rows: Rows::from_vec(vec![in alloc; row]?)?,
     };
-    let messages = Messages::of(vec![in alloc; Message::Slc(key)]?);
+    let messages = Messages::from_vec(vec![in alloc; Message::Slc(key)]?)?;
     assert_eq!(rt;
         (list.rows.as_slice().len(), messages.as_slice().len()),
         (1, 1)
