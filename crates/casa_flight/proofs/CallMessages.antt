@@ -22,29 +22,29 @@ use Rattle.casa_flight.specs.Entry.{Offer, situation, choice, entered}
 use Rattle.casa_flight.specs.Steps.{Step, refused, leads, new_row, file, amend, cancel, is_revised, state_if, revise, exempt, exempt_if, show, list, step, after, next}
 use Rattle.casa_flight.specs.Replies.{messages, is_issued, ctot_before, reply, reply_of}
 use Rattle.casa_flight.specs.Good.{AreInOrder, IsOutside, IsGood, IsGoverned}
-use Rattle.casa_flight.specs.Messages.{messages_in, told, CanCome, Tells}
+use Rattle.casa_flight.specs.Messages.{messages_in, flight_of, CanCome, Tells}
 use Rattle.casa_flight.proofs.Entries.{text_cmp, same_name, all_at, at-without_other}
 use Rattle.casa_flight.proofs.Kept.{at-without_same}
 use Rattle.casa_flight.proofs.Choice.{choice-offer, choice-none}
 use Rattle.casa_flight.proofs.GoodRegs.{next-good}
-use Rattle.casa_flight.proofs.Told.{message_cases, message_tells, each_message, told_comes, messages_sorted, governed_by, free_of, StaysOpen, messages_unchanged, all_one}
+use Rattle.casa_flight.proofs.ChangeMessages.{message_cases, message_tells, each_message, tells_comes, messages_sorted, governed_by, free_of, StaysOpen, messages_unchanged, all_one}
 use Rattle.casa_flight.proofs.EnterAll.{IsIssuedNow, issued_now, issues}
 
 -- what holds of the messages of a call, whatever the call
-nothing_told : (m : State) (x : Message) → Tells m m x → ⊥
-nothing_told m (Sam key ctot reg) t = both_ways (is_issued (row_of m key)) t.0 (ap is_issued t.1.is_filed ∙ t.1.issued)
-nothing_told m (Srm key ctot reg) t = t.1 (sym (ap (λ (w : Option Row). option_map_or (ctot_of m key) w 0) t.2.is_filed ∙ t.2.leaves))
-nothing_told m (Slc key) t = both_ways (is_issued (row_of m key)) t.2 t.0
+nothing_tells : (m : State) (x : Message) → Tells m m x → ⊥
+nothing_tells m (Sam key ctot reg) t = both_ways (is_issued (row_of m key)) t.0 (ap is_issued t.1.is_filed ∙ t.1.issued)
+nothing_tells m (Srm key ctot reg) t = t.1 (sym (ap (λ (w : Option Row). option_map_or (ctot_of m key) w 0) t.2.is_filed ∙ t.2.leaves))
+nothing_tells m (Slc key) t = both_ways (is_issued (row_of m key)) t.2 t.0
 
 step_tells : (m : State) (call : Call) (s : Step) → AreInOrder (after m s).rows → All (Tells m (after m s)) (messages_in (reply_of m call s))
 step_tells m call (refused r) sorted = All-nil (Tells m m)
 step_tells m call (leads n) sorted = each_message (Tells m n) m n sorted (λ key row x. message_tells m n key row x)
 
 step_comes : (m : State) (call : Call) (s : Step) (x : Message) → Tells m (after m s) x → Contains (messages_in (reply_of m call s)) x
-step_comes m call (refused r) x t = absurd (nothing_told m x t)
-step_comes m call (leads n) x t = told_comes m n x t
+step_comes m call (refused r) x t = absurd (nothing_tells m x t)
+step_comes m call (leads n) x t = tells_comes m n x t
 
-step_sorted : (m : State) (call : Call) (s : Step) → AreInOrder (after m s).rows → IsStrictlySortedBy text_cmp (map told (messages_in (reply_of m call s)))
+step_sorted : (m : State) (call : Call) (s : Step) → AreInOrder (after m s).rows → IsStrictlySortedBy text_cmp (map flight_of (messages_in (reply_of m call s)))
 unfolding IsStrictlySortedBy
 step_sorted m call (refused r) sorted = tt
 step_sorted m call (leads n) sorted = messages_sorted m n sorted
@@ -55,7 +55,7 @@ call_tells m call good = step_tells m call (step m call) (next-good m call good)
 pub call_comes : (m : State) (call : Call) (x : Message) → IsGood m → Tells m (next m call) x → Contains (messages_in (reply m call)) x
 call_comes m call x good t = step_comes m call (step m call) x t
 
-pub call_sorted : (m : State) (call : Call) → IsGood m → IsStrictlySortedBy text_cmp (map told (messages_in (reply m call)))
+pub call_sorted : (m : State) (call : Call) → IsGood m → IsStrictlySortedBy text_cmp (map flight_of (messages_in (reply m call)))
 call_sorted m call good = step_sorted m call (step m call) (next-good m call good).rows_in_order
 
 -- which messages can come of a call, by its outcome

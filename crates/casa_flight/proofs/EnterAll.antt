@@ -17,13 +17,16 @@ use Rattle.casa_flight.specs.Steps.{flights_over}
 use Rattle.casa_flight.specs.Good.{IsGood}
 use Rattle.casa_flight.proofs.Entries.{text_cmp, same_name, named, apart, all-each, all-filter_map, each_found, at-put, at-put_other}
 
--- a flight that enters keeps its plan
-pub entered_plan : (s : Situation) (key : Text) (row : Row) → (entered s key row).plan ≡ row.plan
-entered_plan s key row =
-    elim (is_exempt row || is_gone s.clock row.plan) as (λ b. (cond b row (option_map_or (governed s.clock row) (choice s key row.plan) row)).plan ≡ row.plan) [
+-- a flight that enters keeps all but what governs it and its issue: its plan and its mark
+entered_rest : (s : Situation) (key : Text) (row : Row) → ungoverned (entered s key row) ≡ ungoverned row
+entered_rest s key row =
+    elim (is_exempt row || is_gone s.clock row.plan) as (λ b. ungoverned (cond b row (option_map_or (governed s.clock row) (choice s key row.plan) row)) ≡ ungoverned row) [
       | true ↦ refl
-      | false ↦ elim (choice s key row.plan) as (λ (o : Option Offer). (option_map_or (governed s.clock row) o row).plan ≡ row.plan) [ None ↦ refl | Some o ↦ refl ]
+      | false ↦ elim (choice s key row.plan) as (λ (o : Option Offer). ungoverned (option_map_or (governed s.clock row) o row) ≡ ungoverned row) [ None ↦ refl | Some o ↦ refl ]
     ]
+
+pub entered_plan : (s : Situation) (key : Text) (row : Row) → (entered s key row).plan ≡ row.plan
+entered_plan s key row = ap (λ (r : Row). r.plan) (entered_rest s key row)
 
 -- one that is issued when it enters is neither exempt nor gone, it is due, and a regulation was chosen
 pub record IsIssuedNow (s : Situation) (key : Text) (row : Row) : Type 0 where
@@ -65,22 +68,33 @@ pub row-enter_all : (s : State) (other : Text) (cs : List Comp) → AllByRecursi
 row-enter_all s other [] h = refl
 row-enter_all s other (c ∷ cs) h = row-enter_all (reenter s c.key (row_of s c.key)) other cs h.1 ∙ row-reenter s c.key other (row_of s c.key) h.0
 
-abbrev pub plan_at : State → Text → Option FlightPlan
-plan_at s key = option_map (λ (row : Row). row.plan) (row_of s key)
+abbrev rest_at : State → Text → Option Row
+rest_at s key = option_map ungoverned (row_of s key)
 
-plan-reenter : (s : State) (key other : Text) (w : Option Row) → row_of s key ≡ w → plan_at (reenter s key w) other ≡ plan_at s other
-plan-reenter s key other None found = refl
-plan-reenter s key other (Some row) found =
+rest-reenter : (s : State) (key other : Text) (w : Option Row) → row_of s key ≡ w → rest_at (reenter s key w) other ≡ rest_at s other
+rest-reenter s key other None found = refl
+rest-reenter s key other (Some row) found =
     let new : Row = entered (situation s) key (ungoverned row) in
-    ap (option_map (λ (r : Row). r.plan)) (at-put other key new s.rows)
-    ∙ (elim (is_eq (text_cmp other key)) as (λ b. is_eq (text_cmp other key) ≡ b → option_map (λ (r : Row). r.plan) (cond b (Some new) (row_of s other)) ≡ plan_at s other) [
-      | true ↦ λ t. ap (λ (p : FlightPlan). Some p) (entered_plan (situation s) key (ungoverned row)) ∙ sym (ap (option_map (λ (r : Row). r.plan)) (ap (row_of s) (same_name other key t) ∙ found))
+    ap (option_map ungoverned) (at-put other key new s.rows)
+    ∙ (elim (is_eq (text_cmp other key)) as (λ b. is_eq (text_cmp other key) ≡ b → option_map ungoverned (cond b (Some new) (row_of s other)) ≡ rest_at s other) [
+      | true ↦ λ t. ap (λ (r : Row). Some r) (entered_rest (situation s) key (ungoverned row)) ∙ sym (ap (option_map ungoverned) (ap (row_of s) (same_name other key t) ∙ found))
       | false ↦ λ t. refl
     ] refl)
 
+pub rest-enter_all : (s : State) (other : Text) (cs : List Comp) → option_map ungoverned (row_of (enter_all s cs) other) ≡ option_map ungoverned (row_of s other)
+rest-enter_all s other [] = refl
+rest-enter_all s other (c ∷ cs) = rest-enter_all (reenter s c.key (row_of s c.key)) other cs ∙ rest-reenter s c.key other (row_of s c.key) refl
+
+abbrev pub plan_at : State → Text → Option FlightPlan
+plan_at s key = option_map (λ (row : Row). row.plan) (row_of s key)
+
+plan_of_rest : (w : Option Row) → option_map (λ (row : Row). row.plan) (option_map ungoverned w) ≡ option_map (λ (row : Row). row.plan) w
+plan_of_rest None = refl
+plan_of_rest (Some row) = refl
+
 pub plan-enter_all : (s : State) (other : Text) (cs : List Comp) → plan_at (enter_all s cs) other ≡ plan_at s other
-plan-enter_all s other [] = refl
-plan-enter_all s other (c ∷ cs) = plan-enter_all (reenter s c.key (row_of s c.key)) other cs ∙ plan-reenter s c.key other (row_of s c.key) refl
+plan-enter_all s other cs =
+    sym (plan_of_rest (row_of (enter_all s cs) other)) ∙ ap (option_map (λ (row : Row). row.plan)) (rest-enter_all s other cs) ∙ plan_of_rest (row_of s other)
 
 -- neither the clock nor a regulation changes
 clock-reenter : (s : State) (key : Text) (w : Option Row) → (reenter s key w).clock ≡ s.clock

@@ -1,5 +1,5 @@
 -- a list put in order: it has the same elements, and each comes before all later ones
-use Rattle.std.proofs.Common.{◌≡◌, ◌↔◌, List, [], ◌∷◌, Bool, true, false, refl, sym, subst, ◌⊎◌, inl, inr, Option, None, Some, arith}
+use Rattle.std.proofs.Common.{◌≡◌, ◌↔◌, List, [], ◌∷◌, map, Bool, true, false, refl, sym, subst, ◌⊎◌, inl, inr, Option, None, Some, arith}
 use Rattle.std.specs.declared.cmp.Ordering.TheVariants.{Less}
 use Rattle.std.specs.List.{AllByRecursion, AllPairs, Contains, cons_option, filter_map, fold}
 use Rattle.std.specs.List.Sorted.{IsStrictlySortedBy}
@@ -11,11 +11,10 @@ use Rattle.casa_flight.specs.Text.{Text, at_name}
 use Rattle.casa_flight.specs.Listing.{put_by, in_order, is_before}
 use Rattle.casa_flight.specs.Good.{AreInOrder}
 use Rattle.casa_flight.proofs.Entries.{text_cmp, all-each, all-both, all-filter_map, each_found}
-use Rattle.casa_flight.proofs.Kept.{Above}
+use Rattle.casa_flight.proofs.Kept.{Above, contains-given}
 use Rattle.casa_flight.proofs.Rising.{put_first, put_later, all-put_by}
 use Rattle.casa_flight.proofs.Competitors.{before_on, before_total, less_apart}
 use Rattle.casa_flight.proofs.EnterAll.{all-fold}
-use Rattle.casa_flight.proofs.Told.{contains-given}
 
 -- what holds of each element and each later one
 abbrev pub PairsByRecursion : {X : Type 0} → (X → X → Type 0) → List X → Type 0
@@ -142,6 +141,10 @@ above-filtered {X} {S} name kind whose k (e ∷ es) h =
       | Some x ↦ λ t. (subst (λ (q : Text). text_cmp k q ≡ Less) (sym (whose e x t)) h.0, above-filtered name kind whose k es h.1)
     ] refl
 
+all-names : {X : Type 0} (P : Text → Type 0) (name : X → Text) (xs : List X) → AllByRecursion (λ (x : X). P (name x)) xs → AllByRecursion P (map name xs)
+all-names P name [] h = tt
+all-names P name (x ∷ xs) h = (h.0, all-names P name xs h.1)
+
 -- so their names rise
 pub names_rise : {X S : Type 0} (name : X → Text) (kind : Text × S → Option X) → HasName name kind → (es : List (Text × S)) → AreInOrder es → PairsByRecursion (λ (x y : X). text_cmp (name x) (name y) ≡ Less) (filter_map kind es)
 unfolding IsStrictlySortedBy
@@ -152,6 +155,11 @@ names_rise {X} {S} name kind whose (e ∷ es) h =
       | Some x ↦ λ t.
           (subst (λ (q : Text). AllByRecursion (λ (y : X). text_cmp q (name y) ≡ Less) (filter_map kind es)) (sym (whose e x t)) (above-filtered name kind whose e.0 es h.0), names_rise name kind whose es h.1)
     ] refl
+
+pub names_sorted : {X : Type 0} (name : X → Text) (xs : List X) → PairsByRecursion (λ (x y : X). text_cmp (name x) (name y) ≡ Less) xs → IsStrictlySortedBy text_cmp (map name xs)
+unfolding IsStrictlySortedBy
+names_sorted name [] h = tt
+names_sorted {X} name (x ∷ xs) h = (all-names (λ (q : Text). text_cmp (name x) q ≡ Less) name xs h.0, names_sorted name xs h.1)
 
 -- what is kept of them is what the look-ups give
 abbrev pub IsKeptOf : {X S : Type 0} → (X → Text) → (Text × S → Option X) → List (Text × S) → X → Type 0

@@ -1,15 +1,16 @@
 -- the kept entries of a map, once an entry of the map is written or removed, and maps with the same look-ups
-use Rattle.std.proofs.Common.{◌≡◌, List, [], ◌∷◌, true, false, cond, refl, sym, ap, subst, ◌∙◌, Option, None, Some}
+use Rattle.std.proofs.Common.{◌≡◌, arith, List, [], ◌∷◌, true, false, cond, refl, sym, ap, subst, ◌∙◌, Option, None, Some}
 use Rattle.std.specs.declared.cmp.Ordering.TheVariants.{Less, Equal, Greater}
 use Rattle.std.specs.Ordering.{is_eq, match_ordering, ordering_reverse}
 use Rattle.std.specs.Option.{option_map, option_and_then}
-use Rattle.std.specs.List.{AllByRecursion, cons_option, filter_map}
+use Rattle.std.specs.List.{AllByRecursion, Contains, cons_option, filter_map}
 use Rattle.std.specs.List.Sorted.{IsStrictlySortedBy}
 use Rattle.std.specs.Map.{keys_of}
 use Rattle.casa_flight.specs.Text.{Text, at_name, put, without}
 use Rattle.casa_flight.specs.Good.{AreInOrder}
 use Rattle.casa_flight.specs.Listing.{kept}
 use Rattle.std.proofs.lemmas.Cmp.{nat_list_cmp_total, tied_itself}
+use Rattle.std.proofs.lemmas.List.Elements.{Contains-append_right}
 use Rattle.casa_flight.proofs.Entries.{text_cmp, same_name, itself, after_all}
 
 -- the entries with this value under the name, or with none
@@ -124,6 +125,26 @@ at-without_same {X} k (e ∷ es) h =
       | true ↦ λ p. subst (λ t. at_name es t ≡ None) (sym (same_name k e.0 p)) (at_above e.0 es h.0)
       | false ↦ λ p. ap (λ b. cond b (Some e.1) (at_name (without es k) k)) p ∙ at-without_same k es h.1
     ] refl
+
+-- what an entry gives is among what is kept
+contains-later : {Y : Type 0} (w : Option Y) (ys : List Y) (y : Y) → Contains ys y → Contains (cons_option w ys) y
+contains-later None ys y h = h
+contains-later (Some z) ys y h = Contains-append_right (z ∷ []) ys y h
+
+contains-first : {Y : Type 0} (w : Option Y) (ys : List Y) (y : Y) → w ≡ Some y → Contains (cons_option w ys) y
+contains-first None ys y h = cc
+contains-first (Some z) ys y h = let same : z ≡ y = cc in (0, omega arith, same)
+
+pub contains-given : {X Y : Type 0} (g : Text × X → Option Y) (k : Text) (v : X) (y : Y) (es : List (Text × X)) → at_name es k ≡ Some v → g (k, v) ≡ Some y → Contains (filter_map g es) y
+contains-given g k v y [] found h = cc
+contains-given {X} {Y} g k v y (e ∷ es) found h =
+    elim (is_eq (text_cmp k e.0)) as (λ b. is_eq (text_cmp k e.0) ≡ b → cond b (Some e.1) (at_name es k) ≡ Some v → Contains (filter_map g (e ∷ es)) y) [
+      | true ↦ λ t f.
+          let value : e.1 ≡ v = cc in
+          let here : g e ≡ Some y = (λ i. g (sym (same_name k e.0 t) i, value i)) ∙ h in
+          contains-first (g e) (filter_map g es) y here
+      | false ↦ λ t f. contains-later (g e) (filter_map g es) y (contains-given g k v y es f h)
+    ] refl found
 
 -- where h gives nothing at other names, all that it gives is what it gives at this one
 none_above : {X Z : Type 0} (h : Text × X → Option Z) (k : Text) (es : List (Text × X)) → Above k es → AllByRecursion (λ (e : Text × X). is_eq (text_cmp k e.0) ≡ false → h e ≡ None) es → filter_map h es ≡ []

@@ -16,11 +16,13 @@ pub mod Choice
 pub mod Good
 pub mod GoodTick
 pub mod GoodRegs
-pub mod Told
+pub mod ChangeMessages
 pub mod EnterAll
 pub mod CallMessages
 pub mod RegMessages
 pub mod InOrder
 pub mod Chosen
 pub mod Planned
+pub mod IssuedTimes
+pub mod InTurn
 mod Worked

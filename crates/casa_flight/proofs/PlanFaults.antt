@@ -1,7 +1,9 @@
--- what has no fault is a valid plan
-use Rattle.std.proofs.Common.{◌≡◌, ℕ, ◌+◌, ◌≤◌, List, [], ◌∷◌, length, true, false, not, nat_lt, None, arith, subst}
+-- a plan has no fault exactly where its key is a name and the rest is valid
+use Rattle.std.proofs.Common.{◌≡◌, ℕ, ◌+◌, ◌≤◌, List, [], ◌∷◌, length, suc, true, false, not, nat_lt, None, All, get_or, arith, subst, sym, ap, refl}
 use Rattle.std.specs.List.{list_any, AllPairs}
-use Rattle.std.proofs.lemmas.Bool.{ltb-false, or_parts, both_ways}
+use Rattle.std.proofs.lemmas.Bool.{ltb-false, or_parts, or_from, both_ways, false_from_ne_true, le-ltb, not-false}
+use Rattle.std.proofs.lemmas.List.Folds.{list_any_none}
+use Rattle.std.specs.Cmp.Lexicographic.{same_text as text_is}
 use Rattle.std.proofs.lemmas.List.Kept.{AllPairs-cons}
 use Rattle.std.proofs.lemmas.Cmp.{nat_list_eq_equiv}
 use Rattle.casa_grid.proofs.Faults.{passed, none_any}
@@ -36,3 +38,26 @@ is_valid key eobt taxi via h =
       later = none_any (λ (c : Crossing). nat_lt c.eto (eobt + taxi)) (λ (c : Crossing). eobt + taxi ≤ c.eto) (λ c t. ltb-false c.eto (eobt + taxi) t) via e.0;
       in_range = ltb-false last_moment (eobt + taxi) f.0;
     }
+
+later_apart : (c : Crossing) (cs : List Crossing) → AllPairs (λ (a b : Crossing). a.loc ≡ b.loc → ⊥) (c ∷ cs) → AllPairs (λ (a b : Crossing). a.loc ≡ b.loc → ⊥) cs
+later_apart c cs h = λ i j d lt in'. h (suc i) (suc j) d (omega arith) (omega arith)
+
+none_like : (c : Crossing) (cs : List Crossing) → AllPairs (λ (a b : Crossing). a.loc ≡ b.loc → ⊥) (c ∷ cs) → All (λ (d : Crossing). same_text c.loc d.loc ≡ false) cs
+none_like c cs h = λ i d lt. false_from_ne_true _ (λ same. h 0 (suc i) d (omega arith) (omega arith) (text_is c.loc _ (sym same)))
+
+has_twice-none : (via : List Crossing) → AllPairs (λ (a b : Crossing). a.loc ≡ b.loc → ⊥) via → has_twice via ≡ false
+has_twice-none [] h = refl
+has_twice-none (c ∷ cs) h =
+    or_from _ _ (list_any_none (λ (d : Crossing). same_text c.loc d.loc) cs (none_like c cs h)) (has_twice-none cs (later_apart c cs h))
+
+pub plan_fault-none : (key : List ℕ) (eobt taxi : ℕ) (via : List Crossing) → is_name key ≡ true → IsValid eobt taxi via → plan_fault key eobt taxi via ≡ None
+plan_fault-none key eobt taxi via named h =
+    let short : nat_lt longest_taxi taxi ≡ false = le-ltb longest_taxi taxi h.short_taxi in
+    let few : nat_lt most_crossings (length via) ≡ false = le-ltb most_crossings (length via) h.few in
+    let once : has_twice via ≡ false = has_twice-none via h.apart in
+    let after : has_early (eobt + taxi) via ≡ false = list_any_none (λ (c : Crossing). nat_lt c.eto (eobt + taxi)) via (λ k d lt. le-ltb (get_or via k d).eto (eobt + taxi) (h.later k d lt)) in
+    let within : nat_lt last_moment (eobt + taxi) ≡ false = le-ltb last_moment (eobt + taxi) h.in_range in
+    rw (named, short, few, once, after, within)
+
+pub has_name : (key : List ℕ) (eobt taxi : ℕ) (via : List Crossing) → plan_fault key eobt taxi via ≡ None → is_name key ≡ true
+has_name key eobt taxi via h = not-false _ (passed (not (is_name key)) BadKey _ h).0

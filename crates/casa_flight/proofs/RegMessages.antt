@@ -35,7 +35,7 @@ use Rattle.casa_flight.proofs.Lists.{stance_is}
 use Rattle.casa_flight.proofs.Times.{delay_governed}
 use Rattle.casa_flight.proofs.GoodTick.{competing}
 use Rattle.casa_flight.proofs.GoodRegs.{next-good}
-use Rattle.casa_flight.proofs.Told.{message_cases, each_message, governed_by, free_of, StaysOpen, message_none}
+use Rattle.casa_flight.proofs.ChangeMessages.{message_cases, each_message, governed_by, free_of, StaysOpen, message_none}
 use Rattle.casa_flight.proofs.EnterAll.{row-enter_all, plan-enter_all, clock-enter_all, regs-enter_all, not_taken}
 use Rattle.casa_flight.proofs.CallMessages.{Comes, no_message, not_outside, not_due, was_due, file_comes, amend_comes, cancel_comes, exempt_comes, revise_comes, show_comes, list_comes}
 
@@ -67,13 +67,13 @@ rates_comes m id profile None good found = All-nil (CanCome m (Rates id profile)
 rates_comes m id profile (Some measure) good found = rates_if_comes m id measure profile (has_span profile measure.profile) found refl good
 
 -- a flight that is to be issued is governed, and not issued
-to_issue_parts : (g : Option Text) (i : Option ℕ) (d : Bool) → (is_some g && (not (is_some i) && d)) ≡ true → i ≡ None
+pub to_issue_parts : (g : Option Text) (i : Option ℕ) (d : Bool) → (is_some g && (not (is_some i) && d)) ≡ true → i ≡ None
 to_issue_parts (Some id) None d h = refl
 to_issue_parts (Some id) (Some t) d h = cc
 to_issue_parts None i d h = cc
 
 -- a flight is issued at the calculated time over that it has, and so its take-off time stays
-issued_at : (m : State) (key id : Text) (row : Row) (measure : Measure) (eto : ℕ) → AreInOrder m.rows → row_of m key ≡ Some row → row.governing ≡ Some id → row.issued ≡ None → measure_of m id ≡ Some measure → subject row.plan (regulation id measure) ≡ Some eto
+pub issued_at : (m : State) (key id : Text) (row : Row) (measure : Measure) (eto : ℕ) → AreInOrder m.rows → row_of m key ≡ Some row → row.governing ≡ Some id → row.issued ≡ None → measure_of m id ≡ Some measure → subject row.plan (regulation id measure) ≡ Some eto
     → (issued_in m key row).issued ≡ Some (cto (slots measure.profile) (end_of measure.profile) eto (place_of (listing m.rows id measure) key))
 issued_at m key id row measure eto sorted found governs waits opened over =
     let l : Listing = listing m.rows id measure in
@@ -101,8 +101,8 @@ ctot_stays m n key id row good same sorted found later governs waits =
     ap (λ d. etot row.plan + d) both ∙ sym (ap (λ (w : Option Row). option_map_or (ctot_of m key) w 0) found)
 
 -- nothing is the message of a flight whose row stays
-stays_untold : (Q : Message → Type 0) (m n : State) (key : Text) (row : Row) (x : Message) → IsGood m → AreInOrder n.rows → ((id : Text) → row.governing ≡ Some id → StaysOpen m n id) → row_of m key ≡ Some row → row_of n key ≡ Some row → message m n key row ≡ Some x → Q x
-stays_untold Q m n key row x good sorted stays before found h =
+stays_silent : (Q : Message → Type 0) (m n : State) (key : Text) (row : Row) (x : Message) → IsGood m → AreInOrder n.rows → ((id : Text) → row.governing ≡ Some id → StaysOpen m n id) → row_of m key ≡ Some row → row_of n key ≡ Some row → message m n key row ≡ Some x → Q x
+stays_silent Q m n key row x good sorted stays before found h =
     let none : None ≡ Some x = sym (message_none m n key row good sorted stays before found) ∙ h in cc
 
 -- whose row passes a test, once it is known
@@ -112,11 +112,11 @@ passes m key row test found h = ap (λ (w : Option Row). option_map_or test w fa
 governs_it : (id : Text) (row : Row) → row.governing ≡ Some id → is_governed_by id row ≡ true
 governs_it id row governs = ap (λ (w : Option Text). option_map_or (same_text id) w false) governs ∙ nat_list_eq_equiv.refl id
 
--- at a tick a flight that is to be issued is told its slot, and no other is told anything
+-- at a tick a flight that is to be issued gets its message, and no other gets one
 tick_message : (m : State) (at : ℕ) (key : Text) (old : Row) (x : Message) (b : Bool) → let t : State = record m { clock = at } in let n : State = issue_due t in
     IsGood m → AreInOrder n.rows → is_to_issue at old ≡ b → row_of m key ≡ Some old → row_of n key ≡ Some (issue_if b t key old) → message m n key (issue_if b t key old) ≡ Some x → CanCome m (Tick at) x
 tick_message m at key old x false good sorted is before found h =
-    stays_untold (CanCome m (Tick at)) m (issue_due (record m { clock = at })) key old x good sorted (λ id governs a opened. (a, opened, refl)) before found h
+    stays_silent (CanCome m (Tick at)) m (issue_due (record m { clock = at })) key old x good sorted (λ id governs a opened. (a, opened, refl)) before found h
 tick_message m at key old x true good sorted is before found h =
     let n : State = issue_due (record m { clock = at }) in
     let row : Row = issued_in m key old in
@@ -184,8 +184,14 @@ open_stays m n id measure absent regs by a opened =
       | false ↦ λ t. (a, ap (λ (es : List (Text × Measure)). at_name es by) regs ∙ at-put_other by id measure m.regs t ∙ opened, refl)
     ] refl
 
+-- a flight that may not compete keeps its row when a regulation opens
+pub row-opened : (m : State) (id : Text) (measure : Measure) (key : Text) → IsGood m → option_map_or (may_compete m.clock) (row_of m key) false ≡ false
+    → row_of (enter_all (record m { regs = put m.regs id measure }) (flights_over (may_compete m.clock) (regulation id measure) m.rows)) key ≡ row_of m key
+row-opened m id measure key good t =
+    row-enter_all (record m { regs = put m.regs id measure }) key (flights_over (may_compete m.clock) (regulation id measure) m.rows) (not_taken m key (may_compete m.clock) (regulation id measure) good t)
+
 -- what governs a flight that was outside is the opened regulation
-opened_governs : (m n : State) (id : Text) (measure : Measure) (row old : Row) (reg : Text) → n.regs ≡ put m.regs id measure → IsOutside m.regs old.plan → row.plan ≡ old.plan → IsGoverned n.clock n.regs row reg → reg ≡ id
+pub opened_governs : (m n : State) (id : Text) (measure : Measure) (row old : Row) (reg : Text) → n.regs ≡ put m.regs id measure → IsOutside m.regs old.plan → row.plan ≡ old.plan → IsGoverned n.clock n.regs row reg → reg ≡ id
 opened_governs m n id measure row old reg regs out plans g =
     elim (is_eq (text_cmp reg id)) as (λ t. is_eq (text_cmp reg id) ≡ t → reg ≡ id) [
       | true ↦ λ t. same_name reg id t
@@ -219,8 +225,8 @@ open_message m id loc profile key row x absent good later found h = by (option_m
 
     by : (b : Bool) → option_map_or test (row_of m key) false ≡ b → Q x
     by false t =
-        stays_untold Q m n key row x good later.rows_in_order (λ by _. open_stays m n id measure absent (regs-enter_all s cs) by)
-        (sym (row-enter_all s key cs (not_taken m key test (regulation id measure) good t)) ∙ found) found h
+        stays_silent Q m n key row x good later.rows_in_order (λ by _. open_stays m n id measure absent (regs-enter_all s cs) by)
+        (sym (row-opened m id measure key good t) ∙ found) found h
     by true t =
         let old = passing_row m key test t in
         let parts = competes (is_exempt old.0) (is_gone m.clock old.0.plan) old.0.governing old.2 in
@@ -252,6 +258,12 @@ freed_row : (id : Text) (w : Option Row) → option_map_or (is_governed_by id) w
 freed_row id None h = refl
 freed_row id (Some row) h = ap (λ b. Some (freed b row)) h
 
+pub row-closed : (m : State) (id : Text) (measure : Measure) (key : Text) → IsGood m → option_map_or (is_governed_by id) (row_of m key) false ≡ false
+    → row_of (enter_all (closed m id) (flights_over (is_governed_by id) (regulation id measure) m.rows)) key ≡ row_of m key
+row-closed m id measure key good t =
+    row-enter_all (closed m id) key (flights_over (is_governed_by id) (regulation id measure) m.rows) (not_taken m key (is_governed_by id) (regulation id measure) good t)
+    ∙ at-map (λ k r. freed (is_governed_by id r) r) key m.rows ∙ freed_row id (row_of m key) t
+
 close_stays : (m n : State) (id : Text) (row : Row) → n.regs ≡ without m.regs id → is_governed_by id row ≡ false → (by : Text) → row.governing ≡ Some by → StaysOpen m n by
 close_stays m n id row regs not_its by governs a opened =
     let unlike : same_text id by ≡ false = ap (λ (w : Option Text). option_map_or (same_text id) w false) (sym governs) ∙ not_its in
@@ -262,7 +274,7 @@ freed_plan true row = refl
 freed_plan false row = refl
 
 -- whom a regulation governs
-governed_name : (id : Text) (g : Option Text) → option_map_or (same_text id) g false ≡ true → g ≡ Some id
+pub governed_name : (id : Text) (g : Option Text) → option_map_or (same_text id) g false ≡ true → g ≡ Some id
 governed_name id None h = cc
 governed_name id (Some by) h = ap (λ (q : Text). Some q) (sym (named id by h))
 
@@ -293,10 +305,10 @@ close_message m id measure key row x good later found h = by (option_map_or test
 
     by : (b : Bool) → option_map_or test (row_of m key) false ≡ b → Q x
     by false t =
-        let same : row_of n key ≡ row_of m key = row-enter_all s key cs (not_taken m key test (regulation id measure) good t) ∙ closed_row ∙ freed_row id (row_of m key) t in
+        let same : row_of n key ≡ row_of m key = row-closed m id measure key good t in
         let before : row_of m key ≡ Some row = sym same ∙ found in
         let not_its : is_governed_by id row ≡ false = sym (ap (λ (w : Option Row). option_map_or test w false) before) ∙ t in
-        stays_untold Q m n key row x good later.rows_in_order (close_stays m n id row (regs-enter_all s cs) not_its) before found h
+        stays_silent Q m n key row x good later.rows_in_order (close_stays m n id row (regs-enter_all s cs) not_its) before found h
     by true t =
         let old = passing_row m key test t in
         let g : IsGoverned m.clock m.regs old.0 id = governed_by m key old.0 id good old.1 (governed_name id old.0.governing old.2) in

@@ -12,3 +12,4 @@ pub mod Steps
 pub mod Replies
 pub mod Good
 pub mod Messages
+pub mod IssuedTimes

@@ -21,10 +21,10 @@ messages_in (Refused r) = []
 messages_in (Answered answer ms) = ms
 
 -- the flight that a message is for
-abbrev pub told : Message → Text
-told (Sam key ctot reg) = key
-told (Srm key ctot reg) = key
-told (Slc key) = key
+abbrev pub flight_of : Message → Text
+flight_of (Sam key ctot reg) = key
+flight_of (Srm key ctot reg) = key
+flight_of (Slc key) = key
 
 -- the flight filed under the key passes a test
 abbrev pub Passes : State → Text → (Row → Bool) → Type 0
@@ -35,7 +35,7 @@ abbrev pub CanCome : State → Call → Message → Type 0
 -- a filed flight may be issued at once
 CanCome m (File plan) (Sam key ctot reg) = key ≡ plan.key
 -- an amended flight may get a slot, another take-off time, or need no slot any more
-CanCome m (Amend plan) message = told message ≡ plan.key
+CanCome m (Amend plan) message = flight_of message ≡ plan.key
 -- a revised flight leaves earlier
 CanCome m (Revise key) (Srm other ctot reg) = (other ≡ key) × (ctot < ctot_before m key)
 -- an exempted flight needs no slot
@@ -52,7 +52,7 @@ CanCome m (Tick at) (Sam key ctot reg) =
 -- nothing else can come, and so nothing at all of Cancel, Rates, Show and List
 CanCome m call message = ⊥
 
--- the calls that no flight is told of (profile)
+-- the calls of which no message comes (profile)
 abbrev pub is_silent : Call → Bool
 is_silent (Cancel key) = true
 is_silent (Rates id profile) = true

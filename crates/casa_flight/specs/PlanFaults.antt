@@ -16,7 +16,7 @@ has_twice (c ∷ cs) = list_any (λ (d : Crossing). same_text c.loc d.loc) cs ||
 abbrev pub has_early : ℕ → List Crossing → Bool
 has_early etot via = list_any (λ (c : Crossing). nat_lt c.eto etot) via
 
--- the first fault of these, in the order of the checks; a refused growth is no fault of theirs
+-- the first fault of these, in the order of the checks; memory that is refused is none of them
 abbrev pub plan_fault : Text → ℕ → ℕ → List Crossing → Option PlanFault
 plan_fault key eobt taxi via =
     if not (is_name key) then Some BadKey

@@ -95,8 +95,8 @@ answer m (ListOf id) = list_answer m id
 abbrev pub is_issued : Option Row → Bool
 is_issued row = option_map_or (λ (r : Row). is_some r.issued) row false
 
--- what an operator is told of a flight, by its governing regulation now, whether it was issued before and is now, and its
--- calculated take-off times before and now: SAM, SRM and SLC (manual)
+-- the message to the operator of a flight, by its governing regulation now, whether it was issued before and is now, and
+-- its calculated take-off times before and now: SAM, SRM and SLC (manual)
 abbrev pub message_of : Text → Option Text → Bool → Bool → ℕ → ℕ → Option Message
 message_of key reg false false old new = None
 message_of key reg true false old new = Some (Slc key)

@@ -1,6 +1,6 @@
 //! Laws of the definitions, each on a function that does nothing: what the contracts of this crate mean.
 
-ghost use Rattle.std.specs.Prelude.{◌≡◌, ◌↔◌, ◌⊎◌, ℕ, ◌-◌, ◌≤◌, Bool, List, [], ◌∷◌, ◌++◌, take, length, map, not, Some, None, true, is_some, unwrap_or};
+ghost use Rattle.std.specs.Prelude.{◌≡◌, ◌↔◌, ◌⊎◌, ℕ, ◌-◌, ◌≤◌, Bool, List, [], ◌∷◌, ◌++◌, take, length, map, not, Option, Some, None, true, is_some, unwrap_or, false};
 ghost use Rattle.std.specs.Option.{option_map, option_and_then};
 ghost use Rattle.std.specs.List.{All, AllPairs, Contains, filter};
 ghost use Rattle.std.specs.List.Sorted.{IsStrictlySortedBy};
@@ -31,8 +31,18 @@ ghost use Rattle.casa_flight.specs.Steps.{refused, step, next, flights_over};
 ghost use Rattle.casa_flight.specs.Replies.{reply, row_in, is_row_before, list_rows};
 ghost use Rattle.casa_flight.specs.declared.regulation.Regulation.{Regulation};
 ghost use Rattle.casa_flight.specs.declared.reply.ListRow.{ListRow};
-ghost use Rattle.casa_flight.specs.Messages.{messages_in, told, CanCome, is_silent, Tells};
+ghost use Rattle.casa_flight.specs.Messages.{messages_in, flight_of, CanCome, is_silent, Tells};
+ghost use Rattle.casa_flight.specs.Messages.{Passes};
+ghost use Rattle.casa_flight.specs.IssuedTimes.{may_free, may_serve, IsTakenIn, BecomesIssued, issue_in_turn};
+ghost use Rattle.casa_flight.specs.PlanFaults.{plan_fault};
+ghost use Rattle.casa_flight.specs.FlightPlan.{IsValid};
+ghost use Rattle.casa_flight.specs.Text.{is_name};
+ghost use Rattle.casa_flight.specs.Entry.{is_to_issue};
+ghost use Rattle.casa_flight.specs.Listing.{ctot_of};
+ghost use Rattle.casa_grid.specs.declared.period.Period.{Period};
+ghost use Rattle.casa_flight.specs.declared.plan.Crossing.{Crossing};
 ghost use Rattle.casa_flight.specs.declared.call.Call.{Call};
+ghost use Rattle.casa_flight.specs.declared.call.Call.TheVariants.{OpenReg, Tick};
 ghost use Rattle.casa_flight.specs.declared.call.Refusal.{Refusal};
 ghost use Rattle.casa_flight.specs.declared.reply.Message.{Message};
 
@@ -199,7 +209,7 @@ pub fn messages_of_calls()
     ensures comes { (m : State) (call : Call) (message : Message) → IsGood m →
         Tells m (next m call) message → Contains (messages_in (reply m call)) message }
     ensures order { (m : State) (call : Call) → IsGood m →
-        IsStrictlySortedBy (slice_cmp nat_cmp) (map told (messages_in (reply m call))) }
+        IsStrictlySortedBy (slice_cmp nat_cmp) (map flight_of (messages_in (reply m call))) }
 {}
 
 /// No message comes of a refused call; nor, on a good state, of a cancellation, new rates, or a call that only looks.
@@ -208,4 +218,63 @@ pub fn calls_without_messages()
         step m call ≡ refused r → messages_in (reply m call) ≡ [] }
     ensures silent { (m : State) (call : Call) → IsGood m →
         is_silent call ≡ true → messages_in (reply m call) ≡ [] }
+{}
+
+/// An issued time is not moved for another flight. An issued flight stays as it is (plan, mark, governing regulation and
+/// issued time) at every call on a good state but its own revision, amendment, exemption or cancellation and the close of
+/// the regulation that governs it. A governed flight that is not issued stays as it is at these but for its issue; and
+/// so does each flight at these that do neither open a regulation nor move the clock.
+pub fn issued_times_stay()
+    ensures issued { (m : State) (call : Call) (key : Text) (row : Row) → IsGood m →
+        row_of m key ≡ Some row → may_free call key row ≡ false → is_some row.issued ≡ true →
+        row_of (next m call) key ≡ Some row }
+    ensures governed { (m : State) (call : Call) (key : Text) (row : Row) → IsGood m →
+        row_of m key ≡ Some row → may_free call key row ≡ false → is_some row.governing ≡ true →
+        (issued : Option ℕ) × (row_of (next m call) key ≡ Some (record row { issued = issued })) }
+    ensures others { (m : State) (call : Call) (key : Text) (row : Row) → IsGood m →
+        row_of m key ≡ Some row → may_free call key row ≡ false → may_serve call ≡ false →
+        row_of (next m call) key ≡ Some row }
+{}
+
+/// What an opened regulation and the clock give on a good state, they give to flights that had none: the regulation
+/// governs only flights that nothing governed, and the clock issues only flights that were governed and not issued, at the
+/// calculated time over that they have. Each other flight stays as it is.
+pub fn only_waiting_flights_are_served()
+    ensures opened { (m : State) (id loc key : Text) (profile : List Period) (row : Row) → IsGood m →
+        row_of m key ≡ Some row →
+        (new : Row) × (row_of (next m (OpenReg id loc profile)) key ≡ Some new) ×
+        ((new ≡ row) ⊎ IsTakenIn id row new) }
+    ensures ticked { (m : State) (at : ℕ) (key : Text) (row : Row) → IsGood m →
+        row_of m key ≡ Some row →
+        (new : Row) × (row_of (next m (Tick at)) key ≡ Some new) ×
+        ((new ≡ row) ⊎ ((time : ℕ) × BecomesIssued time row new ×
+        (option_and_then (λ (l : Listing). cto_of l key) (governing_list m row) ≡ Some time))) }
+{}
+
+/// The clock moves nobody. In a list with a valid profile a flight that stands as it stood, a competitor for one, keeps
+/// its place, and every flight its calculated time over. So all due flights become issued at once as they would one after
+/// the other, in any order; and every flight keeps its take-off time.
+pub fn tick_moves_nobody()
+    ensures places { (m : State) (at : ℕ) (id key : Text) (old new : Listing) →
+        AreInOrder m.rows → IsProfile old.profile →
+        list_of m id ≡ Some old → list_of (next m (Tick at)) id ≡ Some new →
+        stance_of new key ≡ stance_of old key → place_of new key ≡ place_of old key }
+    ensures times { (m : State) (at : ℕ) (id key : Text) (old new : Listing) →
+        AreInOrder m.rows → IsProfile old.profile →
+        list_of m id ≡ Some old → list_of (next m (Tick at)) id ≡ Some new →
+        cto_of new key ≡ cto_of old key }
+    ensures in_turn { (m : State) (at : ℕ) (id : Text) (old : Listing) (keys : List Text) →
+        AreInOrder m.rows → IsProfile old.profile → m.clock ≤ at → list_of m id ≡ Some old →
+        ((key : Text) → Contains keys key ↔ Passes m key (is_to_issue at)) →
+        list_of (next m (Tick at)) id ≡ Some (issue_in_turn old keys) }
+    ensures take_off { (m : State) (at : ℕ) (key : Text) (row new : Row) →
+        AreInOrder m.rows → ((l : Listing) → governing_list m row ≡ Some l → IsProfile l.profile) →
+        row_of m key ≡ Some row → row_of (next m (Tick at)) key ≡ Some new →
+        ctot_of (next m (Tick at)) key new ≡ ctot_of m key row }
+{}
+
+/// A plan of these has no fault exactly where its key is a name and the rest is valid.
+pub fn valid_plan_has_no_fault()
+    ensures { (key : Text) (eobt taxi : ℕ) (via : List Crossing) →
+        (plan_fault key eobt taxi via ≡ None) ↔ ((is_name key ≡ true) × IsValid eobt taxi via) }
 {}

@@ -16,7 +16,7 @@ use Rattle.casa_flight.specs.Replies.{message_of, messages, is_issued, ctot_befo
 use Rattle.casa_flight.specs.Good.{AreInOrder, IsGood}
 use Rattle.casa_flight.proofs.Entries.{at-put_same, at-put_other, named, apart}
 use Rattle.casa_flight.proofs.Lists.{list_spares, stance_is}
-use Rattle.casa_flight.proofs.Told.{messages_one}
+use Rattle.casa_flight.proofs.ChangeMessages.{messages_one}
 use Rattle.casa_view.specs.Footprint.{is_subject, is_list_of}
 use Rattle.casa_view.proofs.Entering.{Agree, IsOwn, subject_at, entered_same, entered_own, list_same}
 use Rattle.casa_view.proofs.Messages.{own_row}

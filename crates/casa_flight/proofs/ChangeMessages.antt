@@ -23,9 +23,10 @@ use Rattle.casa_flight.specs.State.{row_of, measure_of, with_row, regulation, su
 use Rattle.casa_flight.specs.Listing.{listing, place_of, ctot_of, delay_of}
 use Rattle.casa_flight.specs.Replies.{message_of, message, messages, is_issued, ctot_before}
 use Rattle.casa_flight.specs.Good.{AreInOrder, IsGood, IsFree, IsGoverned}
-use Rattle.casa_flight.specs.Messages.{told, Tells}
+use Rattle.casa_flight.specs.Messages.{flight_of, Tells}
 use Rattle.casa_flight.proofs.Entries.{text_cmp, same_name, other_way, all-each, all-filter_map, each_found, sorted-put, at-put_same, at-put_other}
-use Rattle.casa_flight.proofs.Kept.{filter_map-one}
+use Rattle.casa_flight.proofs.Kept.{filter_map-one, contains-given}
+use Rattle.casa_flight.proofs.InOrder.{names_rise, names_sorted}
 use Rattle.casa_flight.proofs.Times.{delay_governed}
 use Rattle.casa_flight.proofs.Good.{good_row}
 
@@ -48,8 +49,8 @@ message_cases Q key (Some reg) true true old new a b c x h =
     ] refl h
 
 -- a message is for the flight whose row it is of
-pub message_key : (m n : State) (key : Text) (row : Row) (x : Message) → message m n key row ≡ Some x → told x ≡ key
-message_key m n key row = message_cases (λ x. told x ≡ key) key row.governing (is_issued (row_of m key)) (is_some row.issued) (ctot_before m key) (ctot_of n key row)
+pub message_key : (m n : State) (key : Text) (row : Row) (x : Message) → message m n key row ≡ Some x → flight_of x ≡ key
+message_key m n key row = message_cases (λ x. flight_of x ≡ key) key row.governing (is_issued (row_of m key)) (is_some row.issued) (ctot_before m key) (ctot_of n key row)
     (λ _ _ _ _. refl) (λ _ _ _ _ _. refl) (λ _ _. refl)
 
 -- what the message of a flight that is there tells
@@ -59,9 +60,9 @@ message_tells m n key row x found = message_cases (Tells m n) key row.governing 
     (λ reg governs was now other. (was, other, record { row = row; is_filed = found; governs = governs; issued = now; leaves = refl }))
     (λ was now. (was, ap is_some found, ap is_issued found ∙ now)) x
 
--- and what is to be told is the message of a flight that is there
+-- and where a message tells how it is, it is that of a flight that is there
 abbrev IsMessageOf : State → State → Message → Row → Type 0
-IsMessageOf m n x row = (row_of n (told x) ≡ Some row) × (message m n (told x) row ≡ Some x)
+IsMessageOf m n x row = (row_of n (flight_of x) ≡ Some row) × (message m n (flight_of x) row ≡ Some x)
 
 freed_message : (m n : State) (key : Text) (w : Option Row) → row_of n key ≡ w → is_issued (row_of m key) ≡ true → is_some w ≡ true → is_issued w ≡ false → (row : Row) × IsMessageOf m n (Slc key) row
 freed_message m n key None found was there now = cc
@@ -75,16 +76,16 @@ revised_message key reg old new other =
       | false ↦ λ t. refl
     ] refl
 
-pub told_message : (m n : State) (x : Message) → Tells m n x → (row : Row) × IsMessageOf m n x row
-told_message m n (Sam key ctot reg) t =
+pub tells_message : (m n : State) (x : Message) → Tells m n x → (row : Row) × IsMessageOf m n x row
+tells_message m n (Sam key ctot reg) t =
     let s = t.1 in
     (s.row, (s.is_filed, λ i. message_of key (s.governs i) (t.0 i) (s.issued i) (ctot_before m key) (s.leaves i)))
-told_message m n (Srm key ctot reg) t =
+tells_message m n (Srm key ctot reg) t =
     let s = t.2 in
     let here : message_of key s.row.governing (is_issued (row_of m key)) (is_some s.row.issued) (ctot_before m key) (ctot_of n key s.row) ≡ message_of key (Some reg) true true (ctot_before m key) ctot =
     λ i. message_of key (s.governs i) (t.0 i) (s.issued i) (ctot_before m key) (s.leaves i) in
     (s.row, (s.is_filed, here ∙ revised_message key reg (ctot_before m key) ctot t.1))
-told_message m n (Slc key) t = freed_message m n key (row_of n key) refl t.0 t.1 t.2
+tells_message m n (Slc key) t = freed_message m n key (row_of n key) refl t.0 t.1 t.2
 
 -- what holds of the message of each flight holds of all messages
 pub each_message : (P : Message → Type 0) (m n : State) → AreInOrder n.rows → ((key : Text) (row : Row) (x : Message) → row_of n key ≡ Some row → message m n key row ≡ Some x → P x) → All P (messages m n)
@@ -92,54 +93,15 @@ each_message P m n sorted f =
     All-from_recursion P (messages m n)
     (all-filter_map (λ (e : Text × Row). row_of n e.0 ≡ Some e.1) P (λ (e : Text × Row). message m n e.0 e.1) (λ e x found h. f e.0 e.1 x found h) n.rows (each_found n.rows sorted))
 
--- what an entry gives is there
-contains-later : {Y : Type 0} (w : Option Y) (ys : List Y) (y : Y) → Contains ys y → Contains (cons_option w ys) y
-contains-later None ys y h = h
-contains-later (Some z) ys y h = Contains-append_right (z ∷ []) ys y h
-
-contains-first : {Y : Type 0} (w : Option Y) (ys : List Y) (y : Y) → w ≡ Some y → Contains (cons_option w ys) y
-contains-first None ys y h = cc
-contains-first (Some z) ys y h = let same : z ≡ y = cc in (0, omega arith, same)
-
-pub contains-given : {X Y : Type 0} (g : Text × X → Option Y) (k : Text) (v : X) (y : Y) (es : List (Text × X)) → at_name es k ≡ Some v → g (k, v) ≡ Some y → Contains (filter_map g es) y
-contains-given g k v y [] found h = cc
-contains-given {X} {Y} g k v y (e ∷ es) found h =
-    elim (is_eq (text_cmp k e.0)) as (λ b. is_eq (text_cmp k e.0) ≡ b → cond b (Some e.1) (at_name es k) ≡ Some v → Contains (filter_map g (e ∷ es)) y) [
-      | true ↦ λ t f.
-          let value : e.1 ≡ v = cc in
-          let here : g e ≡ Some y = (λ i. g (sym (same_name k e.0 t) i, value i)) ∙ h in
-          contains-first (g e) (filter_map g es) y here
-      | false ↦ λ t f. contains-later (g e) (filter_map g es) y (contains-given g k v y es f h)
-    ] refl found
-
-pub told_comes : (m n : State) (x : Message) → Tells m n x → Contains (messages m n) x
-told_comes m n x t =
-    let w = told_message m n x t in
-    contains-given (λ (e : Text × Row). message m n e.0 e.1) (told x) w.0 x n.rows w.1.0 w.1.1
+pub tells_comes : (m n : State) (x : Message) → Tells m n x → Contains (messages m n) x
+tells_comes m n x t =
+    let w = tells_message m n x t in
+    contains-given (λ (e : Text × Row). message m n e.0 e.1) (flight_of x) w.0 x n.rows w.1.0 w.1.1
 
 -- messages come in the order of the keys
-abbrev IsTold : (Text × Row → Option Message) → Type 0
-IsTold f = (e : Text × Row) (x : Message) → f e ≡ Some x → told x ≡ e.0
-
-told_later : (f : Text × Row → Option Message) → IsTold f → (k : Text) (es : List (Text × Row)) → AllByRecursion (λ y. text_cmp k y ≡ Less) (keys_of es) → AllByRecursion (λ y. text_cmp k y ≡ Less) (map told (filter_map f es))
-told_later f whose k [] h = tt
-told_later f whose k (e ∷ es) h =
-    elim (f e) as (λ (o : Option Message). f e ≡ o → AllByRecursion (λ y. text_cmp k y ≡ Less) (map told (cons_option o (filter_map f es)))) [
-      | None ↦ λ t. told_later f whose k es h.1
-      | Some x ↦ λ t. (subst (λ (q : Text). text_cmp k q ≡ Less) (sym (whose e x t)) h.0, told_later f whose k es h.1)
-    ] refl
-
-told_sorted : (f : Text × Row → Option Message) → IsTold f → (es : List (Text × Row)) → IsStrictlySortedBy text_cmp (keys_of es) → IsStrictlySortedBy text_cmp (map told (filter_map f es))
-unfolding IsStrictlySortedBy
-told_sorted f whose [] h = tt
-told_sorted f whose (e ∷ es) h =
-    elim (f e) as (λ (o : Option Message). f e ≡ o → IsStrictlySortedBy text_cmp (map told (cons_option o (filter_map f es)))) [
-      | None ↦ λ t. told_sorted f whose es h.1
-      | Some x ↦ λ t. (subst (λ (q : Text). AllByRecursion (λ y. text_cmp q y ≡ Less) (map told (filter_map f es))) (sym (whose e x t)) (told_later f whose e.0 es h.0), told_sorted f whose es h.1)
-    ] refl
-
-pub messages_sorted : (m n : State) → AreInOrder n.rows → IsStrictlySortedBy text_cmp (map told (messages m n))
-messages_sorted m n sorted = told_sorted (λ (e : Text × Row). message m n e.0 e.1) (λ e x h. message_key m n e.0 e.1 x h) n.rows sorted
+pub messages_sorted : (m n : State) → AreInOrder n.rows → IsStrictlySortedBy text_cmp (map flight_of (messages m n))
+messages_sorted m n sorted =
+    names_sorted flight_of (messages m n) (names_rise flight_of (λ (e : Text × Row). message m n e.0 e.1) (λ e x h. message_key m n e.0 e.1 x h) n.rows sorted)
 
 -- a flight of a good state is governed as it should be
 pub governed_by : (m : State) (key : Text) (row : Row) (id : Text) → IsGood m → row_of m key ≡ Some row → row.governing ≡ Some id → IsGoverned m.clock m.regs row id
@@ -188,12 +150,12 @@ pub messages_one : (m : State) (key : Text) (row : Row) → IsGood m → message
 messages_one m key row good =
     let n : State = with_row m key row in
     let sorted : AreInOrder n.rows = sorted-put key row m.rows good.rows_in_order in
-    let told_of : Text × Row → Option Message = λ e. message m n e.0 e.1 in
-    let each : AllByRecursion (λ (e : Text × Row). is_eq (text_cmp key e.0) ≡ false → told_of e ≡ None) n.rows =
-    all-each (λ (e : Text × Row). row_of n e.0 ≡ Some e.1) (λ (e : Text × Row). is_eq (text_cmp key e.0) ≡ false → told_of e ≡ None)
+    let given : Text × Row → Option Message = λ e. message m n e.0 e.1 in
+    let each : AllByRecursion (λ (e : Text × Row). is_eq (text_cmp key e.0) ≡ false → given e ≡ None) n.rows =
+    all-each (λ (e : Text × Row). row_of n e.0 ≡ Some e.1) (λ (e : Text × Row). is_eq (text_cmp key e.0) ≡ false → given e ≡ None)
     (λ e found off. message_none m n e.0 e.1 good sorted (λ id governs a opened. (a, opened, refl)) (sym (at-put_other e.0 key row m.rows (other_way key e.0 off)) ∙ found) found)
     n.rows (each_found n.rows sorted) in
-    filter_map-one told_of key n.rows sorted each ∙ ap (λ (w : Option Row). cons_option (option_and_then (λ (r : Row). told_of (key, r)) w) []) (at-put_same key row m.rows)
+    filter_map-one given key n.rows sorted each ∙ ap (λ (w : Option Row). cons_option (option_and_then (λ (r : Row). given (key, r)) w) []) (at-put_same key row m.rows)
 
 -- what holds of the message for that flight holds of all
 pub all_one : (P : Message → Type 0) (m : State) (key : Text) (row : Row) → IsGood m → ((x : Message) → message m (with_row m key row) key row ≡ Some x → P x) → All P (messages m (with_row m key row))
@@ -208,7 +170,7 @@ filter_map-none : {X Y : Type 0} (f : X → Option Y) (xs : List X) → AllByRec
 filter_map-none f [] a = refl
 filter_map-none {X} {Y} f (x ∷ xs) a = ap (λ (w : Option Y). cons_option w (filter_map f xs)) a.0 ∙ filter_map-none f xs a.1
 
--- where each row that is there afterwards was there before, nobody is told anything
+-- where each row that is there afterwards was there before, there is no message
 pub messages_unchanged : (m n : State) → IsGood m → AreInOrder n.rows → ((id : Text) → StaysOpen m n id) → ((key : Text) (row : Row) → row_of n key ≡ Some row → row_of m key ≡ Some row) → messages m n ≡ []
 messages_unchanged m n good sorted stays before =
     filter_map-none (λ (e : Text × Row). message m n e.0 e.1) n.rows
