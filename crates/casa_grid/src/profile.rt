@@ -1,7 +1,7 @@
 ghost use Rattle.std.specs.Prelude.{◌≡◌, ◌⊎◌, IfOk, MatchOption};
 ghost use Rattle.std.specs.List.{list_any};
 ghost use Rattle.casa_grid.specs.declared.period.Period.{Period};
-ghost use Rattle.casa_grid.specs.ProfileFaults.{is_empty_period, are_joined, has_gap, has_bad_rate, is_too_long, profile_fault};
+ghost use Rattle.casa_grid.specs.ProfileFaults.{is_empty_period, are_joined, has_gap, has_bad_rate, is_too_long, profile_fault, name_of};
 
 use crate::period::Period;
 use casa_time::Moment;
@@ -34,23 +34,39 @@ impl Model for Profile {
 #[derive(Clone, Copy, PartialEq, Eq, Debug, Error)]
 pub enum ProfileFault {
     /// There is no period.
-    #[error("NoPeriods")]
+    #[error("there is no period")]
     NoPeriods,
     /// There are more than 24 periods.
-    #[error("TooManyPeriods")]
+    #[error("there are more than 24 periods")]
     TooManyPeriods,
     /// A period ends where it begins or before, or does not begin where the one before it ends.
-    #[error("Gap")]
+    #[error("a period is empty, or does not begin where the one before it ends")]
     Gap,
     /// A rate is above 600 flights per hour.
-    #[error("BadRate")]
+    #[error("a rate is above 600 flights per hour")]
     BadRate,
     /// From the first begin to the last end there are more than 86,400 seconds.
-    #[error("TooLong")]
+    #[error("the periods reach over more than 86400 seconds")]
     TooLong,
     /// There is no memory for the profile.
-    #[error("NoMemory")]
+    #[error("there is no memory for the profile")]
     NoMemory,
+}
+
+impl ProfileFault {
+    /// The name of the fault, as in `"Gap"`, for programs to print.
+    pub fn name(self) -> &'static str
+        ensures { result.now ≡ name_of self }
+    {
+        match self {
+            ProfileFault::NoPeriods => "NoPeriods",
+            ProfileFault::TooManyPeriods => "TooManyPeriods",
+            ProfileFault::Gap => "Gap",
+            ProfileFault::BadRate => "BadRate",
+            ProfileFault::TooLong => "TooLong",
+            ProfileFault::NoMemory => "NoMemory",
+        }
+    }
 }
 
 /// The most periods of a profile.
@@ -135,7 +151,7 @@ impl Eq for Profile {
     ghost laws = { lists_equiv period_laws };
 }
 
-/// The first fault of these periods but for want of memory.
+/// The first fault of these periods; that memory is refused is no fault of theirs.
 fn first_fault(periods: &[Period]) -> Option<ProfileFault>
     ensures { result ≡ profile_fault periods.now }
 {
