@@ -33,7 +33,7 @@ is_counted p j some h =
     let quotient : j * 3600 / p.rate < p.until - p.begin = omega (arith, h) in
     counted ((p.until - p.begin) * p.rate) j ((div-lt_iff_lt-mul some).0 quotient)
 
-none_at_zero : (p : Period) → p.rate ≡ 0 → slot_count p ≡ 0
+pub none_at_zero : (p : Period) → p.rate ≡ 0 → slot_count p ≡ 0
 none_at_zero p h =
     ap (λ r. ((p.until - p.begin) * r + 3599) / 3600) h ∙ (let none : ((p.until - p.begin) * 0 + 3599) / 3600 ≡ 0 = omega arith in none)
 

@@ -74,12 +74,12 @@ shifted m n =
       | inr le ↦ le-ltb (1 + m) (suc n) (omega (arith, le)) ∙ sym (le-ltb m n le)
     ]
 
-first_here : (p : Window → Bool) (w : Window) (ws : List Window) → p w ≡ true → position p (w ∷ ws) ≡ Some 0
+pub first_here : (p : Window → Bool) (w : Window) (ws : List Window) → p w ≡ true → position p (w ∷ ws) ≡ Some 0
 first_here p w ws h =
     ap (λ b. cond (nat_lt (cond (not b) (1 + position_or_len p ws) 0) (suc (length ws))) (Some (cond (not b) (1 + position_or_len p ws) 0)) None) h
     ∙ ap (λ b. cond b (Some 0) None) (lt-ltb 0 (suc (length ws)) (omega arith))
 
-first_behind : (p : Window → Bool) (w : Window) (ws : List Window) → p w ≡ false → position p (w ∷ ws) ≡ option_map (λ k. suc k) (position p ws)
+pub first_behind : (p : Window → Bool) (w : Window) (ws : List Window) → p w ≡ false → position p (w ∷ ws) ≡ option_map (λ k. suc k) (position p ws)
 first_behind p w ws h =
     ap (λ b. cond (nat_lt (cond (not b) (1 + position_or_len p ws) 0) (suc (length ws))) (Some (cond (not b) (1 + position_or_len p ws) 0)) None) h
     ∙ ap (λ b. cond b (Some (1 + position_or_len p ws)) None) (shifted (position_or_len p ws) (length ws))
@@ -93,7 +93,7 @@ never : (a b : Bool) → b ≡ false → (a && b) ≡ false
 never true b h = h
 never false b h = refl
 
-none_before : (at start end : ℕ) (ws : List Window) → at < start → AreApart start end ws → window_of ws at ≡ None
+pub none_before : (at start end : ℕ) (ws : List Window) → at < start → AreApart start end ws → window_of ws at ≡ None
 none_before at start end [] lt h = refl
 none_before at start end (w ∷ ws) lt h =
     let later : nat_le w.begin at ≡ false = false_from_ne_true _ (λ t. let le : w.begin ≤ at = leb-true _ _ t in omega (arith, le, lt, h.0)) in

@@ -1,5 +1,5 @@
 ghost use Rattle.std.specs.Prelude.{◌≡◌, ◌≤◌, ◌<◌, ◌++◌, IfOk, OnOk, length};
-ghost use Rattle.casa_grid.specs.Profile.{highest_rate};
+ghost use Rattle.casa_grid.specs.Profile.{highest_rate, IsProfile};
 ghost use Rattle.casa_grid.specs.Slots.{slots, slots_of_period, slot_count, window_at, begin_at, wanted, window_of};
 
 use crate::period::Period;
@@ -15,7 +15,7 @@ const SECONDS_PER_HOUR: u32 = 3_600;
 /// The slots of a profile.
 ///
 /// Contracts see a grid as the profile that it was made of.
-#[derive(Drop)]
+#[derive(Drop, Debug)]
 pub struct Grid {
     profile: Profile,
     windows: Vec<Window>,
@@ -61,13 +61,6 @@ impl Grid {
         self.windows.len()
     }
 
-    /// The slots' windows, in order of time.
-    pub fn windows(&self) -> &[Window]
-        ensures { result.now ≡ slots self.now }
-    {
-        self.windows.as_slice()
-    }
-
     /// Where slot `k` begins.
     pub fn begin(&self, k: usize) -> Moment
         requires { k < length (slots self.now) }
@@ -79,16 +72,18 @@ impl Grid {
     /// The slot that a flight with this estimated time over asks for, the first whose window ends after it;
     /// `None` where every window has ended by then.
     pub fn wanted(&self, eto: Moment) -> Option<usize>
-        ensures { result ≡ wanted (slots self.now) eto }
+        ensures value { result ≡ wanted (slots self.now) eto }
+        ensures valid { IsProfile self.now }
     {
         let windows = self.windows.as_slice();
         let ended = windows.partition_point(|window| window.until <= eto);
         (ended < windows.len()).then_some(ended)
     }
 
-    /// The slot whose window holds this moment; `None` where no window does.
+    /// The slot whose window holds this moment, and there is no second one in a profile; `None` where no window does.
     pub fn window_of(&self, at: Moment) -> Option<usize>
-        ensures { result ≡ window_of (slots self.now) at }
+        ensures value { result ≡ window_of (slots self.now) at }
+        ensures valid { IsProfile self.now }
     {
         let slot = self.wanted(at)?;
         (self.windows[slot].begin <= at).then_some(slot)

@@ -81,13 +81,22 @@ fn each_fault_has_its_name(rt: HostRuntime) -> Result<(), Fail> {
     assert_eq!(rt; fault_of(alloc, &fast), Some(ProfileFault::BadRate));
     let long = [period(0, 86401, 1)?];
     assert_eq!(rt; fault_of(alloc, &long), Some(ProfileFault::TooLong));
+    let shown = format!(in alloc;
+        "{}: {}",
+        ProfileFault::BadRate.name(),
+        ProfileFault::BadRate
+    )?;
+    assert_eq!(rt;
+        shown.as_str(),
+        "BadRate: a rate is above 600 flights per hour"
+    );
     Ok(())
 }
 
-/// Run also with each allocation refused in turn: the refused call answers want of memory and nothing
+/// Run also with each allocation refused in turn: the refused call answers that memory is refused and nothing
 /// else, and is as good as new when it is made again.
 #[test]
-fn a_refused_growth_is_want_of_memory(rt: HostRuntime) -> Result<(), Fail> {
+fn a_refused_growth_is_answered(rt: HostRuntime) -> Result<(), Fail> {
     let alloc = rt.alloc();
     let periods = [period(0, 60, 600)?, period(60, 120, 0)?];
     let profile = match Profile::new(alloc, &periods) {

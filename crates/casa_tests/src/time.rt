@@ -32,3 +32,17 @@ fn times_show_as_hour_and_minute(rt: HostRuntime) {
         assert_eq!(rt; hhmm(secs), *text, "at {secs}");
     }
 }
+
+#[test]
+fn moments_and_faults_show_in_words(rt: HostRuntime) -> Result<(), Fail> {
+    let alloc = rt.alloc();
+    let shown = format!(in alloc; "{}", Moment::new(86_405)?)?;
+    assert_eq!(rt; shown.as_str(), "86405");
+    let fault = TimeFault::OutOfRange;
+    let shown = format!(in alloc; "{}: {}", fault.name(), fault)?;
+    assert_eq!(rt;
+        shown.as_str(),
+        "OutOfRange: a moment is at most 172799 seconds after midnight UTC"
+    );
+    Ok(())
+}

@@ -1,3 +1,4 @@
 pub mod Moment
 pub mod Due
 pub mod Hhmm
+pub mod TimeFaults

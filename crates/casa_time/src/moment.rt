@@ -1,6 +1,8 @@
 ghost use Rattle.std.specs.Prelude.{◌≡◌, ◌≤◌, ◌↔◌, IsOk, IfOk};
 ghost use Rattle.casa_time.specs.Moment.{last_moment};
+ghost use Rattle.casa_time.specs.TimeFaults.{name_of};
 
+use std::fmt;
 use std::marker::Model;
 use thiserror::Error;
 
@@ -28,8 +30,19 @@ impl Model for Moment {
 #[derive(Clone, Copy, PartialEq, Eq, Debug, Error)]
 pub enum TimeFault {
     /// The number is above 172,799.
-    #[error("OutOfRange")]
+    #[error("a moment is at most 172799 seconds after midnight UTC")]
     OutOfRange,
+}
+
+impl TimeFault {
+    /// The name of the fault, as in `"OutOfRange"`, for programs to print.
+    pub fn name(self) -> &'static str
+        ensures { result.now ≡ name_of self }
+    {
+        match self {
+            TimeFault::OutOfRange => "OutOfRange",
+        }
+    }
 }
 
 impl Moment {
@@ -55,5 +68,20 @@ impl Moment {
         ensures in_range { result ≤ last_moment }
     {
         self.secs
+    }
+}
+
+impl fmt::Display for Moment {
+    ghost use Rattle.std.specs.Prelude.{Some};
+    ghost use Rattle.std.specs.Fmt.{decimal};
+
+    ghost output = { λ moment. Some (decimal moment) };
+
+    /// The seconds from midnight UTC as a decimal number, as in `36005`.
+    ///
+    /// It is no time of the day in hours and minutes, since a moment may lie in the day after the engine's day, and
+    /// times that are worked out from moments may be later still.
+    fn fmt<W: fmt::Write>(&self, f: &mut fmt::Formatter<W>) -> fmt::Result {
+        write!(f, "{}", self.secs)
     }
 }

@@ -8,8 +8,8 @@ use Rattle.casa_grid.proofs.Slots.{slots-apart}
 use Rattle.casa_grid.proofs.Windows.{untils_rise, first_open}
 use Rattle.casa_grid.proofs.grid.Grid.wanted.Goals as goal
 
-pub returns : goal.returns
-returns c =
+pub returns-clause-value : goal.returns-clause-value
+returns-clause-value c =
     let ps = c.self.inside.profile in
     let ws = c.as_slice-windows.result.now in
     let slots_are : ws ≡ slots ps = c.as_slice-windows.ensures.value ∙ c.self.invariant.0 in

@@ -11,14 +11,14 @@ use Rattle.casa_grid.proofs.Slots.{slots-apart}
 use Rattle.casa_grid.proofs.Windows.{window_of-wanted, window_of-none}
 use Rattle.casa_grid.proofs.grid.Grid.window_of.Goals as goal
 
-pub returns-in_err-slot : goal.returns-in_err-slot
-returns-in_err-slot c =
+pub returns-in_err-slot-clause-value : goal.returns-in_err-slot-clause-value
+returns-in_err-slot-clause-value c =
     let none : wanted (slots c.args.self.now) c.args.at ≡ None = search rules in
     let out : c.from_residual.result ≡ None = search rules in
     out ∙ sym (window_of-none c.args.at (slots c.args.self.now) none)
 
-pub returns : goal.returns
-returns c =
+pub returns-clause-value : goal.returns-clause-value
+returns-clause-value c =
     let ps = c.args.self.now in
     let qs = c.self.inside.profile in
     let slot = c.in_ok-slot.slot in
