@@ -29,7 +29,7 @@ use Rattle.casa_list.specs.Standings.{issued_flight, forced_flight, is_flight_be
 use Rattle.casa_list.specs.Walk.{place_low, low_behind, walked, comps_in}
 use Rattle.casa_list.proofs.Ordered.{ordered_keys, IsAbsent, in_order-put, filter_map-put_other, place_in, place_in-le, remove-put, index_is, position-mapped}
 use Rattle.casa_list.proofs.Rightly.{places-walked}
-use Rattle.casa_list.proofs.Settled.{comps-walked, walked_split, comps-drop}
+use Rattle.casa_list.proofs.Walked.{comps-walked, walked_split, comps-drop}
 
 -- the list with a flight that stands so
 abbrev pub with_flight : Listing → Text → Stance → Listing

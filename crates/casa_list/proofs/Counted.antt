@@ -25,7 +25,7 @@ use Rattle.casa_list.specs.Standings.{issued_flight, is_flight_before}
 use Rattle.casa_list.specs.declared.standing.Standing.{Standing}
 use Rattle.casa_list.proofs.Ordered.{IsAbsent, put_all}
 use Rattle.casa_list.proofs.Rightly.{count_by-cons}
-use Rattle.casa_list.proofs.Settled.{AgreeBut}
+use Rattle.casa_list.proofs.Walked.{AgreeBut}
 
 swapped : (a b n : ℕ) → a + (b + n) ≡ b + (a + n)
 swapped a b n = omega arith

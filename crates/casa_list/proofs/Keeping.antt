@@ -24,10 +24,10 @@ use Rattle.casa_list.specs.declared.standing.Standing.TheVariants.{Pre, Issued a
 use Rattle.casa_list.specs.Blocked.{counts, issued_times, raised, lowered, times_in}
 use Rattle.casa_list.specs.Kept.{IsKept}
 use Rattle.casa_list.specs.Standings.{standings, count_governed, issued_flight, is_flight_before, issued_flights, forced_flights, index_in}
-use Rattle.casa_list.specs.Walk.{place_low, low_behind, walked, followed, comps_in, FollowFirst, FollowFrom, settled_at, IsWithin}
+use Rattle.casa_list.specs.Walk.{place_low, low_behind, walked, followed, comps_in, FollowFirst, FollowFrom, walked_from_slot, IsWithin}
 use Rattle.casa_list.proofs.Ordered.{IsAbsent, put_all, place_in, place_in-put, place_in-le, remove-put, length-put, index_is}
 use Rattle.casa_list.proofs.Rightly.{places-walked}
-use Rattle.casa_list.proofs.Settled.{follow_walked, follow_drop, follow_changed, settled_changed, within-walked}
+use Rattle.casa_list.proofs.Walked.{follow_walked, follow_drop, follow_changed, walked_changed, within-walked}
 use Rattle.casa_list.proofs.Counted.{counts-put, counts-raised, lowered-raised, agree_raised, agree_lowered, counts-bounded, length-counts_of, counts-put_all, times-kinds}
 use Rattle.casa_list.proofs.Changes.{with_flight, without_flight, taken_out, absent_out, sorted_out, competitors-put, competitors-put_other, issued-put, issued-put_other, forced-put, forced-put_other, times-put_other, index_assigned, comps-places, length-places, places-put, places-out, place-put, place-entered, other_keys}
 
@@ -137,13 +137,13 @@ kept_left l xs ys issued forced bs room c k found is enough =
     }
 
 -- the walk after one count changed
-settled_raised : (ws : List Window) (bs : List ℕ) (slot : Option ℕ) (xs : List Assigned) (cs : List Comp) → xs ≡ walked ws bs 0 cs → settled_at ws (raised bs slot) xs slot ≡ walked ws (raised bs slot) 0 cs
-settled_raised ws bs None xs cs is = is
-settled_raised ws bs (Some k) xs cs is = settled_changed ws bs (raised bs (Some k)) k xs cs (agree_raised bs k) is
+walked_raised : (ws : List Window) (bs : List ℕ) (slot : Option ℕ) (xs : List Assigned) (cs : List Comp) → xs ≡ walked ws bs 0 cs → walked_from_slot ws (raised bs slot) xs slot ≡ walked ws (raised bs slot) 0 cs
+walked_raised ws bs None xs cs is = is
+walked_raised ws bs (Some k) xs cs is = walked_changed ws bs (raised bs (Some k)) k xs cs (agree_raised bs k) is
 
-settled_lowered : (ws : List Window) (bs : List ℕ) (slot : Option ℕ) (xs : List Assigned) (cs : List Comp) → xs ≡ walked ws bs 0 cs → settled_at ws (lowered bs slot) xs slot ≡ walked ws (lowered bs slot) 0 cs
-settled_lowered ws bs None xs cs is = is
-settled_lowered ws bs (Some k) xs cs is = settled_changed ws bs (lowered bs (Some k)) k xs cs (agree_lowered bs k) is
+walked_lowered : (ws : List Window) (bs : List ℕ) (slot : Option ℕ) (xs : List Assigned) (cs : List Comp) → xs ≡ walked ws bs 0 cs → walked_from_slot ws (lowered bs slot) xs slot ≡ walked ws (lowered bs slot) 0 cs
+walked_lowered ws bs None xs cs is = is
+walked_lowered ws bs (Some k) xs cs is = walked_changed ws bs (lowered bs (Some k)) k xs cs (agree_lowered bs k) is
 
 follow_raised : (ws : List Window) (bs : List ℕ) (slot : Option ℕ) (xs : List Assigned) (cs : List Comp) → xs ≡ walked ws bs 0 cs → FollowFrom ws (raised bs slot) xs slot
 follow_raised ws bs None xs cs is = tt
@@ -172,7 +172,7 @@ pub kept_held : (l : Listing) (xs ys : List Assigned) (issued new_issued forced 
     IsKept l xs issued forced bs room → IsProfile l.profile → stance_of l c.key ≡ None →
     new_issued ≡ put_by is_flight_before (c, IssuedAt cto) issued →
     ds ≡ raised bs (window_of (slots l.profile) cto) →
-    ys ≡ settled_at (slots l.profile) ds xs (window_of (slots l.profile) cto) →
+    ys ≡ walked_from_slot (slots l.profile) ds xs (window_of (slots l.profile) cto) →
     length ys + length new_issued ≤ new_room → IsKept (with_flight l c.key (Issued c.eto cto)) ys new_issued forced ds new_room
 kept_held l xs ys issued new_issued forced bs ds room new_room c cto k valid absent put_is raised_is is enough =
     let s : Stance = Issued c.eto cto in
@@ -184,8 +184,8 @@ kept_held l xs ys issued new_issued forced bs ds room new_room c cto k valid abs
       keys = sorted-put c.key s l.flights k.keys;
       competitors_are =
           is
-          ∙ ap (λ es. settled_at (slots l.profile) es xs slot) raised_is
-          ∙ settled_raised (slots l.profile) bs slot xs (competitors l) (kept_walked l xs issued forced bs room k)
+          ∙ ap (λ es. walked_from_slot (slots l.profile) es xs slot) raised_is
+          ∙ walked_raised (slots l.profile) bs slot xs (competitors l) (kept_walked l xs issued forced bs room k)
           ∙ (λ j. walked (slots l.profile) ((sym raised_is ∙ ds_are) j) 0 (sym (competitors-put_other l c.key s refl none) j))
           ∙ sym (places-walked new);
       issued_are = put_is ∙ ap (put_by is_flight_before (c, IssuedAt cto)) k.issued_are ∙ sym (issued-put l c cto none);
@@ -224,7 +224,7 @@ pub kept_unheld : (l : Listing) (xs ys : List Assigned) (issued new_issued force
     IsKept l xs issued forced bs room → IsProfile l.profile → stance_of l c.key ≡ Some (Issued c.eto cto) →
     new_issued ≡ remove issued (index_in issued c) →
     ds ≡ lowered bs (window_of (slots l.profile) cto) →
-    ys ≡ settled_at (slots l.profile) ds xs (window_of (slots l.profile) cto) →
+    ys ≡ walked_from_slot (slots l.profile) ds xs (window_of (slots l.profile) cto) →
     length ys + length new_issued ≤ room → IsKept (without_flight l c.key) ys new_issued forced ds room
 kept_unheld l xs ys issued new_issued forced bs ds room c cto k valid found less_is lowered_is is enough =
     let s : Stance = Issued c.eto cto in
@@ -238,8 +238,8 @@ kept_unheld l xs ys issued new_issued forced bs ds room c cto k valid found less
       keys = sorted_out l c.key k.keys;
       competitors_are =
           is
-          ∙ ap (λ es. settled_at (slots l.profile) es xs slot) lowered_is
-          ∙ settled_lowered (slots l.profile) bs slot xs (competitors l) (kept_walked l xs issued forced bs room k)
+          ∙ ap (λ es. walked_from_slot (slots l.profile) es xs slot) lowered_is
+          ∙ walked_lowered (slots l.profile) bs slot xs (competitors l) (kept_walked l xs issued forced bs room k)
           ∙ (λ j. walked (slots l.profile) ((sym lowered_is ∙ ds_are) j) 0 (cs_are j))
           ∙ sym (places-walked less);
       issued_are = less_is ∙ flight_out c (IssuedAt cto) issued (issued_flights less) (issued_there l xs issued forced bs room c cto k found);

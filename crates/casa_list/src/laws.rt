@@ -19,9 +19,10 @@ pub fn places_are_right()
         map (λ (a : Assigned). a.comp) all ≡ competitors l → all ≡ places l }
 {}
 
-/// The flights of a list, as `nth` reads them: each is told exactly as it stands there, and no two have the same key.
+/// The flights of a list, as `nth` reads them: each flight of the list, as it stands there, and no other; no two have
+/// the same key.
 /// The competitors, the issued and the forced ones are each by time over and, among equal times, by key.
-pub fn standings_tell_each_flight_once()
+pub fn standings_name_each_flight_once()
     ensures who { (l : Listing) (f : Comp × Standing) → AreInOrder l.flights →
         Contains (standings l) f ↔ (standing_of l f.0.key ≡ Some f) }
     ensures once { (l : Listing) → AreInOrder l.flights →

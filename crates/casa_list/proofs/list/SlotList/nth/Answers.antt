@@ -5,8 +5,8 @@ use Rattle.casa_list.specs.Standings.{standings}
 use Rattle.casa_list.proofs.Keeping.{nth_forced}
 use Rattle.casa_list.proofs.list.SlotList.nth.Goals as goal
 
-pub returns : goal.returns
-returns c =
+pub returns-clause-flight : goal.returns-clause-flight
+returns-clause-flight c =
     let l : Listing = record { profile = c.self.inside.grid; flights = c.self.inside.flights.entries } in
     let n : ℕ = c.args.n in
     let rest : ℕ = c.args.n - length c.self.inside.competitors.items - length c.self.inside.issued.items in

@@ -10,7 +10,7 @@ pub invariant_of-self : goal.invariant_of-self
 invariant_of-self c =
     let l : Listing = record { profile = c.self.inside.grid; flights = c.self.inside.flights.entries } in
     let counted_is : c.in_ok-blocked.blocked.items ≡ counts (slots c.args.grid) (times_in c.self.inside.issued.items) = search rules in
-    let ys = c.settle_all.new.competitors.items in
+    let ys = c.walk_all.new.competitors.items in
     let is : ys ≡ walked (slots c.args.grid) c.in_ok-blocked.blocked.items 0 (comps_in c.self.inside.competitors.items) = search rules in
     let room = c.self.invariant.room_is in
     let enough : length ys + length c.self.inside.issued.items ≤ vec_capacity c.self.inside.issued = search rules in

@@ -9,7 +9,7 @@ use Rattle.casa_grid.specs.Slots.{wanted}
 use Rattle.casa_flight.specs.declared.comp.Comp.{Comp}
 use Rattle.casa_flight.specs.declared.comp.Assigned.{Assigned}
 use Rattle.casa_flight.specs.Assignment.{place_from}
-use Rattle.casa_list.specs.Walk.{is_clear, clear_from, place_asked, place_low, low_after, low_behind, walked, comps_in, FollowFirst, FollowFrom, settled_at, is_below, count_below, IsWithin}
+use Rattle.casa_list.specs.Walk.{is_clear, clear_from, place_asked, place_low, low_after, low_behind, walked, comps_in, FollowFirst, FollowFrom, walked_from_slot, is_below, count_below, IsWithin}
 use Rattle.casa_list.proofs.Walks.{follow_step}
 use Rattle.casa_list.proofs.Ordered.{index_is}
 use Rattle.casa_list.proofs.Rightly.{find_from, after_slot}
@@ -188,8 +188,8 @@ take-drop_comps zero cs = refl
 take-drop_comps (suc i) [] = refl
 take-drop_comps (suc i) (c ∷ cs) = ap (λ ds. c ∷ ds) (take-drop_comps i cs)
 
-pub settled_changed : (ws : List Window) (bs ds : List ℕ) (k : ℕ) (xs : List Assigned) (cs : List Comp) → AgreeBut bs ds k → xs ≡ walked ws bs 0 cs → settled_at ws ds xs (Some k) ≡ walked ws ds 0 cs
-settled_changed ws bs ds k xs cs h is =
+pub walked_changed : (ws : List Window) (bs ds : List ℕ) (k : ℕ) (xs : List Assigned) (cs : List Comp) → AgreeBut bs ds k → xs ≡ walked ws bs 0 cs → walked_from_slot ws ds xs (Some k) ≡ walked ws ds 0 cs
+walked_changed ws bs ds k xs cs h is =
     let n : ℕ = position_or_len (λ (a : Assigned). not (is_below k a.place)) xs in
     let at : count_below xs k ≡ n = index_is (λ (a : Assigned). not (is_below k a.place)) xs in
     let front : walked ws ds 0 (take n cs) ≡ take n xs = subst (λ ys. walked ws ds 0 (take (position_or_len (λ (a : Assigned). not (is_below k a.place)) ys) cs) ≡ take (position_or_len (λ (a : Assigned). not (is_below k a.place)) ys) ys) (sym is) (front_stays ws bs ds k 0 cs h) in
