@@ -6,4 +6,11 @@ pub mod Walked
 pub mod Counted
 pub mod Changes
 pub mod Keeping
+pub mod Flights
+pub mod Entering
+pub mod Holding
+pub mod Forcing
+pub mod Issuing
+pub mod Regridding
+pub mod Reading
 pub mod Once

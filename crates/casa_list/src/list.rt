@@ -54,7 +54,13 @@ impl Model for SlotList {
     ghost view = { λ l. record { profile = l.grid; flights = l.flights.entries } };
 
     ghost invariant = { λ l. IsKept (record { profile = l.grid; flights = l.flights.entries })
-        l.competitors.items l.issued.items l.forced.items l.blocked.items (vec_capacity l.issued) };
+        (record {
+          competitors = l.competitors.items;
+          issued = l.issued.items;
+          forced = l.forced.items;
+          blocked = l.blocked.items;
+          room = vec_capacity l.issued;
+        }) };
 }
 
 impl fmt::Debug for SlotList {
