@@ -28,7 +28,7 @@ use Rattle.casa_list.specs.declared.standing.Standing.TheVariants.{Issued as Iss
 use Rattle.casa_list.specs.Blocked.{counts, issued_counts}
 use Rattle.casa_list.specs.Standings.{issued_flight, forced_flight, is_flight_before, issued_flights, forced_flights}
 use Rattle.casa_list.specs.Walk.{place_low, low_behind, walked, comps_in}
-use Rattle.casa_list.proofs.Ordered.{ordered_keys, IsAbsent, in_order-put, filter_map-put_other, place_in, seat, place_in-le, remove-put, index_is, position-mapped}
+use Rattle.casa_list.proofs.Ordered.{ordered_keys, IsAbsent, in_order-put, filter_map-put_other, seat, place_in-le, remove-put, index_is, position-mapped}
 use Rattle.casa_list.proofs.Rightly.{places-walked}
 use Rattle.casa_list.proofs.Walked.{comps-walked, walked_split, comps-drop}
 

@@ -11,7 +11,6 @@ use Rattle.casa_flight.specs.declared.row.Stance.TheVariants.{Competing, Issued,
 use Rattle.casa_flight.specs.Text.{Text, without}
 use Rattle.casa_flight.specs.Listing.{Listing, put_by, is_before, issued_cto, competitors, occupancy, places, place_of, stance_of}
 use Rattle.casa_list.specs.declared.standing.Standing.{Standing}
-use Rattle.casa_list.specs.Blocked.{issued_counts}
 use Rattle.casa_list.specs.Kept.{Kept, IsKept}
 use Rattle.casa_list.specs.Standings.{issued_flight, is_flight_before, issued_flights}
 use Rattle.casa_list.specs.Walk.{walked, comps_in, FollowFirst, IsWithin}

@@ -14,3 +14,4 @@ pub mod Issuing
 pub mod Regridding
 pub mod Reading
 pub mod Once
+pub mod Equal

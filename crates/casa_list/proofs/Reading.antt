@@ -1,5 +1,5 @@
 -- each flight of a list once, in the three lists one behind the other
-use Rattle.std.proofs.Common.{◌≡◌, ℕ, ◌+◌, List, [], ◌∷◌, ◌++◌, append_assoc, length, map, sym, ◌∙◌, ap, arith, zero, suc, Some}
+use Rattle.std.proofs.Common.{◌≡◌, ℕ, ◌+◌, List, [], ◌∷◌, ◌++◌, append_assoc, length, map, sym, ◌∙◌, ap, arith, zero, suc}
 use Rattle.std.specs.List.{slice_get}
 use Rattle.std.proofs.lemmas.List.{length-map}
 use Rattle.casa_flight.specs.declared.comp.Comp.{Comp}

@@ -63,6 +63,25 @@ impl Model for SlotList {
         }) };
 }
 
+impl PartialEq for SlotList {
+    ghost use Rattle.std.specs.Cmp.{partial_equiv_from_equiv};
+    ghost use Rattle.casa_list.specs.Equality.{list_eq, list_eq_laws};
+
+    ghost eq = { list_eq };
+
+    ghost laws = { partial_equiv_from_equiv list_eq_laws };
+
+    fn eq(&self, other: &SlotList) -> bool {
+        self.grid.profile() == other.grid.profile() && self.flights == other.flights
+    }
+}
+
+impl Eq for SlotList {
+    ghost use Rattle.casa_list.specs.Equality.{list_eq_laws};
+
+    ghost laws = { list_eq_laws };
+}
+
 impl fmt::Debug for SlotList {
     /// Shows what contracts see.
     fn fmt<W: fmt::Write>(&self, f: &mut fmt::Formatter<W>) -> fmt::Result {
