@@ -16,20 +16,21 @@ use Rattle.casa_flight.specs.declared.row.Stance.{Stance}
 use Rattle.casa_flight.specs.declared.row.Stance.TheVariants.{Competing, Issued, Forced}
 use Rattle.casa_flight.specs.Text.{Text, same_text, at_name, put, without}
 use Rattle.casa_flight.specs.Good.{AreInOrder}
-use Rattle.casa_flight.specs.Listing.{Listing, put_by, in_order, is_before, competitor, competitors, issued_cto, places, place_of, stance_of}
+use Rattle.casa_flight.specs.Listing.{Listing, put_by, in_order, is_before, competitor, competitors, issued_cto, occupancy, places, place_of, stance_of}
 use Rattle.casa_flight.proofs.Competitors.{Ordered}
 use Rattle.casa_flight.proofs.EnterAll.{all-fold}
 use Rattle.casa_flight.proofs.Entries.{text_cmp, same_name, itself, at-put, at-without_other, none_at, sorted-put, sorted-remove, all-filter_map}
 use Rattle.casa_flight.proofs.Kept.{at-without_same, same_entries}
+use Rattle.casa_flight.proofs.Planned.{competitor_key}
 use Rattle.casa_flight.proofs.Rising.{put_at}
 use Rattle.casa_list.specs.declared.standing.Standing.{Standing}
 use Rattle.casa_list.specs.declared.standing.Standing.TheVariants.{Issued as IssuedAt, Forced as NoSlot}
-use Rattle.casa_list.specs.Blocked.{counts, issued_times}
+use Rattle.casa_list.specs.Blocked.{counts, issued_counts}
 use Rattle.casa_list.specs.Standings.{issued_flight, forced_flight, is_flight_before, issued_flights, forced_flights}
 use Rattle.casa_list.specs.Walk.{place_low, low_behind, walked, comps_in}
-use Rattle.casa_list.proofs.Ordered.{ordered_keys, IsAbsent, in_order-put, filter_map-put_other, place_in, place_in-le, remove-put, index_is, position-mapped}
+use Rattle.casa_list.proofs.Ordered.{ordered_keys, IsAbsent, in_order-put, filter_map-put_other, seat, place_in-le, remove-put, index_is, position-mapped}
 use Rattle.casa_list.proofs.Rightly.{places-walked}
-use Rattle.casa_list.proofs.Settled.{comps-walked, walked_split, comps-drop}
+use Rattle.casa_list.proofs.Walked.{comps-walked, walked_split, comps-drop}
 
 -- the list with a flight that stands so
 abbrev pub with_flight : Listing → Text → Stance → Listing
@@ -59,11 +60,6 @@ pub sorted_out : (l : Listing) (key : Text) → AreInOrder l.flights → AreInOr
 sorted_out l key sorted = sorted-remove (λ q. is_eq (text_cmp key q)) l.flights sorted
 
 -- the flight of an entry has its key
-competitor_key : (key : Text) (s : Stance) (c : Comp) → competitor key s ≡ Some c → c.key ≡ key
-competitor_key key (Competing eto) c h = cc
-competitor_key key (Issued eto cto) c h = cc
-competitor_key key (Forced eto) c h = cc
-
 pub issued_key : (key : Text) (s : Stance) (f : Comp × Standing) → issued_flight key s ≡ Some f → f.0.key ≡ key
 issued_key key (Competing eto) f h = cc
 issued_key key (Issued eto cto) f h =
@@ -85,7 +81,7 @@ apart c d key is h = ordered_keys c d (subst (λ q. is_eq (text_cmp c.key q) ≡
 pub competitors-put : (l : Listing) (c : Comp) → IsAbsent c.key l.flights → competitors (with_flight l c.key (Competing c.eto)) ≡ put_by is_before c (competitors l)
 competitors-put l c h =
     in_order-put (λ (d : Comp). d) (λ (e : Text × Stance). competitor e.0 e.1) c.key (Competing c.eto) c refl
-    (λ e d other is. apart c d e.0 (competitor_key e.0 e.1 d is) other) l.flights h
+    (λ e d other is. apart c d e.0 (competitor_key e d is) other) l.flights h
 
 pub competitors-put_other : (l : Listing) (key : Text) (s : Stance) → competitor key s ≡ None → IsAbsent key l.flights → competitors (with_flight l key s) ≡ competitors l
 competitors-put_other l key s none h =
@@ -111,18 +107,18 @@ pub forced-put_other : (l : Listing) (key : Text) (s : Stance) → forced_flight
 forced-put_other l key s none h =
     ap (in_order is_flight_before) (filter_map-put_other (λ (e : Text × Stance). forced_flight e.0 e.1) key s none l.flights h)
 
-pub times-put_other : (l : Listing) (key : Text) (s : Stance) → issued_cto s ≡ None → IsAbsent key l.flights → issued_times (put l.flights key s) ≡ issued_times l.flights
+pub times-put_other : (l : Listing) (key : Text) (s : Stance) → issued_cto s ≡ None → IsAbsent key l.flights → (occupancy (with_flight l key s)).issued ≡ (occupancy l).issued
 times-put_other l key s none h = filter_map-put_other (λ (e : Text × Stance). issued_cto e.1) key s none l.flights h
 
 -- where a competitor stands among assigned ones is where it stands among their flights
-pub index_assigned : (c : Comp) (xs : List Assigned) (cs : List Comp) → comps_in xs ≡ cs → unwrap_or (position (λ (a : Assigned). not (is_before a.comp c)) xs) (length xs) ≡ place_in (λ (d : Comp). d) c cs
+pub index_assigned : (c : Comp) (xs : List Assigned) (cs : List Comp) → comps_in xs ≡ cs → unwrap_or (position (λ (a : Assigned). not (is_before a.comp c)) xs) (length xs) ≡ seat c cs
 index_assigned c xs cs is =
     index_is (λ (a : Assigned). not (is_before a.comp c)) xs
     ∙ sym (position-mapped (λ (a : Assigned). a.comp) (λ (d : Comp). not (is_before d c)) xs)
-    ∙ ap (λ ds. place_in (λ (d : Comp). d) c ds) is
+    ∙ ap (λ ds. seat c ds) is
 
 pub comps-places : (l : Listing) → comps_in (places l) ≡ competitors l
-comps-places l = ap comps_in (places-walked l) ∙ comps-walked (slots l.profile) (counts (slots l.profile) (issued_times l.flights)) 0 (competitors l)
+comps-places l = ap comps_in (places-walked l) ∙ comps-walked (slots l.profile) (issued_counts (occupancy l)) 0 (competitors l)
 
 pub length-places : (l : Listing) → length (places l) ≡ length (competitors l)
 length-places l = sym (length-map (places l) (λ (a : Assigned). a.comp)) ∙ ap length (comps-places l)
@@ -130,15 +126,15 @@ length-places l = sym (length-map (places l) (λ (a : Assigned). a.comp)) ∙ ap
 -- the places with one more competitor
 pub places-put : (l : Listing) (c : Comp) → IsAbsent c.key l.flights →
     let ws = slots l.profile in
-    let bs : List ℕ = counts ws (issued_times l.flights) in
-    let i : ℕ = place_in (λ (d : Comp). d) c (competitors l) in
+    let bs : List ℕ = issued_counts (occupancy l) in
+    let i : ℕ = seat c (competitors l) in
     let xs : List Assigned = places l in
     places (with_flight l c.key (Competing c.eto)) ≡ take i xs ++ walked ws bs (low_behind (length bs) 0 (take i xs)) (c ∷ comps_in (drop i xs))
 places-put l c h =
     let ws = slots l.profile in
-    let bs : List ℕ = counts ws (issued_times l.flights) in
+    let bs : List ℕ = issued_counts (occupancy l) in
     let cs : List Comp = competitors l in
-    let i : ℕ = place_in (λ (d : Comp). d) c cs in
+    let i : ℕ = seat c cs in
     let xs : List Assigned = places l in
     let new : Listing = with_flight l c.key (Competing c.eto) in
     places-walked new
@@ -150,16 +146,16 @@ places-put l c h =
 pub places-out : (l : Listing) (c : Comp) → IsAbsent c.key l.flights →
     let old : Listing = with_flight l c.key (Competing c.eto) in
     let ws = slots l.profile in
-    let bs : List ℕ = counts ws (issued_times old.flights) in
-    let i : ℕ = place_in (λ (d : Comp). d) c (competitors l) in
+    let bs : List ℕ = issued_counts (occupancy old) in
+    let i : ℕ = seat c (competitors l) in
     let xs : List Assigned = places old in
     places l ≡ take i xs ++ walked ws bs (low_behind (length bs) 0 (take i xs)) (comps_in (drop (i + 1) xs))
 places-out l c h =
     let old : Listing = with_flight l c.key (Competing c.eto) in
     let ws = slots l.profile in
-    let bs : List ℕ = counts ws (issued_times old.flights) in
+    let bs : List ℕ = issued_counts (occupancy old) in
     let cs : List Comp = competitors old in
-    let i : ℕ = place_in (λ (d : Comp). d) c (competitors l) in
+    let i : ℕ = seat c (competitors l) in
     let xs : List Assigned = places old in
     let less : take i cs ++ drop (suc i) cs ≡ competitors l = ap (λ ds. remove ds i) (competitors-put l c h) ∙ remove-put (λ (d : Comp). d) c (competitors l) in
     let more : suc i ≡ i + 1 = omega arith in
@@ -180,7 +176,7 @@ pub other_keys : (l : Listing) (key : Text) → IsAbsent key l.flights → AllBy
 other_keys l key h =
     all-fold (λ (d : Comp). same_text key d.key ≡ false) is_before (filter_map (λ (e : Text × Stance). competitor e.0 e.1) l.flights) []
     (all-filter_map (λ (e : Text × Stance). is_eq (text_cmp key e.0) ≡ false) (λ (d : Comp). same_text key d.key ≡ false) (λ (e : Text × Stance). competitor e.0 e.1)
-    (λ e d other is. unlike key d.key (subst (λ q. is_eq (text_cmp key q) ≡ false) (sym (competitor_key e.0 e.1 d is)) other)) l.flights h)
+    (λ e d other is. unlike key d.key (subst (λ q. is_eq (text_cmp key q) ≡ false) (sym (competitor_key e d is)) other)) l.flights h)
     tt
 
 first_inserted : (p : Comp → Bool) (i : ℕ) (c : Comp) (cs : List Comp) → p c ≡ true → AllByRecursion (λ (d : Comp). p d ≡ false) cs → i ≤ length cs → position_or_len p (insert cs i c) ≡ i
@@ -193,10 +189,10 @@ first_inserted p (suc i) c (d ∷ cs) here h le =
 -- a competitor's place is that of the seat where it stands
 pub place-put : (l : Listing) (c : Comp) → IsAbsent c.key l.flights →
     let new : Listing = with_flight l c.key (Competing c.eto) in
-    place_of new c.key ≡ option_map_or (λ (a : Assigned). a.place) (slice_get (places new) (place_in (λ (d : Comp). d) c (competitors l))) Over
+    place_of new c.key ≡ option_map_or (λ (a : Assigned). a.place) (slice_get (places new) (seat c (competitors l))) Over
 place-put l c h =
     let new : Listing = with_flight l c.key (Competing c.eto) in
-    let i : ℕ = place_in (λ (d : Comp). d) c (competitors l) in
+    let i : ℕ = seat c (competitors l) in
     let le : i ≤ length (competitors l) = place_in-le (λ (d : Comp). d) c (competitors l) in
     let at : position_or_len (λ (a : Assigned). same_text c.key a.comp.key) (places new) ≡ i =
     sym (position-mapped (λ (a : Assigned). a.comp) (λ (d : Comp). same_text c.key d.key) (places new))
@@ -213,13 +209,13 @@ get_split (suc i) (x ∷ xs) a ys le = get_split i xs a ys (omega (arith, le))
 -- and the place that a newcomer gets is the one behind those before it
 pub place-entered : (l : Listing) (c : Comp) → IsAbsent c.key l.flights →
     let ws = slots l.profile in
-    let bs : List ℕ = counts ws (issued_times l.flights) in
-    let i : ℕ = place_in (λ (d : Comp). d) c (competitors l) in
+    let bs : List ℕ = issued_counts (occupancy l) in
+    let i : ℕ = seat c (competitors l) in
     place_of (with_flight l c.key (Competing c.eto)) c.key ≡ place_low ws bs (low_behind (length bs) 0 (take i (places l))) c.eto
 place-entered l c h =
     let ws = slots l.profile in
-    let bs : List ℕ = counts ws (issued_times l.flights) in
-    let i : ℕ = place_in (λ (d : Comp). d) c (competitors l) in
+    let bs : List ℕ = issued_counts (occupancy l) in
+    let i : ℕ = seat c (competitors l) in
     let le : i ≤ length (places l) = subst (λ n. i ≤ n) (sym (length-places l)) (place_in-le (λ (d : Comp). d) c (competitors l)) in
     place-put l c h
     ∙ ap (λ (o : Option Assigned). option_map_or (λ (a : Assigned). a.place) o Over)

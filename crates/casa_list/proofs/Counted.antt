@@ -1,10 +1,10 @@
 -- how many issued flights lie in each slot, as one more or one less does
-use Rattle.std.proofs.Common.{◌≡◌, ◌==◌, ℕ, ◌+◌, ◌-◌, ◌<◌, ◌≤◌, List, [], ◌∷◌, ◌++◌, append-nil, get_or, take, length, Bool, true, false, not, nat_lt, refl, sym, ◌∙◌, ap, arith, zero, suc, cond, Option, None, Some, replicate, count_by}
+use Rattle.std.proofs.Common.{◌≡◌, ◌==◌, ℕ, ◌+◌, ◌-◌, ◌<◌, ◌≤◌, List, [], ◌∷◌, ◌++◌, append-nil, get_or, take, length, Bool, true, false, not, nat_lt, refl, sym, ◌∙◌, ap, subst, arith, zero, suc, cond, Option, None, Some, replicate, count_by}
 use Rattle.std.specs.declared.cmp.Ordering.TheVariants.{Less, Equal, Greater}
 use Rattle.std.specs.Ordering.{is_eq, match_ordering}
 use Rattle.std.specs.Option.{option_map_or, option_and_then}
 use Rattle.std.specs.List.{AllByRecursion, cons_option, filter_map, position_or_len, slice_get, slice_set}
-use Rattle.std.proofs.lemmas.List.{length-map, length-set}
+use Rattle.std.proofs.lemmas.List.{length-set}
 use Rattle.std.proofs.lemmas.List.Sums.{count_by-le-length, sum_by-append}
 use Rattle.std.proofs.lemmas.Bool.{and_parts, ltb-true, ltb-false, leb-true, both_ways, false_from_ne_true}
 use Rattle.casa_grid.specs.declared.period.Period.{Period}
@@ -17,15 +17,15 @@ use Rattle.casa_flight.specs.declared.comp.Comp.{Comp}
 use Rattle.casa_flight.specs.declared.row.Stance.{Stance}
 use Rattle.casa_flight.specs.declared.row.Stance.TheVariants.{Competing, Issued, Forced}
 use Rattle.casa_flight.specs.Text.{Text, put}
-use Rattle.casa_flight.specs.Listing.{put_by, issued_cto}
+use Rattle.casa_flight.specs.Listing.{Listing, put_by, issued_cto, occupancy}
 use Rattle.casa_flight.proofs.Rising.{put_first, put_later}
 use Rattle.casa_flight.proofs.Entries.{text_cmp}
-use Rattle.casa_list.specs.Blocked.{counts, raised, lowered, issued_times, time_of, times_in}
-use Rattle.casa_list.specs.Standings.{issued_flight, is_flight_before}
+use Rattle.casa_list.specs.Blocked.{counts, issued_counts, raised, lowered, time_of, times_in}
+use Rattle.casa_list.specs.Standings.{issued_flight, is_flight_before, issued_flights}
 use Rattle.casa_list.specs.declared.standing.Standing.{Standing}
 use Rattle.casa_list.proofs.Ordered.{IsAbsent, put_all}
-use Rattle.casa_list.proofs.Rightly.{count_by-cons}
-use Rattle.casa_list.proofs.Settled.{AgreeBut}
+use Rattle.casa_list.proofs.Rightly.{count_by-cons, length-counts}
+use Rattle.casa_list.proofs.Walked.{AgreeBut, AgreeAt}
 
 swapped : (a b n : ℕ) → a + (b + n) ≡ b + (a + n)
 swapped a b n = omega arith
@@ -108,14 +108,11 @@ raised_first bs n size e =
       | false ↦ λ t. let le : size ≤ n = ltb-false n size t in sym (set_beyond bs n _ (omega (arith, e, le)))
     ] refl
 
-pub length-counts_of : (ws : List Window) (ts : List ℕ) → length ws ≡ length (counts ws ts)
-length-counts_of ws ts = sym (length-map ws (λ (w : Window). count_by (λ t. is_within t w) ts))
-
 -- one more time in its slot
 pub counts-raised : (ps : List Period) (t : ℕ) (ts : List ℕ) → IsProfile ps → counts (slots ps) (t ∷ ts) ≡ raised (counts (slots ps) ts) (window_of (slots ps) t)
 counts-raised ps t ts h =
     counts_more (slots ps) t ts (lies_once t (start_of ps) (end_of ps) (slots ps) (slots-apart ps h))
-    ∙ sym (raised_first (counts (slots ps) ts) (position_or_len (is_within t) (slots ps)) (length (slots ps)) (length-counts_of (slots ps) ts))
+    ∙ sym (raised_first (counts (slots ps) ts) (position_or_len (is_within t) (slots ps)) (length (slots ps)) (sym (length-counts (slots ps) ts)))
 
 more_less : (bs : List ℕ) (k : ℕ) → slice_set (more_at bs k) k (option_map_or (λ (n : ℕ). n - 1) (slice_get (more_at bs k) k) 0) ≡ bs
 more_less [] k = refl
@@ -139,11 +136,13 @@ agree_set bs k v = record {
   clear = λ j apart. ap (λ o. option_map_or (λ (n : ℕ). n == 0) o false) (get_other bs k v j apart);
 }
 
-pub agree_raised : (bs : List ℕ) (k : ℕ) → AgreeBut bs (raised bs (Some k)) k
-agree_raised bs k = agree_set bs k _
+pub agree_raised : (bs ds : List ℕ) (slot : Option ℕ) → ds ≡ raised bs slot → AgreeAt bs ds slot
+agree_raised bs ds None is = is
+agree_raised bs ds (Some k) is = subst (λ es. AgreeBut bs es k) (sym is) (agree_set bs k _)
 
-pub agree_lowered : (bs : List ℕ) (k : ℕ) → AgreeBut bs (lowered bs (Some k)) k
-agree_lowered bs k = agree_set bs k _
+pub agree_lowered : (bs ds : List ℕ) (slot : Option ℕ) → ds ≡ lowered bs slot → AgreeAt bs ds slot
+agree_lowered bs ds None is = is
+agree_lowered bs ds (Some k) is = subst (λ es. AgreeBut bs es k) (sym is) (agree_set bs k _)
 
 -- no count is above the number of times
 pub counts-bounded : (ws : List Window) (ts : List ℕ) (m : ℕ) → length ts < m → AllByRecursion (λ (n : ℕ). n < m) (counts ws ts)
@@ -243,7 +242,7 @@ count_by-put_all p gs (f ∷ fs) =
         ∙ ap (λ n. count_by p (times_in gs) + n) (sym (count_by-cons p t (times_in fs)))
         ∙ sym (sum_by-append (λ u. cond (p u) 1 0) (times_in gs) (t ∷ times_in fs))
 
-pub counts-put_all : (ws : List Window) (fs : List (Comp × Standing)) → counts ws (times_in (put_all (λ (f : Comp × Standing). f.0) [] fs)) ≡ counts ws (times_in fs)
+counts-put_all : (ws : List Window) (fs : List (Comp × Standing)) → counts ws (times_in (put_all (λ (f : Comp × Standing). f.0) [] fs)) ≡ counts ws (times_in fs)
 counts-put_all [] fs = refl
 counts-put_all (w ∷ ws) fs = λ i. count_by-put_all (λ u. is_within u w) [] fs i ∷ counts-put_all ws fs i
 
@@ -252,6 +251,11 @@ time_kind key (Competing eto) fs ts e = e
 time_kind key (Issued eto cto) fs ts e = ap (λ us. cto ∷ us) e
 time_kind key (Forced eto) fs ts e = e
 
-pub times-kinds : (es : List (Text × Stance)) → times_in (filter_map (λ (e : Text × Stance). issued_flight e.0 e.1) es) ≡ issued_times es
+times-kinds : (es : List (Text × Stance)) → times_in (filter_map (λ (e : Text × Stance). issued_flight e.0 e.1) es) ≡ filter_map (λ (e : Text × Stance). issued_cto e.1) es
 times-kinds [] = refl
-times-kinds (e ∷ es) = time_kind e.0 e.1 (filter_map (λ (f : Text × Stance). issued_flight f.0 f.1) es) (issued_times es) (times-kinds es)
+times-kinds (e ∷ es) = time_kind e.0 e.1 (filter_map (λ (f : Text × Stance). issued_flight f.0 f.1) es) (filter_map (λ (f : Text × Stance). issued_cto f.1) es) (times-kinds es)
+
+-- the issued flights of a list are those that its occupancy counts
+pub counts-issued : (l : Listing) → counts (slots l.profile) (times_in (issued_flights l)) ≡ issued_counts (occupancy l)
+counts-issued l =
+    counts-put_all (slots l.profile) (filter_map (λ (e : Text × Stance). issued_flight e.0 e.1) l.flights) ∙ ap (counts (slots l.profile)) (times-kinds l.flights)

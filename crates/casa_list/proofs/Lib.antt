@@ -2,8 +2,16 @@ pub mod Inserted
 pub mod Ordered
 pub mod Walks
 pub mod Rightly
-pub mod Settled
+pub mod Walked
 pub mod Counted
 pub mod Changes
 pub mod Keeping
+pub mod Flights
+pub mod Entering
+pub mod Holding
+pub mod Forcing
+pub mod Issuing
+pub mod Regridding
+pub mod Reading
 pub mod Once
+pub mod Equal

@@ -77,7 +77,7 @@ each_place l sorted =
     all-each (λ (a : Assigned). found_in (places l) a.comp.key ≡ Some a) (λ (a : Assigned). place_of l a.comp.key ≡ a.place)
     (λ a h. ap (λ (o : Option Assigned). option_map_or (λ (b : Assigned). b.place) o Over) h) (places l) (each_own (places l) (places_apart l sorted))
 
--- how a flight that is told stands, and of which kind it is
+-- how a flight of the list stands, and of which kind it is
 abbrev Stands : Listing → Comp × Standing → Type 0
 Stands l f = standing_of l f.0.key ≡ Some f
 
@@ -166,35 +166,35 @@ each_stands l sorted =
     (all-append (Stands l) (held l) (issued_flights l) (held_stand l sorted) (all-each (IsIssued l) (Stands l) (λ f h. h.stands) (issued_flights l) (issued_are l sorted)))
     (all-each (IsForced l) (Stands l) (λ f h. h.stands) (forced_flights l) (forced_are l sorted)))
 
--- and each flight of the list is told
-held_told : (l : Listing) (c : Comp) → AreInOrder l.flights → Contains (competitors l) c → Contains (held l) (c, Pre (place_of l c.key))
-held_told l c sorted there =
+-- and each flight of the list is among them
+held_there : (l : Listing) (c : Comp) → AreInOrder l.flights → Contains (competitors l) c → Contains (held l) (c, Pre (place_of l c.key))
+held_there l c sorted there =
     let Q : Comp → Type 0 = λ d. Contains (held l) (d, Pre (place_of l d.key)) in
     let own : AllByRecursion (λ (a : Assigned). Contains (held l) (as_pre a)) (places l) = all-unmapped (Contains (held l)) as_pre (places l) (each_itself (held l)) in
-    let told : AllByRecursion (λ (a : Assigned). Q a.comp) (places l) =
+    let each : AllByRecursion (λ (a : Assigned). Q a.comp) (places l) =
     all-each (λ (a : Assigned). (place_of l a.comp.key ≡ a.place) × Contains (held l) (as_pre a)) (λ (a : Assigned). Q a.comp)
     (λ a q. subst (λ p. Contains (held l) (a.comp, Pre p)) (sym q.0) q.1) (places l)
     (all-both (λ (a : Assigned). place_of l a.comp.key ≡ a.place) (λ (a : Assigned). Contains (held l) (as_pre a)) (places l) (each_place l sorted) own) in
-    let all : AllByRecursion Q (competitors l) = subst (AllByRecursion Q) (comps-places l) (all-mapped Q (λ (a : Assigned). a.comp) (places l) told) in
+    let all : AllByRecursion Q (competitors l) = subst (AllByRecursion Q) (comps-places l) (all-mapped Q (λ (a : Assigned). a.comp) (places l) each) in
     All-contains Q (competitors l) c (All-from_recursion Q (competitors l) all) there
 
-stands_told : (l : Listing) (f : Comp × Standing) (o : Option Stance) → AreInOrder l.flights → stance_of l f.0.key ≡ o → option_map (standing_as l f.0.key) o ≡ Some f → Contains (standings l) f
-stands_told l f None sorted found h = cc
-stands_told l f (Some (Competing eto)) sorted found h =
+stands_there : (l : Listing) (f : Comp × Standing) (o : Option Stance) → AreInOrder l.flights → stance_of l f.0.key ≡ o → option_map (standing_as l f.0.key) o ≡ Some f → Contains (standings l) f
+stands_there l f None sorted found h = cc
+stands_there l f (Some (Competing eto)) sorted found h =
     let c : Comp = record { eto = eto; key = f.0.key } in
     let here : (c, Pre (place_of l c.key)) ≡ f = ap (λ (w : Option (Comp × Standing)). option_map_or (λ (g : Comp × Standing). g) w f) h in
     Contains-append_left (held l ++ issued_flights l) (forced_flights l) f
-    (Contains-append_left (held l) (issued_flights l) f (subst (Contains (held l)) here (held_told l c sorted ((competitors_who l c sorted).1 found))))
-stands_told l f (Some (Issued eto cto)) sorted found h =
+    (Contains-append_left (held l) (issued_flights l) f (subst (Contains (held l)) here (held_there l c sorted ((competitors_who l c sorted).1 found))))
+stands_there l f (Some (Issued eto cto)) sorted found h =
     Contains-append_left (held l ++ issued_flights l) (forced_flights l) f
     (Contains-append_right (held l) (issued_flights l) f ((issued_there l f sorted).1 (Issued eto cto, found, h)))
-stands_told l f (Some (Forced eto)) sorted found h =
+stands_there l f (Some (Forced eto)) sorted found h =
     Contains-append_right (held l ++ issued_flights l) (forced_flights l) f ((forced_there l f sorted).1 (Forced eto, found, h))
 
 pub standings_who : (l : Listing) (f : Comp × Standing) → AreInOrder l.flights → Contains (standings l) f ↔ (standing_of l f.0.key ≡ Some f)
 standings_who l f sorted = (
   λ h. All-contains (Stands l) (standings l) f (each_stands l sorted) h,
-  λ h. stands_told l f (stance_of l f.0.key) sorted refl h,
+  λ h. stands_there l f (stance_of l f.0.key) sorted refl h,
 )
 
 -- two flights of different kinds have different keys

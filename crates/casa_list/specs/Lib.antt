@@ -2,3 +2,4 @@ pub mod Standings
 pub mod Walk
 pub mod Blocked
 pub mod Kept
+pub mod Equality

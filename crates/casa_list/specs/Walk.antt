@@ -68,9 +68,9 @@ FollowFrom ws blocked xs None = Unit {0}
 FollowFrom ws blocked xs (Some k) = FollowFirst ws blocked (drop (count_below xs k) xs)
 
 -- the walk from the first place that is not below the slot on
-abbrev pub settled_at : List Window → List ℕ → List Assigned → Option ℕ → List Assigned
-settled_at ws blocked xs None = xs
-settled_at ws blocked xs (Some k) =
+abbrev pub walked_from_slot : List Window → List ℕ → List Assigned → Option ℕ → List Assigned
+walked_from_slot ws blocked xs None = xs
+walked_from_slot ws blocked xs (Some k) =
     let at : ℕ = count_below xs k in
     followed ws blocked (take at xs) (comps_in (drop at xs))
 

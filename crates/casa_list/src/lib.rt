@@ -16,6 +16,6 @@ mod walk;
 
 pub use casa_flight::Comp;
 pub use casa_grid::Place;
-pub use laws::{places_are_right, standings_tell_each_flight_once};
+pub use laws::{list_equality, places_are_right, standings_name_each_flight_once};
 pub use list::SlotList;
 pub use standing::Standing;

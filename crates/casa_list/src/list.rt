@@ -8,6 +8,7 @@ ghost use Rattle.casa_flight.specs.Text.{Text, at_name, put, without, same_text}
 ghost use Rattle.casa_flight.specs.Assignment.{place_from};
 ghost use Rattle.casa_flight.specs.Listing.{place_of, cto_of, cto_as, stance_of};
 ghost use Rattle.casa_flight.specs.Entry.{with_competitor};
+ghost use Rattle.casa_flight.specs.Good.{AreInOrder};
 ghost use Rattle.casa_list.specs.Walk.{IsWithin};
 ghost use Rattle.casa_list.specs.Standings.{standings, count_governed, governed_place, governed_cto, issue_cto, with_issued, is_forced, competing_eto, forced_eto};
 
@@ -15,13 +16,14 @@ use crate::blocked::{block, counted, slot_of, unblock};
 use crate::order::{entry_at, index_of, put_flight, take_flight};
 use crate::standing::{Entry, Standing};
 use crate::walk::{
-    cto_at, place_behind, place_from, put_competitor, settle_all, settle_at, take_competitor,
+    cto_at, place_behind, place_from, put_competitor, take_competitor, walk_all, walk_from_slot,
 };
 use casa_flight::{Assigned, Comp, Key, Stance};
 use casa_grid::{Grid, Place};
 use casa_time::Moment;
 use std::alloc::{AllocError, Global};
 use std::collections::BTreeMap;
+use std::fmt;
 use std::marker::Model;
 
 /// The slot allocation list of one regulation: its grid, and how each flight that is subject to the regulation
@@ -29,7 +31,8 @@ use std::marker::Model;
 ///
 /// Contracts see it as a regulation's profile and the stance of each flight, by keys; places follow from that.
 /// It keeps the competitors in their order with their places, the issued and the forced flights in theirs, and
-/// of each slot how many issued flights block it.
+/// of each slot how many issued flights block it. Its flights are in the order of their keys: `grid`, `stance_of`,
+/// `governed` and `nth` say so, since the law `standings_name_each_flight_once` asks for it.
 #[derive(Drop)]
 pub struct SlotList {
     grid: Grid,
@@ -51,7 +54,42 @@ impl Model for SlotList {
     ghost view = { λ l. record { profile = l.grid; flights = l.flights.entries } };
 
     ghost invariant = { λ l. IsKept (record { profile = l.grid; flights = l.flights.entries })
-        l.competitors.items l.issued.items l.forced.items l.blocked.items (vec_capacity l.issued) };
+        (record {
+          competitors = l.competitors.items;
+          issued = l.issued.items;
+          forced = l.forced.items;
+          blocked = l.blocked.items;
+          room = vec_capacity l.issued;
+        }) };
+}
+
+impl PartialEq for SlotList {
+    ghost use Rattle.std.specs.Cmp.{partial_equiv_from_equiv};
+    ghost use Rattle.casa_list.specs.Equality.{list_eq, list_eq_laws};
+
+    ghost eq = { list_eq };
+
+    ghost laws = { partial_equiv_from_equiv list_eq_laws };
+
+    fn eq(&self, other: &SlotList) -> bool {
+        self.grid.profile() == other.grid.profile() && self.flights == other.flights
+    }
+}
+
+impl Eq for SlotList {
+    ghost use Rattle.casa_list.specs.Equality.{list_eq_laws};
+
+    ghost laws = { list_eq_laws };
+}
+
+impl fmt::Debug for SlotList {
+    /// Shows what contracts see.
+    fn fmt<W: fmt::Write>(&self, f: &mut fmt::Formatter<W>) -> fmt::Result {
+        f.debug_struct("SlotList")
+            .field("profile", self.grid.profile())
+            .field("flights", &self.flights)
+            .finish_non_exhaustive()
+    }
 }
 
 impl SlotList {
@@ -72,14 +110,16 @@ impl SlotList {
 
     /// The slots of the list.
     pub fn grid(&self) -> &Grid
-        ensures { result.now ≡ self.now.profile }
+        ensures profile { result.now ≡ self.now.profile }
+        ensures keys { AreInOrder self.now.flights }
     {
         &self.grid
     }
 
     /// How the flight with this key stands; `None` where it is not in the list.
     pub fn stance_of(&self, key: &Key) -> Option<Stance>
-        ensures { result ≡ stance_of self.now key.now }
+        ensures stance { result ≡ stance_of self.now key.now }
+        ensures keys { AreInOrder self.now.flights }
     {
         self.flights.get(key).copied()
     }
@@ -154,7 +194,7 @@ impl SlotList {
         self.flights.insert(comp.key, stance)?;
         put_flight(&mut self.issued, comp, Standing::Issued(cto));
         let slot = block(&self.grid, &mut self.blocked, cto);
-        settle_at(
+        walk_from_slot(
             &self.grid,
             self.blocked.as_slice(),
             &mut self.competitors,
@@ -235,7 +275,7 @@ impl SlotList {
         self.flights.remove(&comp.key);
         take_flight(&mut self.issued, &comp);
         let slot = unblock(&self.grid, &mut self.blocked, cto);
-        settle_at(
+        walk_from_slot(
             &self.grid,
             self.blocked.as_slice(),
             &mut self.competitors,
@@ -306,6 +346,7 @@ impl SlotList {
     /// How many flights the regulation governs: the competitors and the issued flights.
     pub fn governed(&self) -> usize
         ensures number { result ≡ count_governed self.now }
+        ensures keys { AreInOrder self.now.flights }
     {
         self.competitors.len() + self.issued.len()
     }
@@ -315,7 +356,8 @@ impl SlotList {
     /// The competitors come first, in their order, then the issued and then the forced flights, both ordered
     /// likewise by estimated time over and key.
     pub fn nth(&self, n: usize) -> Option<(Comp, Standing)>
-        ensures { result ≡ slice_get (standings self.now) n }
+        ensures flight { result ≡ slice_get (standings self.now) n }
+        ensures keys { AreInOrder self.now.flights }
     {
         if n < self.competitors.len() {
             let assigned = self.competitors[n];
@@ -339,7 +381,7 @@ impl SlotList {
         let blocked = counted(alloc, &grid, self.issued.as_slice())?;
         self.grid = grid;
         self.blocked = blocked;
-        settle_all(&self.grid, self.blocked.as_slice(), &mut self.competitors);
+        walk_all(&self.grid, self.blocked.as_slice(), &mut self.competitors);
         Ok(())
     }
 

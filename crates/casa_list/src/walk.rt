@@ -6,7 +6,7 @@ ghost use Rattle.std.specs.List.{position, slice_get};
 ghost use Rattle.casa_flight.specs.declared.comp.Assigned.{Assigned};
 ghost use Rattle.casa_grid.specs.Slots.{slots};
 ghost use Rattle.casa_flight.specs.Assignment.{place_from};
-ghost use Rattle.casa_list.specs.Walk.{is_clear, clear_from, place_low, low_after, low_behind, walked, followed, comps_in, FollowFirst, is_below, count_below, FollowFrom, settled_at, IsWithin};
+ghost use Rattle.casa_list.specs.Walk.{is_clear, clear_from, place_low, low_after, low_behind, walked, followed, comps_in, FollowFirst, is_below, count_below, FollowFrom, walked_from_slot, IsWithin};
 ghost use Rattle.casa_grid.specs.Profile.{end_of};
 ghost use Rattle.casa_grid.specs.TimeOver.{cto};
 
@@ -80,7 +80,7 @@ pub fn place_behind(grid: &Grid, blocked: &[usize], competitors: &[Assigned], et
 
 /// Moves the competitors from number `from` on to their places behind the earlier ones, up to the first whose
 /// place stays.
-fn settle_from(grid: &Grid, blocked: &[usize], competitors: &mut [Assigned], from: usize)
+fn walk_from(grid: &Grid, blocked: &[usize], competitors: &mut [Assigned], from: usize)
     requires within { from ≤ length competitors.old }
     requires follow { FollowFirst (slots grid.now) blocked.now (drop from competitors.old) }
     ensures { competitors.new ≡
@@ -98,19 +98,19 @@ fn settle_from(grid: &Grid, blocked: &[usize], competitors: &mut [Assigned], fro
     }
 }
 
-/// As `settle_from`.
-pub fn settle(grid: &Grid, blocked: &[usize], competitors: &mut Vec<Assigned>, from: usize)
+/// As `walk_from`.
+pub fn walk_on(grid: &Grid, blocked: &[usize], competitors: &mut Vec<Assigned>, from: usize)
     requires within { from ≤ length competitors.old.items }
     requires follow { FollowFirst (slots grid.now) blocked.now (drop from competitors.old.items) }
     ensures items { competitors.new.items ≡ followed (slots grid.now) blocked.now
         (take from competitors.old.items) (comps_in (drop from competitors.old.items)) }
     ensures len { vec_len competitors.new ≡ vec_len competitors.old }
 {
-    settle_from(grid, blocked, competitors.as_mut_slice(), from);
+    walk_from(grid, blocked, competitors.as_mut_slice(), from);
 }
 
 /// Moves each competitor to its place.
-fn settle_each(grid: &Grid, blocked: &[usize], competitors: &mut [Assigned])
+fn walk_each(grid: &Grid, blocked: &[usize], competitors: &mut [Assigned])
     ensures { competitors.new ≡ walked (slots grid.now) blocked.now 0 (comps_in competitors.old) }
 {
     let mut low = 0;
@@ -122,12 +122,12 @@ fn settle_each(grid: &Grid, blocked: &[usize], competitors: &mut [Assigned])
     }
 }
 
-/// As `settle_each`.
-pub fn settle_all(grid: &Grid, blocked: &[usize], competitors: &mut Vec<Assigned>)
+/// As `walk_each`.
+pub fn walk_all(grid: &Grid, blocked: &[usize], competitors: &mut Vec<Assigned>)
     ensures items { competitors.new.items ≡ walked (slots grid.now) blocked.now 0 (comps_in competitors.old.items) }
     ensures len { vec_len competitors.new ≡ vec_len competitors.old }
 {
-    settle_each(grid, blocked, competitors.as_mut_slice());
+    walk_each(grid, blocked, competitors.as_mut_slice());
 }
 
 /// Puts a competitor at number `at` among the others, which it may displace, and gives its place.
@@ -149,7 +149,7 @@ pub fn put_competitor(
 {
     let place = place_behind(grid, blocked, &competitors[..at], comp.eto);
     competitors.insert(at, Assigned { comp, place }).unwrap();
-    settle(grid, blocked, competitors, at + 1);
+    walk_on(grid, blocked, competitors, at + 1);
     place
 }
 
@@ -168,7 +168,7 @@ pub fn take_competitor(
     ensures len { vec_len competitors.new + 1 ≡ vec_len competitors.old }
 {
     let assigned = competitors.remove(at);
-    settle(grid, blocked, competitors, at);
+    walk_on(grid, blocked, competitors, at);
     assigned.place
 }
 
@@ -202,19 +202,19 @@ pub fn count_below(competitors: &[Assigned], k: usize) -> usize
 
 /// Moves the competitors to their places after the number of issued flights in this slot changed: only those
 /// with places from it on can move.
-pub fn settle_at(
+pub fn walk_from_slot(
     grid: &Grid,
     blocked: &[usize],
     competitors: &mut Vec<Assigned>,
     slot: Option<usize>,
 )
     requires { FollowFrom (slots grid.now) blocked.now competitors.old.items slot }
-    ensures items { competitors.new.items ≡ settled_at (slots grid.now) blocked.now competitors.old.items slot }
+    ensures items { competitors.new.items ≡ walked_from_slot (slots grid.now) blocked.now competitors.old.items slot }
     ensures len { vec_len competitors.new ≡ vec_len competitors.old }
 {
     if let Some(k) = slot {
         let from = count_below(competitors.as_slice(), k);
-        settle(grid, blocked, competitors, from);
+        walk_on(grid, blocked, competitors, from);
     }
 }
 

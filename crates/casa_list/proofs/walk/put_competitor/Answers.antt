@@ -6,8 +6,8 @@ use Rattle.casa_list.specs.Walk.{place_low, low_behind}
 use Rattle.casa_list.proofs.Walks.{walked_put, follow_put}
 use Rattle.casa_list.proofs.walk.put_competitor.Goals as goal
 
-pub settle-requires-clause-follow : goal.settle-requires-clause-follow
-settle-requires-clause-follow c =
+pub walk_on-requires-clause-follow : goal.walk_on-requires-clause-follow
+walk_on-requires-clause-follow c =
     let put : c.insert.new.self.items ≡ insert c.args.competitors.now.items c.args.at (record { comp = c.args.comp; place = c.place_behind-place.result }) = search rules in
     let le : c.args.at ≤ length c.args.competitors.now.items = search rules in
     follow_put (slots c.args.grid.now) c.args.blocked.now c.args.at c.args.competitors.now.items c.insert.new.self.items _ le put c.requires.follow
@@ -17,6 +17,6 @@ returns-clause-items c =
     let put : c.insert.new.self.items ≡ insert c.args.competitors.now.items c.args.at (record { comp = c.args.comp; place = c.place_behind-place.result }) = search rules in
     let le : c.args.at ≤ length c.args.competitors.now.items = search rules in
     let place_is : c.place_behind-place.result ≡ place_low (slots c.args.grid.now) c.args.blocked.now (low_behind (length c.args.blocked.now) 0 (take c.args.at c.args.competitors.now.items)) c.args.comp.eto = search rules in
-    walked_put (slots c.args.grid.now) c.args.blocked.now c.args.at c.args.competitors.now.items c.insert.new.self.items c.settle.new.competitors.items c.args.comp le
+    walked_put (slots c.args.grid.now) c.args.blocked.now c.args.at c.args.competitors.now.items c.insert.new.self.items c.walk_on.new.competitors.items c.args.comp le
     (put ∙ ap (λ (p : Place). insert c.args.competitors.now.items c.args.at (record { comp = c.args.comp; place = p })) place_is)
-    c.settle.ensures.items
+    c.walk_on.ensures.items

@@ -1,56 +1,57 @@
-use Rattle.std.proofs.Common.{◌≡◌, ◌∙◌, ◌+◌, ◌<◌, ◌≤◌, Some, true, ap, sym, subst, length, vec_capacity, rules}
+use Rattle.std.proofs.Common.{◌≡◌, ◌∙◌, ◌+◌, ◌<◌, ◌≤◌, Some, true, ap, subst, length, vec_capacity, rules}
 use Rattle.std.specs.List.{remove}
+use Rattle.std.below.core.specs.declared.int.usize.TheConstants.{MAX}
+use Rattle.std.proofs.lemmas.Bool.{both_ways}
+use Rattle.std.proofs.lemmas.Cmp.{nat_list_eq_equiv}
 use Rattle.casa_flight.specs.declared.comp.Comp.{Comp}
 use Rattle.casa_flight.specs.declared.row.Stance.TheVariants.{Competing}
 use Rattle.casa_flight.specs.Text.{same_text}
+use Rattle.casa_flight.specs.Listing.{Listing, place_of}
 use Rattle.casa_flight.proofs.MovesNobody.{place_issued}
-use Rattle.std.proofs.lemmas.Bool.{both_ways}
-use Rattle.std.proofs.lemmas.Cmp.{nat_list_eq_equiv}
-use Rattle.casa_flight.specs.Listing.{Listing, stance_of, place_of, cto_of}
-use Rattle.std.below.core.specs.declared.int.usize.TheConstants.{MAX}
-use Rattle.casa_list.proofs.Keeping.{index_of, standing_within, kept_issued, kept_few, issue_time}
+use Rattle.casa_list.proofs.Keeping.{index_of, standing_within, kept_few, stands}
+use Rattle.casa_list.proofs.Issuing.{kept_issued, issue_time}
 use Rattle.casa_list.proofs.list.SlotList.issue.Goals as goal
 
 pub remove-requires : goal.remove-requires
 remove-requires c =
-    let l : Listing = record { profile = c.self.inside.grid; flights = c.self.inside.flights.entries } in
     let comp : Comp = record { eto = c.in_ok-eto.eto; key = c.args.key.now } in
-    let found : stance_of l comp.key ≡ Some (Competing comp.eto) = subst (λ v. stance_of v comp.key ≡ Some (Competing comp.eto)) (sym c.self.view_is) c.in_ok-eto.ensures.found in
+    let found = stands _ _ comp.key (Some (Competing comp.eto)) c.self.view_is c.in_ok-eto.ensures.found in
     let xs = c.self.inside.competitors.items in
     let at : c.index_of-at.result ≡ index_of xs comp = rw (← c.as_slice.ensures.value) c.index_of-at.ensures.value in
-    let within : index_of xs comp < length xs = standing_within l xs _ _ _ _ comp c.self.invariant found in
+    let within : index_of xs comp < length xs = standing_within comp c.self.invariant found in
     rw at (search rules)
 
 pub write_issued-requires : goal.write_issued-requires
-write_issued-requires c = subst (λ v. stance_of v c.args.key.now ≡ Some (Competing c.in_ok-eto.eto)) (sym c.self.view_is) c.in_ok-eto.ensures.found
+write_issued-requires c = stands _ _ c.args.key.now (Some (Competing c.in_ok-eto.eto)) c.self.view_is c.in_ok-eto.ensures.found
 
 pub block-requires : goal.block-requires
 block-requires c =
     let few : length c.self.inside.issued.items < MAX = search rules in
-    kept_few _ _ _ _ _ _ MAX c.self.invariant few
+    kept_few MAX c.self.invariant few
 
 pub invariant_of-self : goal.invariant_of-self
 invariant_of-self c =
-    let l : Listing = record { profile = c.self.inside.grid; flights = c.self.inside.flights.entries } in
     let comp : Comp = record { eto = c.in_ok-eto.eto; key = c.args.key.now } in
-    let found : stance_of l comp.key ≡ Some (Competing comp.eto) = subst (λ v. stance_of v comp.key ≡ Some (Competing comp.eto)) (sym c.self.view_is) c.in_ok-eto.ensures.found in
-    let time : cto_of l comp.key ≡ Some c.competitor_cto-cto.result = issue_time l _ comp c.competitor_cto-cto.result c.self.view_is found c.competitor_cto-cto.ensures in
+    let found = stands _ _ comp.key (Some (Competing comp.eto)) c.self.view_is c.in_ok-eto.ensures.found in
+    let cto = c.competitor_cto-cto.result in
     let xs = c.self.inside.competitors.items in
     let ys = c.remove.new.self.items in
     let at : c.index_of-at.result ≡ index_of xs comp = rw (← c.as_slice.ensures.value) c.index_of-at.ensures.value in
     let less : ys ≡ remove xs (index_of xs comp) = c.remove.ensures.items ∙ ap (remove xs) at in
     let room = c.self.invariant.room_is in
-    let within : index_of xs comp < length xs = standing_within l xs _ _ _ _ comp c.self.invariant found in
+    let within : index_of xs comp < length xs = standing_within comp c.self.invariant found in
     let enough : length ys + length c.put_flight.new.flights.items ≤ vec_capacity c.put_flight.new.flights = search rules in
-    rw c.write_issued.ensures (kept_issued l xs ys _ _ _ _ _ _ _ comp c.competitor_cto-cto.result c.self.invariant c.block.ensures.valid found time less c.put_flight.ensures.items c.block.ensures.items enough)
+    rw c.write_issued.ensures
+    (kept_issued comp cto ys _ _ _ c.self.invariant c.block.ensures.valid found (issue_time _ _ comp cto c.self.view_is found c.competitor_cto-cto.ensures) less c.put_flight.ensures.items c.block.ensures.items enough)
 
 pub returns-clause-others : goal.returns-clause-others
 returns-clause-others c =
     let l : Listing = record { profile = c.self.inside.grid; flights = c.self.inside.flights.entries } in
     let comp : Comp = record { eto = c.in_ok-eto.eto; key = c.args.key.now } in
-    let found : stance_of l comp.key ≡ Some (Competing comp.eto) = subst (λ v. stance_of v comp.key ≡ Some (Competing comp.eto)) (sym c.self.view_is) c.in_ok-eto.ensures.found in
-    let time : cto_of l comp.key ≡ Some c.competitor_cto-cto.result = issue_time l _ comp c.competitor_cto-cto.result c.self.view_is found c.competitor_cto-cto.ensures in
+    let found = stands l _ comp.key (Some (Competing comp.eto)) c.self.view_is c.in_ok-eto.ensures.found in
+    let cto = c.competitor_cto-cto.result in
+    let time = issue_time l _ comp cto c.self.view_is found c.competitor_cto-cto.ensures in
     λ other apart.
-    ap (λ fs. place_of (record l { flights = fs }) other) c.write_issued.ensures
-    ∙ place_issued l comp.key other comp.eto c.competitor_cto-cto.result c.block.ensures.valid c.self.invariant.keys found time (λ same. both_ways _ apart (subst (λ q. same_text other q ≡ true) same (nat_list_eq_equiv.refl other)))
+    ap (λ es. place_of (record l { flights = es }) other) c.write_issued.ensures
+    ∙ place_issued l comp.key other comp.eto cto c.block.ensures.valid c.self.invariant.keys found time (λ same. both_ways _ apart (subst (λ q. same_text other q ≡ true) same (nat_list_eq_equiv.refl other)))
     ∙ ap (λ (m : Listing). place_of m other) c.self.view_is

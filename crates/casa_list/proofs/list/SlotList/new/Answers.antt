@@ -1,10 +1,10 @@
 use Rattle.std.proofs.Common.{◌≡◌, [], rules}
 use Rattle.casa_grid.specs.Slots.{slots}
 use Rattle.casa_list.specs.Blocked.{counts}
-use Rattle.casa_list.proofs.Keeping.{kept_none}
+use Rattle.casa_list.proofs.Regridding.{kept_none}
 use Rattle.casa_list.proofs.list.SlotList.new.Goals as goal
 
 pub invariant_of-result : goal.invariant_of-result
 invariant_of-result c =
     let counted_is : c.in_ok-blocked.blocked.items ≡ counts (slots c.args.grid) [] = search rules in
-    kept_none c.args.grid _ _ _ _ _ _ (search rules) (search rules) (search rules) (search rules) counted_is
+    kept_none c.args.grid _ _ (search rules) (search rules) (search rules) (search rules) counted_is

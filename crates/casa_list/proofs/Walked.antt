@@ -9,7 +9,7 @@ use Rattle.casa_grid.specs.Slots.{wanted}
 use Rattle.casa_flight.specs.declared.comp.Comp.{Comp}
 use Rattle.casa_flight.specs.declared.comp.Assigned.{Assigned}
 use Rattle.casa_flight.specs.Assignment.{place_from}
-use Rattle.casa_list.specs.Walk.{is_clear, clear_from, place_asked, place_low, low_after, low_behind, walked, comps_in, FollowFirst, FollowFrom, settled_at, is_below, count_below, IsWithin}
+use Rattle.casa_list.specs.Walk.{is_clear, clear_from, place_asked, place_low, low_after, low_behind, walked, comps_in, FollowFirst, FollowFrom, walked_from_slot, is_below, count_below, IsWithin}
 use Rattle.casa_list.proofs.Walks.{follow_step}
 use Rattle.casa_list.proofs.Ordered.{index_is}
 use Rattle.casa_list.proofs.Rightly.{find_from, after_slot}
@@ -74,6 +74,11 @@ find_early p q a (suc n) i h agree =
 pub record AgreeBut (bs ds : List ℕ) (k : ℕ) : Type 0 where
   pub size : length ds ≡ length bs
   pub clear : (j : ℕ) → (j ≡ k → ⊥) → is_clear ds j ≡ is_clear bs j
+
+-- of every slot but this one, if it is one
+abbrev pub AgreeAt : List ℕ → List ℕ → Option ℕ → Type 0
+AgreeAt bs ds None = ds ≡ bs
+AgreeAt bs ds (Some k) = AgreeBut bs ds k
 
 -- places below that slot stay
 clear_below : (bs ds : List ℕ) (k m i : ℕ) → AgreeBut bs ds k → clear_from bs m ≡ Some i → i < k → clear_from ds m ≡ Some i
@@ -176,8 +181,9 @@ follow_agree ws bs ds k (x ∷ xs) h f =
           ∙ g
     ] refl f
 
-pub follow_changed : (ws : List Window) (bs ds : List ℕ) (k : ℕ) (xs : List Assigned) (cs : List Comp) → AgreeBut bs ds k → xs ≡ walked ws bs 0 cs → FollowFrom ws ds xs (Some k)
-follow_changed ws bs ds k xs cs h is =
+pub follow_changed : (ws : List Window) (bs ds : List ℕ) (slot : Option ℕ) (xs : List Assigned) (cs : List Comp) → AgreeAt bs ds slot → xs ≡ walked ws bs 0 cs → FollowFrom ws ds xs slot
+follow_changed ws bs ds None xs cs h is = tt
+follow_changed ws bs ds (Some k) xs cs h is =
     let at : position_or_len (λ (a : Assigned). not (is_below k a.place)) xs ≡ count_below xs k = sym (index_is (λ (a : Assigned). not (is_below k a.place)) xs) in
     let follow : FollowFirst ws bs xs = subst (λ ys. FollowFirst ws bs ys) (sym is) (follow_walked ws bs 0 cs) in
     let n : ℕ = position_or_len (λ (a : Assigned). not (is_below k a.place)) xs in
@@ -188,8 +194,9 @@ take-drop_comps zero cs = refl
 take-drop_comps (suc i) [] = refl
 take-drop_comps (suc i) (c ∷ cs) = ap (λ ds. c ∷ ds) (take-drop_comps i cs)
 
-pub settled_changed : (ws : List Window) (bs ds : List ℕ) (k : ℕ) (xs : List Assigned) (cs : List Comp) → AgreeBut bs ds k → xs ≡ walked ws bs 0 cs → settled_at ws ds xs (Some k) ≡ walked ws ds 0 cs
-settled_changed ws bs ds k xs cs h is =
+pub walked_changed : (ws : List Window) (bs ds : List ℕ) (slot : Option ℕ) (xs : List Assigned) (cs : List Comp) → AgreeAt bs ds slot → xs ≡ walked ws bs 0 cs → walked_from_slot ws ds xs slot ≡ walked ws ds 0 cs
+walked_changed ws bs ds None xs cs h is = is ∙ ap (λ es. walked ws es 0 cs) (sym h)
+walked_changed ws bs ds (Some k) xs cs h is =
     let n : ℕ = position_or_len (λ (a : Assigned). not (is_below k a.place)) xs in
     let at : count_below xs k ≡ n = index_is (λ (a : Assigned). not (is_below k a.place)) xs in
     let front : walked ws ds 0 (take n cs) ≡ take n xs = subst (λ ys. walked ws ds 0 (take (position_or_len (λ (a : Assigned). not (is_below k a.place)) ys) cs) ≡ take (position_or_len (λ (a : Assigned). not (is_below k a.place)) ys) ys) (sym is) (front_stays ws bs ds k 0 cs h) in

@@ -1,7 +1,7 @@
 use Rattle.std.proofs.Common.{◌≡◌, ◌++◌, take, drop}
 use Rattle.casa_grid.specs.Slots.{slots}
 use Rattle.casa_list.specs.Walk.{walked, comps_in}
-use Rattle.casa_list.proofs.walk.settle_each.Given as goal
+use Rattle.casa_list.proofs.walk.walk_each.Given as goal
 
 abbrev pub invariant-loop-i : goal.invariant-loop-i
 invariant-loop-i l =
