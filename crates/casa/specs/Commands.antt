@@ -185,11 +185,11 @@ Fails NoCommand meaning = meaning ≡ Err NoCommand
 Fails (BadField field) meaning = meaning ≡ Err (BadField field)
 Fails NoMemory meaning = Unit {0}
 
--- what a function returned, as `view` sees it, is the meaning; want of memory claims nothing
+-- what a function returned, as `view` sees it, is the meaning; nothing is claimed where memory is refused
 abbrev pub GivesAs : {X Y : Type 0} → (X → Y) → Result X WireFault → Result Y WireFault → Type 0
 GivesAs view (Ok x) meaning = meaning ≡ Ok (view x)
 GivesAs view (Err fault) meaning = Fails fault meaning
 
--- what a function returned is the meaning; want of memory claims nothing
+-- what a function returned is the meaning; nothing is claimed where memory is refused
 abbrev pub Gives : {X : Type 0} → Result X WireFault → Result X WireFault → Type 0
 Gives result meaning = GivesAs (λ x. x) result meaning

@@ -1,17 +1,16 @@
 -- how a session over the slow allocator ends, from the empty state
 use Rattle.std.specs.Prelude.{◌≡◌, ℕ, ◌<◌, List, ◌++◌, length, take, true, false, Option, Result, Ok, Err, IfSome}
 use Rattle.std.specs.Io.KnownBytes.{Appends, Consumes}
-use Rattle.casa_flight.specs.State.{empty}
 use Rattle.casa.specs.declared.session.SessionFault.{SessionFault}
 use Rattle.casa.specs.declared.session.SessionFault.TheVariants.{LineTooLong, ReadFailed, WriteFailed, ForeignPass, NoMemory}
 use Rattle.casa.specs.Lines.{ended_lines, lines_of, has_too_long}
 use Rattle.casa.specs.Sending.{counted}
 use Rattle.casa.specs.Transcript.{calls, transcript}
-use Rattle.casa.specs.Played.{played}
+use Rattle.casa.specs.Played.{receipts_played}
 
 -- the transcript of these lines, each call being answered as the sequential allocator does after the calls before it
 abbrev pub transcript_of : List (List ℕ) → List ℕ
-transcript_of lines = transcript (played empty 1 (calls lines)) lines
+transcript_of lines = transcript (receipts_played (calls lines)) lines
 
 -- the first lines of an input, none of them too long, were answered, and their transcript was written and nothing else
 abbrev pub AnsweredFirst : Option (List ℕ) → (v w : Option (List ℕ)) → Type 0

@@ -1,4 +1,5 @@
 pub mod Fields
+pub mod Faults
 pub mod Members
 pub mod Commands
 pub mod ReplyTexts

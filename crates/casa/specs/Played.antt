@@ -1,16 +1,28 @@
 -- what the sequential allocator answers to calls, one after the other
-use Rattle.std.specs.Prelude.{ℕ, ◌+◌, List, [], ◌∷◌, fold}
+use Rattle.std.specs.Prelude.{ℕ, List, [], ◌∷◌, fold}
 use Rattle.casa_flight.specs.declared.call.Call.{Call}
+use Rattle.casa_flight.specs.declared.reply.Reply.{Reply}
 use Rattle.casa_flight.specs.declared.state.State.{State}
 use Rattle.casa_flight.specs.State.{empty}
 use Rattle.casa_flight.specs.Steps.{next}
 use Rattle.casa_flight.specs.Replies.{reply}
-use Rattle.casa.specs.declared.session.Receipt.{Receipt}
+use Rattle.casa_history.specs.declared.entry.Entry.{Entry}
+use Rattle.casa_history.specs.Entries.{receipts_from}
+use Rattle.casa_commit.specs.Legal.{entry}
+use Rattle.casa.specs.Transcript.{Receipts}
 
--- the receipts of these calls from a state, numbered from n
-abbrev pub played : State → ℕ → List Call → List Receipt
-played m n [] = []
-played m n (c ∷ cs) = record { position = n; call = c; reply = reply m c } ∷ played (next m c) (n + 1) cs
+-- the number of its one desk
+abbrev pub plain_desk : ℕ
+plain_desk = 0
+
+-- the history of these calls from a state
+abbrev pub played : State → List Call → List (Entry Call Reply)
+played m [] = []
+played m (c ∷ cs) = entry plain_desk c (reply m c) ∷ played (next m c) cs
+
+-- the receipts of these calls from the empty state
+abbrev pub receipts_played : List Call → Receipts
+receipts_played calls = receipts_from 1 (played empty calls)
 
 -- the state after these calls from the empty one
 abbrev pub state_after : List Call → State

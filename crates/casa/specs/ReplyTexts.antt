@@ -18,6 +18,8 @@ use Rattle.casa_flight.specs.declared.reply.Reply.{Reply}
 use Rattle.casa_flight.specs.declared.reply.Reply.TheVariants.{Refused, Answered}
 use Rattle.casa.specs.declared.fault.WireFault.{WireFault}
 use Rattle.casa.specs.declared.fault.WireFault.TheVariants.{NotJson, NoCommand, BadField, NoMemory}
+use Rattle.casa.specs.declared.session.SessionFault.TheVariants.{LineTooLong}
+use Rattle.casa.specs.Faults.{wire_fault_name, session_fault_name}
 use Rattle.casa.specs.Fields.{field_name}
 
 abbrev pub members_of : List (List ℕ × Data) → Members
@@ -106,16 +108,17 @@ abbrev pub reply_text : Reply → ℕ → List ℕ
 reply_text reply n = line_text (reply_data reply n)
 
 abbrev pub fault_data : WireFault → Data
-fault_data NotJson = object_of ((codes "fault", string (codes "NotJson")) ∷ [])
-fault_data NoCommand = object_of ((codes "fault", string (codes "NoCommand")) ∷ [])
-fault_data (BadField field) =
-    object_of ((codes "fault", string (codes "BadField")) ∷ (codes "field", string (field_name field)) ∷ [])
+fault_data NotJson = object_of ((codes "fault", string (wire_fault_name NotJson)) ∷ [])
+fault_data NoCommand = object_of ((codes "fault", string (wire_fault_name NoCommand)) ∷ [])
+fault_data (BadField field) = object_of (
+    (codes "fault", string (wire_fault_name (BadField field))) ∷
+    (codes "field", string (field_name field)) ∷ [])
 fault_data NoMemory = null
 
--- the line of a fault; want of memory is never written
+-- the line of a fault; none is written where memory is refused
 abbrev pub fault_text : WireFault → List ℕ
 fault_text fault = line_text (fault_data fault)
 
 -- the line for a line that is too long
 abbrev pub too_long_text : List ℕ
-too_long_text = line_text (object_of ((codes "fault", string (codes "LineTooLong")) ∷ []))
+too_long_text = line_text (object_of ((codes "fault", string (session_fault_name LineTooLong)) ∷ []))

@@ -2,8 +2,9 @@
 use Rattle.std.specs.Prelude.{◌≡◌, ℕ, ◌+◌, ◌≤◌, ◌<◌, List, [], ◌∷◌, ◌++◌, map, length, take, drop, true, false, Option, Result, Ok, Err, IfSome, if◌then◌else◌}
 use Rattle.std.specs.Io.KnownBytes.{Appends, Consumes, Keeps}
 use Rattle.casa_flight.specs.declared.call.Call.{Call}
+use Rattle.casa_flight.specs.declared.reply.Reply.{Reply}
+use Rattle.casa_history.specs.declared.entry.Receipt.{Receipt}
 use Rattle.casa.specs.declared.fault.WireFault.{WireFault}
-use Rattle.casa.specs.declared.session.Receipt.{Receipt}
 use Rattle.casa.specs.declared.session.SessionFault.{SessionFault}
 use Rattle.casa.specs.declared.session.SessionFault.TheVariants.{LineTooLong, ReadFailed, WriteFailed, ForeignPass, NoMemory}
 use Rattle.casa.specs.Commands.{line_call}
@@ -11,8 +12,12 @@ use Rattle.casa.specs.Lines.{ended_lines, lines_of, is_too_long, has_too_long}
 use Rattle.casa.specs.ReplyTexts.{reply_text, fault_text, too_long_text}
 use Rattle.casa.specs.Sending.{counted}
 
-abbrev pub calls_of : List Receipt → List Call
-calls_of receipts = map (λ (r : Receipt). r.call) receipts
+-- what a desk of the allocator answers
+abbrev pub Receipts : Type 0
+Receipts = List (Receipt Call Reply)
+
+abbrev pub calls_of : Receipts → List Call
+calls_of receipts = map (λ (r : Receipt Call Reply). r.entry.call) receipts
 
 -- the call that a line is, if it is one
 abbrev pub call_list : Result Call WireFault → List Call
@@ -25,17 +30,17 @@ calls [] = []
 calls (l ∷ ls) = if is_too_long l then [] else call_list (line_call l) ++ calls ls
 
 -- the text for a line, where these are the receipts of its call and of the calls after it
-abbrev pub answer_text : Result Call WireFault → List Receipt → List ℕ
+abbrev pub answer_text : Result Call WireFault → Receipts → List ℕ
 answer_text (Ok call) [] = []
-answer_text (Ok call) (r ∷ rs) = reply_text r.reply r.position
+answer_text (Ok call) (r ∷ rs) = reply_text r.entry.reply r.position
 answer_text (Err fault) rs = fault_text fault
 
-abbrev pub after_line : Result Call WireFault → List Receipt → List Receipt
+abbrev pub after_line : Result Call WireFault → Receipts → Receipts
 after_line (Ok call) rs = drop 1 rs
 after_line (Err fault) rs = rs
 
 -- the transcript of these lines, where their calls have these receipts; a line that is too long ends it
-abbrev pub transcript : List Receipt → List (List ℕ) → List ℕ
+abbrev pub transcript : Receipts → List (List ℕ) → List ℕ
 transcript rs [] = []
 transcript rs (l ∷ ls) =
     if is_too_long l then too_long_text
@@ -43,29 +48,29 @@ transcript rs (l ∷ ls) =
 
 -- from the receipts a to b and the written bytes v to w: the calls of the lines were answered, and their transcript was
 -- written and nothing else
-pub record Answered (a b : List Receipt) (v w : Option (List ℕ)) (lines : List (List ℕ)) : Type 0 where
-  pub receipts : List Receipt
+pub record Answered (a b : Receipts) (v w : Option (List ℕ)) (lines : List (List ℕ)) : Type 0 where
+  pub receipts : Receipts
   pub grows : b ≡ a ++ receipts
   pub called : calls_of receipts ≡ calls lines
   pub written : Appends v w (transcript receipts lines)
 
 -- the calls of the lines were answered, and the first n bytes of their transcript, not all of it, were written, where n is
 -- counted
-pub record Cut (a b : List Receipt) (v w : Option (List ℕ)) (lines : List (List ℕ)) (n : ℕ) : Type 0 where
-  pub receipts : List Receipt
+pub record Cut (a b : Receipts) (v w : Option (List ℕ)) (lines : List (List ℕ)) (n : ℕ) : Type 0 where
+  pub receipts : Receipts
   pub grows : b ≡ a ++ receipts
   pub called : calls_of receipts ≡ calls lines
   pub count : ℕ
   pub within : count < length (transcript receipts lines)
-  pub told : n ≡ counted count
+  pub reported : n ≡ counted count
   pub written : Appends v w (take count (transcript receipts lines))
 
 -- none of the lines is too long; their calls were answered, and perhaps one more; their transcript was written and nothing
 -- else
-pub record Stopped (a b : List Receipt) (v w : Option (List ℕ)) (lines : List (List ℕ)) : Type 0 where
+pub record Stopped (a b : Receipts) (v w : Option (List ℕ)) (lines : List (List ℕ)) : Type 0 where
   pub short : has_too_long lines ≡ false
-  pub receipts : List Receipt
-  pub last : List Receipt
+  pub receipts : Receipts
+  pub last : Receipts
   pub at_most_one : length last ≤ 1
   pub grows : b ≡ (a ++ receipts) ++ last
   pub called : calls_of receipts ≡ calls lines
@@ -75,7 +80,7 @@ pub record Stopped (a b : List Receipt) (v w : Option (List ℕ)) (lines : List 
 -- too long; with that of the lines ended before a read failed, where no line is too long, the unfinished one neither;
 -- within that of the first lines, before its end, where a write failed; or with that of the first lines, none too long,
 -- where memory was refused or a desk that may be foreign was so
-abbrev pub Ends : (foreign : Type 0) → Result ℕ SessionFault → (r s : Option (List ℕ)) (a b : List Receipt) (v w : Option (List ℕ)) → Type 0
+abbrev pub Ends : (foreign : Type 0) → Result ℕ SessionFault → (r s : Option (List ℕ)) (a b : Receipts) (v w : Option (List ℕ)) → Type 0
 Ends foreign (Ok n) r s a b v w =
     IfSome r (λ xs.
     Answered a b v w (lines_of xs) × (has_too_long (lines_of xs) ≡ false) × (n ≡ length (lines_of xs)))
@@ -92,15 +97,15 @@ Ends foreign (Err NoMemory) r s a b v w =
     IfSome r (λ xs. (lines rest : List (List ℕ)) × (lines_of xs ≡ lines ++ rest) × Stopped a b v w lines)
 
 -- from the receipts a to b a line of this meaning was answered, by this text
-pub record Replied (a b : List Receipt) (meaning : Result Call WireFault) (text : List ℕ) : Type 0 where
-  pub receipts : List Receipt
+pub record Replied (a b : Receipts) (meaning : Result Call WireFault) (text : List ℕ) : Type 0 where
+  pub receipts : Receipts
   pub grows : b ≡ a ++ receipts
   pub called : calls_of receipts ≡ call_list meaning
-  pub told : text ≡ answer_text meaning receipts
+  pub answer : text ≡ answer_text meaning receipts
 
 -- one receipt more at most
-pub record Kept (a b : List Receipt) : Type 0 where
-  pub last : List Receipt
+pub record Kept (a b : Receipts) : Type 0 where
+  pub last : Receipts
   pub grows : b ≡ a ++ last
   pub at_most_one : length last ≤ 1
 
@@ -108,10 +113,10 @@ pub record Kept (a b : List Receipt) : Type 0 where
 pub record CutText (text : List ℕ) (before n : ℕ) (v w : Option (List ℕ)) : Type 0 where
   pub count : ℕ
   pub within : count < length text
-  pub told : n ≡ counted (before + count)
+  pub reported : n ≡ counted (before + count)
   pub written : Appends v w (take count text)
 
--- a line has no text for want of memory, or for a desk that may be foreign
+-- a line has no text where memory is refused, or where a desk that may be foreign is so
 abbrev pub IsRefused : (foreign : Type 0) → SessionFault → Type 0
 IsRefused foreign NoMemory = Unit {0}
 IsRefused foreign ForeignPass = foreign
@@ -120,7 +125,7 @@ IsRefused foreign ReadFailed = ⊥
 IsRefused foreign (WriteFailed n) = ⊥
 
 -- how the answer to a line ends, after `before` written bytes
-abbrev pub LineEnds : (foreign : Type 0) → Result ℕ SessionFault → ℕ → Result Call WireFault → (a b : List Receipt) (v w : Option (List ℕ)) → Type 0
+abbrev pub LineEnds : (foreign : Type 0) → Result ℕ SessionFault → ℕ → Result Call WireFault → (a b : Receipts) (v w : Option (List ℕ)) → Type 0
 LineEnds foreign (Ok n) before meaning a b v w =
     (text : List ℕ) × Replied a b meaning text × Appends v w text × (n ≡ counted (before + length text))
 LineEnds foreign (Err (WriteFailed n)) before meaning a b v w = (text : List ℕ) × Replied a b meaning text × CutText text before n v w

@@ -1,4 +1,4 @@
-//! The slot lists of casa_list against the slow sequential allocator, which is the judge.
+//! The slot lists of casa_list against the slow sequential allocator, which is the reference.
 
 use casa_flight::{Answer, Call, Comp, Crossing, Key, ListReply, Loc, Plan, RegId, Reply, Sts};
 use casa_grid::{Grid, Period, Place, Profile};
@@ -8,24 +8,21 @@ use casa_time::Moment;
 use std::alloc::Global;
 use std::test::Fail;
 
-/// How many flights are filed.
-const FLIGHTS: u8 = 200;
+/// How many flights stay: each leaves when this many more are filed.
+const STAYING: u8 = 30;
 
-/// How many of them are there at most: each leaves when this many more are filed.
-const STAYING: u8 = 10;
-
-/// The one regulation, from 36000 on for two hours, with 12 flights per hour.
-fn profile(alloc: Global) -> Result<Profile, Fail> {
+/// The one regulation, from 36000 on for an hour, with this many flights per hour.
+fn profile(alloc: Global, rate: u32) -> Result<Profile, Fail> {
     let period = Period {
         begin: Moment::new(36_000)?,
-        until: Moment::new(43_200)?,
-        rate: 12,
+        until: Moment::new(39_600)?,
+        rate,
     };
     Ok(Profile::new(alloc, &[period])?)
 }
 
-/// Flight `i`: its key, time over and off-block time. Times over lie close, so that most filings and departures move
-/// others; one flight in four is due when it is filed at the start of the day.
+/// Flight `i`: its key, time over and off-block time. Times over lie in the first 45 minutes, so that most filings and
+/// departures move others; one flight in four is due when it is filed at the start of the day.
 fn flight(i: u8) -> Result<(Comp, Moment), Fail> {
     let i = u32::from(i);
     let letter = |n: u32| b'A' + (n % 26) as u8;
@@ -72,29 +69,90 @@ fn are_equal(list: &SlotList, reply: &ListReply) -> bool {
         })
 }
 
-#[test]
-fn chains_equal_plain(rt: HostRuntime) -> Result<(), Fail> {
-    let alloc = rt.alloc();
-    let loc = Loc::new(b"LA").ok_or("a location")?;
-    let reg = RegId::new(b"R1").ok_or("an identifier")?;
-    let mut list = SlotList::new(alloc, Grid::of(alloc, &profile(alloc)?)?)?;
-    let mut plain = Plain::new(alloc);
-    plain.step(alloc, &Call::OpenReg(reg, loc, profile(alloc)?))?;
-    for i in 0..FLIGHTS {
-        let (comp, eobt) = flight(i)?;
-        plain.step(alloc, &file(alloc, loc, comp, eobt)?)?;
-        assert!(rt; list.stance_of(&comp.key).is_none());
-        list.enter(comp)?;
-        if i % 4 == 0 {
-            list.issue(&comp.key);
-        }
-        assert!(rt; are_equal(&list, &listed(alloc, &mut plain, reg)?));
-        if let Some(first) = i.checked_sub(STAYING) {
-            let (leaving, _eobt) = flight(first)?;
-            plain.step(alloc, &Call::Cancel(leaving.key))?;
-            list.leave(&leaving.key);
-            assert!(rt; are_equal(&list, &listed(alloc, &mut plain, reg)?));
+/// The one regulation as both have it.
+#[derive(Drop)]
+struct Both {
+    list: SlotList,
+    plain: Plain,
+    loc: Loc,
+    reg: RegId,
+}
+
+impl Both {
+    /// The regulation with this rate and no flights.
+    fn open(alloc: Global, rate: u32) -> Result<Both, Fail> {
+        let loc = Loc::new(b"LA").ok_or("a location")?;
+        let reg = RegId::new(b"R1").ok_or("an identifier")?;
+        let list = SlotList::new(alloc, Grid::of(alloc, &profile(alloc, rate)?)?)?;
+        let mut plain = Plain::new(alloc);
+        plain.step(alloc, &Call::OpenReg(reg, loc, profile(alloc, rate)?))?;
+        Ok(Both {
+            list,
+            plain,
+            loc,
+            reg,
+        })
+    }
+
+    /// Fails where they differ.
+    fn compare(&mut self, alloc: Global) -> Result<(), Fail> {
+        let reply = listed(alloc, &mut self.plain, self.reg)?;
+        if are_equal(&self.list, &reply) {
+            Ok(())
+        } else {
+            Err(Fail::from("the lists differ"))
         }
     }
-    Ok(())
+
+    /// Files flight `i` and compares.
+    fn file(&mut self, alloc: Global, i: u8) -> Result<(), Fail> {
+        let (comp, eobt) = flight(i)?;
+        self.plain.step(alloc, &file(alloc, self.loc, comp, eobt)?)?;
+        if self.list.stance_of(&comp.key).is_some() {
+            return Err(Fail::from("a key that is in the list"));
+        }
+        self.list.enter(comp)?;
+        if i % 4 == 0 {
+            self.list.issue(&comp.key);
+        }
+        self.compare(alloc)
+    }
+
+    /// Cancels flight `i` and compares.
+    fn cancel(&mut self, alloc: Global, i: u8) -> Result<(), Fail> {
+        let (comp, _eobt) = flight(i)?;
+        self.plain.step(alloc, &Call::Cancel(comp.key))?;
+        self.list.leave(&comp.key);
+        self.compare(alloc)
+    }
+
+    /// Files the flights from `i` on and before `j`; after each the one that has stayed long enough leaves.
+    fn file_all(&mut self, alloc: Global, i: u8, j: u8) -> Result<(), Fail> {
+        for filed in i..j {
+            self.file(alloc, filed)?;
+            if let Some(leaving) = filed.checked_sub(STAYING) {
+                self.cancel(alloc, leaving)?;
+            }
+        }
+        Ok(())
+    }
+
+    /// Changes the rate and compares.
+    fn change_rate(&mut self, alloc: Global, rate: u32) -> Result<(), Fail> {
+        let profile = profile(alloc, rate)?;
+        self.list.regrid(Grid::of(alloc, &profile)?)?;
+        self.plain.step(alloc, &Call::Rates(self.reg, profile))?;
+        self.compare(alloc)
+    }
+}
+
+/// At 12 flights per hour the list is soon full, at 60 all competitors have slots, and at 20 it is full again.
+#[test]
+fn chains_equal_plain(rt: HostRuntime) -> Result<(), Fail> {
+    let mut both = Both::open(rt.alloc(), 12)?;
+    both.file_all(rt.alloc(), 0, 30)?;
+    both.change_rate(rt.alloc(), 60)?;
+    both.file_all(rt.alloc(), 30, 60)?;
+    both.change_rate(rt.alloc(), 20)?;
+    both.file_all(rt.alloc(), 60, 90)
 }

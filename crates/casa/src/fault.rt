@@ -1,5 +1,6 @@
 ghost use Rattle.std.specs.Prelude.{◌≡◌};
 ghost use Rattle.casa.specs.Fields.{field_name};
+ghost use Rattle.casa.specs.Faults.{wire_fault_name};
 
 use thiserror::Error;
 
@@ -40,15 +41,29 @@ impl Field {
 #[derive(Clone, Copy, PartialEq, Eq, Debug, Error)]
 pub enum WireFault {
     /// The bytes are no JSON text.
-    #[error("NotJson")]
+    #[error("the line is no JSON text")]
     NotJson,
     /// The value is no object, or its `cmd` is none of the commands.
-    #[error("NoCommand")]
+    #[error("the line is no command")]
     NoCommand,
     /// This member is absent or not what it must be, and those before it are.
-    #[error("BadField")]
+    #[error("the member `{}` is absent or not what it must be", .0.name())]
     BadField(Field),
     /// There is no memory for the call.
-    #[error("NoMemory")]
+    #[error("there is no memory for the call")]
     NoMemory,
+}
+
+impl WireFault {
+    /// The name of the fault, as in `"NotJson"`.
+    pub fn name(self) -> &'static str
+        ensures { result.now ≡ wire_fault_name self }
+    {
+        match self {
+            WireFault::NotJson => "NotJson",
+            WireFault::NoCommand => "NoCommand",
+            WireFault::BadField(_) => "BadField",
+            WireFault::NoMemory => "NoMemory",
+        }
+    }
 }

@@ -1,16 +1,20 @@
 //! Sessions over the slow sequential allocator, from the empty state.
 
 ghost use Rattle.std.specs.Prelude.{◌≡◌, ◌∷◌, [], ◌++◌, IfOk, OnErr};
-ghost use Rattle.casa_flight.specs.State.{empty};
 ghost use Rattle.casa.specs.First.{FirstEnds};
-ghost use Rattle.casa.specs.Played.{played};
+ghost use Rattle.casa.specs.Played.{receipts_played};
 
-use crate::session::{self, CallFault, Desk, Receipt, SessionFault};
-use casa_flight::Call;
+use crate::session::{self, Desk, SessionFault};
+use casa_commit::CallFault;
+use casa_flight::{Call, Reply};
+use casa_history::{Entry, Receipt};
 use casa_plain::Plain;
 use std::alloc::{AllocError, Global};
 use std::io::{Read, Write};
 use std::marker::Model;
+
+/// The number of the slow allocator's one desk.
+const PLAIN_DESK: u32 = 0;
 
 /// The slow allocator with the calls that it has answered.
 ///
@@ -45,30 +49,34 @@ impl PlainDesk {
     }
 
     /// The receipt of the call; where memory is refused, nothing was answered.
-    fn receipt(&mut self, alloc: Global, call: &Call) -> Result<Receipt, AllocError>
-        ensures ok { IfOk result (λ receipt. played empty 1 self.new ≡ played empty 1 self.old ++ receipt ∷ []) }
-        ensures called { IfOk result (λ receipt. receipt.call ≡ call.now) }
+    fn receipt(&mut self, alloc: Global, call: &Call) -> Result<Receipt<Call, Reply>, AllocError>
+        ensures ok { IfOk result (λ receipt. receipts_played self.new ≡ receipts_played self.old ++ receipt ∷ []) }
+        ensures called { IfOk result (λ receipt. receipt.entry.call ≡ call.now) }
         ensures err { OnErr result (self.new ≡ self.old) }
     {
         let kept = call.try_clone()?;
-        let told = call.try_clone()?;
+        let answered = call.try_clone()?;
         self.calls.reserve(1)?;
         let reply = self.plain.step(alloc, call)?;
         self.calls.push_reserved(kept);
-        Ok(Receipt {
-            position: self.calls.len() as u64,
-            call: told,
+        let entry = Entry {
+            desk: PLAIN_DESK,
+            call: answered,
             reply,
+        };
+        Ok(Receipt {
+            position: self.calls.len(),
+            entry,
         })
     }
 }
 
 impl Desk for PlainDesk {
-    ghost answered = { λ calls. played empty 1 calls };
+    ghost answered = { λ calls. receipts_played calls };
 
     ghost may_be_foreign = { ⊥ };
 
-    fn answer(&mut self, alloc: Global, call: &Call) -> Result<Receipt, CallFault> {
+    fn answer(&mut self, alloc: Global, call: &Call) -> Result<Receipt<Call, Reply>, CallFault> {
         self.receipt(alloc, call).map_err(|_| CallFault::NoMemory)
     }
 }

@@ -40,13 +40,13 @@ pub enum NextLine {
 #[derive(Clone, Copy, PartialEq, Eq, Debug, Error)]
 pub enum LineFault {
     /// The line has more than 65,536 bytes.
-    #[error("LineTooLong")]
+    #[error("the line has more than 65,536 bytes")]
     LineTooLong,
     /// The source failed, or was asked 4,294,967,295 times.
-    #[error("ReadFailed")]
+    #[error("the source failed, or was read 4,294,967,295 times")]
     ReadFailed,
     /// There is no memory for the line.
-    #[error("NoMemory")]
+    #[error("there is no memory for the line")]
     NoMemory,
 }
 

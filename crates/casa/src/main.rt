@@ -39,7 +39,7 @@ fn main(rt: HostRuntime) -> ExitCode {
     match first::run(rt.alloc(), &mut rt.reader(), &mut io::writer(&rt)) {
         Ok(_) => ExitCode::SUCCESS,
         Err(fault) => {
-            let _ = eprintln!(rt; "casa: {fault}");
+            let _ = eprintln!(rt; "casa: {}", fault.name());
             ExitCode::FAILURE
         }
     }

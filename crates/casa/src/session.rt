@@ -1,73 +1,70 @@
 //! Answers the lines of an input, one after the other.
 
 ghost use Rattle.std.specs.Prelude.{◌≡◌, ◌∷◌, [], ◌++◌, List, Err, IfOk, IfErr, OnErr};
-ghost use Rattle.casa.specs.declared.session.Receipt.{Receipt};
 ghost use Rattle.casa.specs.Commands.{line_call};
-ghost use Rattle.casa.specs.Transcript.{Ends, IsRefused, Kept, LineEnds, Replied, TooLongEnds};
+ghost use Rattle.casa.specs.Faults.{session_fault_name};
+ghost use Rattle.casa.specs.Transcript.{Receipts, Ends, IsRefused, Kept, LineEnds, Replied, TooLongEnds};
 
 use crate::fault::WireFault;
 use crate::lines::{LineFault, LineReader, NextLine};
 use crate::reading::read_call;
 use crate::sending::send;
 use crate::texts::{fault_line, reply_line, too_long_line};
+use casa_commit::CallFault;
 use casa_flight::{Call, Reply};
+use casa_history::Receipt;
 use std::alloc::Global;
 use std::io::{Read, Write};
 use thiserror::Error;
-
-/// What a desk answered to a call.
-#[derive(Drop, Debug)]
-pub struct Receipt {
-    /// The position of the entry in the history, from 1.
-    pub position: u64,
-    pub call: Call,
-    pub reply: Reply,
-}
-
-/// Why a desk gives no receipt.
-#[derive(Clone, Copy, PartialEq, Eq, Debug, Error)]
-pub enum CallFault {
-    /// The desk is none of this allocator's.
-    #[error("ForeignPass")]
-    ForeignPass,
-    /// There is no memory for the call.
-    #[error("NoMemory")]
-    NoMemory,
-}
 
 /// Why a session ended before its input did.
 #[derive(Clone, Copy, PartialEq, Eq, Debug, Error)]
 pub enum SessionFault {
     /// A line has more than 65,536 bytes; its text was written.
-    #[error("LineTooLong")]
+    #[error("a line has more than 65,536 bytes")]
     LineTooLong,
     /// The reader failed, or was asked 4,294,967,295 times.
-    #[error("ReadFailed")]
+    #[error("the input could not be read, or was read 4,294,967,295 times")]
     ReadFailed,
     /// The writer failed or took no byte, after it took this many in all, at most `u64::MAX`.
-    #[error("WriteFailed")]
+    #[error("the output took no more than {0} bytes")]
     WriteFailed(u64),
     /// The desk is none of this allocator's.
-    #[error("ForeignPass")]
+    #[error("the desk is none of this allocator's")]
     ForeignPass,
     /// There is no memory for a line, its call or its reply.
-    #[error("NoMemory")]
+    #[error("there is no memory for a line, its call or its reply")]
     NoMemory,
+}
+
+impl SessionFault {
+    /// The name of the fault, as in `"LineTooLong"`.
+    pub fn name(self) -> &'static str
+        ensures { result.now ≡ session_fault_name self }
+    {
+        match self {
+            SessionFault::LineTooLong => "LineTooLong",
+            SessionFault::ReadFailed => "ReadFailed",
+            SessionFault::WriteFailed(_) => "WriteFailed",
+            SessionFault::ForeignPass => "ForeignPass",
+            SessionFault::NoMemory => "NoMemory",
+        }
+    }
 }
 
 /// Answers calls, one at a time.
 pub trait Desk {
     // The receipts so far.
-    ghost answered: { Self → List Receipt };
+    ghost answered: { Self → Receipts };
 
     // Desks of this type may be another allocator's.
     ghost may_be_foreign: { Type 0 };
 
     /// The receipt of the call. After a fault the desk has answered nothing more; `ForeignPass` only comes of a
     /// desk that may be foreign.
-    fn answer(&mut self, alloc: Global, call: &Call) -> Result<Receipt, CallFault>
+    fn answer(&mut self, alloc: Global, call: &Call) -> Result<Receipt<Call, Reply>, CallFault>
         ensures ok { IfOk result (λ receipt. answered self.new ≡ answered self.old ++ receipt ∷ []) }
-        ensures called { IfOk result (λ receipt. receipt.call ≡ call.now) }
+        ensures called { IfOk result (λ receipt. receipt.entry.call ≡ call.now) }
         ensures err { OnErr result (answered self.new ≡ answered self.old) }
         ensures foreign { result ≡ Err CallFault.ForeignPass → may_be_foreign };
 }
@@ -137,7 +134,7 @@ fn line_reply<D: Desk>(alloc: Global, desk: &mut D, line: &[u8]) -> Result<Vec<u
 {
     match read_call(alloc, line) {
         Ok(call) => match desk.answer(alloc, &call) {
-            Ok(receipt) => match reply_line(alloc, &receipt.reply, receipt.position) {
+            Ok(receipt) => match reply_line(alloc, &receipt.entry.reply, receipt.position) {
                 Ok(text) => Ok(text),
                 Err(_) => Err(SessionFault::NoMemory),
             },

@@ -1,13 +1,17 @@
 ghost use Rattle.std.specs.Prelude.{◌≡◌, IfOk};
+ghost use Rattle.casa_history.specs.Entries.{receipt};
+ghost use Rattle.casa_commit.specs.Legal.{entry};
 
 use crate::fault::{Field, WireFault};
 use crate::reading::read_call;
-use crate::session::{CallFault, Desk, Receipt, SessionFault, run};
+use crate::session::{Desk, SessionFault, run};
 use crate::texts::{fault_line, reply_line};
+use casa_commit::CallFault;
 use casa_flight::{
     Answer, Call, FlightReply, Key, Kind, ListReply, ListRow, Loc, Message, Messages, Refusal,
     RegId, Reply, Rows, Sts,
 };
+use casa_history::{Entry, Receipt};
 use casa_time::Moment;
 use std::alloc::{AllocError, Global};
 use std::io;
@@ -56,7 +60,7 @@ fn lines_are_calls(rt: HostRuntime) -> Result<(), Fail> {
 }
 
 #[test]
-fn the_first_fault_of_a_line_is_told(rt: HostRuntime) {
+fn the_first_fault_of_a_line_is_named(rt: HostRuntime) {
     for (line, fault) in [
         (b"".as_slice(), WireFault::NotJson),
         (b"{\"cmd\":\"file\"", WireFault::NotJson),
@@ -193,17 +197,18 @@ fn lists_are_lines(rt: HostRuntime) -> Result<(), Fail> {
 /// A desk that refuses all calls.
 #[derive(Drop)]
 struct Refusing {
-    receipts: Vec<Receipt>,
+    receipts: Vec<Receipt<Call, Reply>>,
 }
 
-fn refused(call: &Call, position: u64) -> Result<Receipt, AllocError>
-    ensures { IfOk result (λ receipt. receipt ≡ record { position = position; call = call.now; reply = Reply.Refused Refusal.Late }) }
+fn refused(call: &Call, position: usize) -> Result<Receipt<Call, Reply>, AllocError>
+    ensures { IfOk result (λ r. r ≡ receipt position (entry 0 call.now (Reply.Refused Refusal.Late))) }
 {
-    Ok(Receipt {
-        position,
+    let entry = Entry {
+        desk: 0,
         call: call.try_clone()?,
         reply: Reply::Refused(Refusal::Late),
-    })
+    };
+    Ok(Receipt { position, entry })
 }
 
 impl Desk for Refusing {
@@ -211,9 +216,9 @@ impl Desk for Refusing {
 
     ghost may_be_foreign = { ⊥ };
 
-    fn answer(&mut self, alloc: Global, call: &Call) -> Result<Receipt, CallFault> {
+    fn answer(&mut self, alloc: Global, call: &Call) -> Result<Receipt<Call, Reply>, CallFault> {
         let _ = alloc;
-        let position = (self.receipts.len() as u64).saturating_add(1);
+        let position = self.receipts.len().saturating_add(1);
         let (Ok(kept), Ok(given)) = (refused(call, position), refused(call, position)) else {
             return Err(CallFault::NoMemory);
         };
@@ -241,7 +246,7 @@ fn a_session_answers_each_line(rt: HostRuntime) {
     assert!(rt; ended == Ok(4) && output.as_slice() == OUTPUT && desk.receipts.len() == 2);
 }
 
-/// Run also with each allocation refused in turn: the session then ends after whole replies, with want of memory
+/// Run also with each allocation refused in turn: the session then ends after whole replies, without memory
 /// or, where it is the output that can't grow, with a failed write.
 #[test]
 fn a_refused_growth_ends_a_session(rt: HostRuntime) {

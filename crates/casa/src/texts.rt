@@ -16,14 +16,14 @@ use std::str;
 /// The line of a reply, with the position of its entry in the history (from 1), its line end included.
 ///
 /// `AllocError` where there is no memory for it.
-pub fn reply_line(alloc: Global, reply: &Reply, position: u64) -> Result<Vec<u8>, AllocError>
+pub fn reply_line(alloc: Global, reply: &Reply, position: usize) -> Result<Vec<u8>, AllocError>
     ensures { IfOk result (λ line. line.items ≡ reply_text reply.now position) }
 {
     let value = reply_value(alloc, reply, position)?;
     value_line(alloc, &value)
 }
 
-/// The line of a fault, its line end included; `null` for want of memory.
+/// The line of a fault, its line end included; `null` where memory was refused.
 ///
 /// `AllocError` where there is no memory for it.
 pub fn fault_line(alloc: Global, fault: WireFault) -> Result<Vec<u8>, AllocError>
@@ -43,7 +43,7 @@ pub fn too_long_line() -> &'static [u8]
 /// The reply as JSON, with the position of its entry in the history (from 1).
 ///
 /// `AllocError` where there is no memory for it.
-pub fn reply_value(alloc: Global, reply: &Reply, position: u64) -> Result<Value, AllocError>
+pub fn reply_value(alloc: Global, reply: &Reply, position: usize) -> Result<Value, AllocError>
     ensures { IfOk result (λ value. view value ≡ reply_data reply.now position) }
 {
     match reply {
@@ -63,7 +63,7 @@ fn answer_value(
     alloc: Global,
     answer: &Answer,
     messages: Value,
-    position: u64,
+    position: usize,
 ) -> Result<Value, AllocError>
     ensures { IfOk result (λ value. (ms : List Message) →
         view messages ≡ messages_data ms → view value ≡ answer_data answer.now ms position) }
@@ -204,12 +204,12 @@ fn name_value(alloc: Global, name: &[u8]) -> Result<Value, AllocError>
 fn fault_value(alloc: Global, fault: WireFault) -> Result<Value, AllocError>
     ensures { IfOk result (λ value. view value ≡ fault_data fault) }
 {
+    let name = fault.name();
     match fault {
-        WireFault::NotJson => json!(in alloc; {"fault": "NotJson"}),
-        WireFault::NoCommand => json!(in alloc; {"fault": "NoCommand"}),
+        WireFault::NotJson | WireFault::NoCommand => json!(in alloc; {"fault": name}),
         WireFault::BadField(field) => {
-            let name = field.name();
-            json!(in alloc; {"fault": "BadField", "field": name})
+            let field = field.name();
+            json!(in alloc; {"fault": name, "field": field})
         }
         WireFault::NoMemory => Ok(Value::Null),
     }

@@ -1,6 +1,5 @@
 use Rattle.std.proofs.Common.{subst}
-use Rattle.casa_flight.specs.State.{empty}
-use Rattle.casa.specs.Played.{played}
+use Rattle.casa.specs.Played.{receipts_played}
 use Rattle.casa.specs.Transcript.{Ends}
 use Rattle.casa.proofs.PlayedCalls.{first-ends}
 use Rattle.casa.proofs.first.run.Goals as goal
@@ -10,5 +9,5 @@ returns g c =
     first-ends c.run.new.desk c.run.result (g.R.Read.remaining c.args.reader.now) (g.R.Read.remaining c.run.new.reader)
     (g.W.Write.contents c.args.writer.now) (g.W.Write.contents c.run.new.writer)
     (subst (λ before. Ends ⊥ c.run.result (g.R.Read.remaining c.args.reader.now) (g.R.Read.remaining c.run.new.reader)
-    (played empty 1 before) (played empty 1 c.run.new.desk) (g.W.Write.contents c.args.writer.now) (g.W.Write.contents c.run.new.writer))
+    (receipts_played before) (receipts_played c.run.new.desk) (g.W.Write.contents c.args.writer.now) (g.W.Write.contents c.run.new.writer))
     c.new-desk.ensures c.run.ensures)
