@@ -143,13 +143,13 @@ fn replies_are_lines(rt: HostRuntime) -> Result<(), Fail> {
         issued: true,
         reg: Some(reg_id(b"R1")?),
     };
-    let messages = Messages::of(vec![in alloc; Message::Sam(key(b"E")?, 9719, reg_id(b"R1")?)]?);
+    let messages = Messages::from_vec(vec![in alloc; Message::Sam(key(b"E")?, 9719, reg_id(b"R1")?)]?)?;
     let line = reply_line(alloc, &Reply::Answered(Answer::Flight(flight), messages), 4)?;
     assert!(rt;
         line.as_slice()
             == b"{\"flight\":{\"ctot\":9719,\"delay\":119,\"eobt\":9000,\"etot\":9600,\"exempt\":false,\"issued\":true,\"key\":\"E\",\"reg\":\"R1\"},\"msgs\":[{\"ctot\":9719,\"key\":\"E\",\"kind\":\"SAM\",\"reg\":\"R1\"}],\"n\":4}\n".as_slice()
     );
-    let messages = Messages::of(vec![in alloc; Message::Slc(key(b"B")?)]?);
+    let messages = Messages::from_vec(vec![in alloc; Message::Slc(key(b"B")?)]?)?;
     let line = reply_line(alloc, &Reply::Answered(Answer::Done, messages), 8)?;
     assert!(rt;
         line.as_slice()
@@ -181,9 +181,9 @@ fn lists_are_lines(rt: HostRuntime) -> Result<(), Fail> {
         start: Moment::new(36000)?,
         end: Moment::new(37200)?,
         slots: 10,
-        rows: Rows::of(vec![in alloc; first, second]?),
+        rows: Rows::from_vec(vec![in alloc; first, second]?)?,
     };
-    let reply = Reply::Answered(Answer::List(list), Messages::of(Vec::new(alloc)));
+    let reply = Reply::Answered(Answer::List(list), Messages::from_vec(Vec::new(alloc))?);
     let line = reply_line(alloc, &reply, 4)?;
     assert!(rt;
         line.as_slice()

@@ -25,10 +25,10 @@ use Rattle.casa_flight.specs.Entry.{is_to_issue, issued_in, issue_if, issue_due}
 use Rattle.casa_flight.specs.Steps.{tick, after, next}
 use Rattle.casa_flight.specs.Good.{AreInOrder}
 use Rattle.casa_flight.specs.Messages.{Passes}
-use Rattle.casa_flight.specs.IssuedTimes.{issue_as, issue_one, issue_in_turn}
+use Rattle.casa_flight.specs.IssuedTimes.{issued_as, with_issued, issue_in_turn}
 use Rattle.casa_flight.proofs.Entries.{text_cmp, same_name, named, apart, sorted-put, at-put_same, at-put_other, at-map, keys-map}
 use Rattle.casa_flight.proofs.Kept.{at-kept, same_entries}
-use Rattle.casa_flight.proofs.MovesNobody.{with_issued, place_issued}
+use Rattle.casa_flight.proofs.MovesNobody.{issued_at, place_issued}
 use Rattle.casa_flight.proofs.Planned.{list_sorted}
 use Rattle.casa_flight.proofs.RegMessages.{to_issue_parts, issued_at, governed_name}
 
@@ -62,19 +62,19 @@ issues_none l due sorted none = record {
 }
 
 -- one flight is issued
-issues_one : (l : Listing) (key : Text) → IsProfile l.profile → AreInOrder l.flights → Issues l (issue_one l key) (λ q. same_text key q)
+issues_one : (l : Listing) (key : Text) → IsProfile l.profile → AreInOrder l.flights → Issues l (with_issued l key) (λ q. same_text key q)
 issues_one l key valid sorted = by (stance_of l key) refl
   where
     idle : (w : Option Stance) → stance_of l key ≡ w → ((eto : ℕ) → w ≡ Some (Competing eto) → ⊥) → Issues l l (λ q. same_text key q)
     idle w is not = issues_none l (λ q. same_text key q) sorted (λ q eto same competes. not eto (sym is ∙ ap (stance_of l) (named key q same) ∙ competes))
 
-    by : (w : Option Stance) → stance_of l key ≡ w → Issues l (option_map_or (issue_as l key) w l) (λ q. same_text key q)
+    by : (w : Option Stance) → stance_of l key ≡ w → Issues l (option_map_or (issued_as l key) w l) (λ q. same_text key q)
     by None is = idle None is (λ eto h. cc)
     by (Some (Issued eto t)) is = idle (Some (Issued eto t)) is (λ e h. cc)
     by (Some (Forced eto)) is = idle (Some (Forced eto)) is (λ e h. cc)
     by (Some (Competing eto)) is =
         let t : ℕ = cto_as l key (Competing eto) in
-        let g : Listing = with_issued l key eto t in
+        let g : Listing = issued_at l key eto t in
         let its : stance_of g key ≡ Some (Issued eto t) = at-put_same key (Issued eto t) l.flights in
         let own : stance_of g key ≡ option_map (now_as l true key) (stance_of l key) = its ∙ sym (ap (option_map (now_as l true key)) is) in
         record {
@@ -133,9 +133,9 @@ is_in keys q = list_any (λ k. same_text k q) keys
 issues_in_turn : (keys : List Text) (l : Listing) → IsProfile l.profile → AreInOrder l.flights → Issues l (issue_in_turn l keys) (is_in keys)
 issues_in_turn [] l valid sorted = issues_none l (λ q. false) sorted (λ q eto h w. cc)
 issues_in_turn (key ∷ keys) l valid sorted =
-    let one : Issues l (issue_one l key) (λ q. same_text key q) = issues_one l key valid sorted in
-    issues_then l (issue_one l key) (issue_in_turn (issue_one l key) keys) (λ q. same_text key q) (is_in keys) one
-    (issues_in_turn keys (issue_one l key) (subst IsProfile (sym one.profile) valid) one.sorted)
+    let one : Issues l (with_issued l key) (λ q. same_text key q) = issues_one l key valid sorted in
+    issues_then l (with_issued l key) (issue_in_turn (with_issued l key) keys) (λ q. same_text key q) (is_in keys) one
+    (issues_in_turn keys (with_issued l key) (subst IsProfile (sym one.profile) valid) one.sorted)
 
 -- at a tick the due flights of a list become issued, and the others stand as before
 abbrev is_due_at : State → ℕ → Text → Bool

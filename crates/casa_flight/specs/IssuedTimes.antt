@@ -38,15 +38,15 @@ pub record BecomesIssued (time : ℕ) (old new : Row) : Type 0 where
   pub now : new ≡ record old { issued = Some time }
 
 -- a flight that stands so becomes issued at the calculated time over that it has, if it competes
-abbrev pub issue_as : Listing → Text → Stance → Listing
-issue_as l key (Competing eto) = record l { flights = put l.flights key (Issued eto (cto_as l key (Competing eto))) }
-issue_as l key (Issued eto cto) = l
-issue_as l key (Forced eto) = l
+abbrev pub issued_as : Listing → Text → Stance → Listing
+issued_as l key (Competing eto) = record l { flights = put l.flights key (Issued eto (cto_as l key (Competing eto))) }
+issued_as l key (Issued eto cto) = l
+issued_as l key (Forced eto) = l
 
-abbrev pub issue_one : Listing → Text → Listing
-issue_one l key = option_map_or (issue_as l key) (stance_of l key) l
+abbrev pub with_issued : Listing → Text → Listing
+with_issued l key = option_map_or (issued_as l key) (stance_of l key) l
 
 -- these flights become issued, one after the other
 abbrev pub issue_in_turn : Listing → List Text → Listing
 issue_in_turn l [] = l
-issue_in_turn l (key ∷ keys) = issue_in_turn (issue_one l key) keys
+issue_in_turn l (key ∷ keys) = issue_in_turn (with_issued l key) keys

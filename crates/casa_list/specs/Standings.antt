@@ -7,7 +7,7 @@ use Rattle.casa_flight.specs.declared.comp.Comp.{Comp}
 use Rattle.casa_flight.specs.declared.comp.Assigned.{Assigned}
 use Rattle.casa_flight.specs.declared.row.Stance.{Stance}
 use Rattle.casa_flight.specs.declared.row.Stance.TheVariants.{Competing, Issued, Forced}
-use Rattle.casa_flight.specs.Text.{Text, put}
+use Rattle.casa_flight.specs.Text.{Text}
 use Rattle.casa_flight.specs.Assignment.{place_from}
 use Rattle.casa_flight.specs.Listing.{Listing, in_order, is_before, competitors, places, place_of, stance_of, cto_as}
 use Rattle.casa_list.specs.declared.standing.Standing.{Standing}
@@ -77,15 +77,6 @@ issue_cto_as l key (Forced eto) = None
 
 abbrev pub issue_cto : Listing → Text → Option ℕ
 issue_cto l key = option_and_then (issue_cto_as l key) (stance_of l key)
-
--- the list once a competitor is issued so
-abbrev pub issued_as : Listing → Text → Stance → Listing
-issued_as l key (Competing eto) = record l { flights = put l.flights key (Issued eto (cto_as l key (Competing eto))) }
-issued_as l key (Issued eto cto) = l
-issued_as l key (Forced eto) = l
-
-abbrev pub with_issued : Listing → Text → Listing
-with_issued l key = option_map_or (issued_as l key) (stance_of l key) l
 
 -- the estimated times over of a competitor and of a forced flight
 abbrev pub competing_eto_as : Stance → Option ℕ

@@ -10,7 +10,8 @@ ghost use Rattle.casa_flight.specs.Listing.{place_of, cto_of, cto_as, stance_of}
 ghost use Rattle.casa_flight.specs.Entry.{with_competitor};
 ghost use Rattle.casa_flight.specs.Good.{AreInOrder};
 ghost use Rattle.casa_list.specs.Walk.{IsWithin};
-ghost use Rattle.casa_list.specs.Standings.{standings, count_governed, governed_place, governed_cto, issue_cto, with_issued, is_forced, competing_eto, forced_eto};
+ghost use Rattle.casa_flight.specs.IssuedTimes.{with_issued};
+ghost use Rattle.casa_list.specs.Standings.{standings, count_governed, governed_place, governed_cto, issue_cto, is_forced, competing_eto, forced_eto};
 
 use crate::blocked::{block, counted, slot_of, unblock};
 use crate::order::{entry_at, index_of, put_flight, take_flight};
