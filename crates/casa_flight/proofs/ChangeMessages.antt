@@ -1,14 +1,12 @@
 -- the messages of a change from one state to another: what each tells, in which order they come, and where none comes
-use Rattle.std.proofs.Common.{◌≡◌, ℕ, ◌+◌, ◌-◌, List, [], ◌∷◌, map, Bool, true, false, cond, refl, sym, ap, subst, ◌∙◌, Option, None, Some, MatchOption, is_some, unwrap_or, ◌==◌, arith}
-use Rattle.std.specs.declared.cmp.Ordering.TheVariants.{Less}
+use Rattle.std.proofs.Common.{◌≡◌, ℕ, ◌+◌, ◌-◌, List, [], ◌∷◌, map, Bool, true, false, cond, refl, sym, ap, subst, ◌∙◌, Option, None, Some, MatchOption, is_some, unwrap_or, ◌==◌}
 use Rattle.std.specs.Ordering.{is_eq}
 use Rattle.std.specs.Option.{option_and_then, option_map_or}
 use Rattle.std.specs.List.{All, AllByRecursion, Contains, cons_option, filter_map}
 use Rattle.std.specs.List.Sorted.{IsStrictlySortedBy}
-use Rattle.std.specs.Map.{keys_of}
 use Rattle.std.specs.Cmp.{nat_eq_equiv}
 use Rattle.std.proofs.lemmas.Bool.{both_ways, eqb-true, eq-eqb}
-use Rattle.std.proofs.lemmas.List.Elements.{All-from_recursion, All-nil, Contains-append_right}
+use Rattle.std.proofs.lemmas.List.Elements.{All-from_recursion, All-nil}
 use Rattle.casa_grid.specs.Profile.{end_of}
 use Rattle.casa_grid.specs.Slots.{slots}
 use Rattle.casa_grid.specs.TimeOver.{cto}
@@ -17,14 +15,14 @@ use Rattle.casa_flight.specs.declared.row.Row.{Row}
 use Rattle.casa_flight.specs.declared.state.State.{State}
 use Rattle.casa_flight.specs.declared.reply.Message.{Message}
 use Rattle.casa_flight.specs.declared.reply.Message.TheVariants.{Sam, Srm, Slc}
-use Rattle.casa_flight.specs.Text.{Text, at_name}
+use Rattle.casa_flight.specs.Text.{Text}
 use Rattle.casa_flight.specs.FlightPlan.{etot}
 use Rattle.casa_flight.specs.State.{row_of, measure_of, with_row, regulation, subject}
 use Rattle.casa_flight.specs.Listing.{listing, place_of, ctot_of, delay_of}
 use Rattle.casa_flight.specs.Replies.{message_of, message, messages, is_issued, ctot_before}
 use Rattle.casa_flight.specs.Good.{AreInOrder, IsGood, IsFree, IsGoverned}
 use Rattle.casa_flight.specs.Messages.{flight_of, Tells}
-use Rattle.casa_flight.proofs.Entries.{text_cmp, same_name, other_way, all-each, all-filter_map, each_found, sorted-put, at-put_same, at-put_other}
+use Rattle.casa_flight.proofs.Entries.{text_cmp, other_way, all-each, all-filter_map, each_found, sorted-put, at-put_same, at-put_other}
 use Rattle.casa_flight.proofs.Kept.{filter_map-one, contains-given}
 use Rattle.casa_flight.proofs.InOrder.{names_rise, names_sorted}
 use Rattle.casa_flight.proofs.Times.{delay_governed}

@@ -17,7 +17,7 @@ use Rattle.casa_flight.specs.declared.row.Row.{Row}
 use Rattle.casa_flight.specs.declared.row.Stance.{Stance}
 use Rattle.casa_flight.specs.declared.row.Stance.TheVariants.{Competing, Issued, Forced}
 use Rattle.casa_flight.specs.declared.state.State.{State}
-use Rattle.casa_flight.specs.Text.{Text, same_text, at_name, put}
+use Rattle.casa_flight.specs.Text.{Text, same_text, at_name}
 use Rattle.casa_flight.specs.FlightPlan.{etot}
 use Rattle.casa_flight.specs.State.{row_of, measure_of, regulation, subject, is_due, is_governed_by}
 use Rattle.casa_flight.specs.Listing.{Listing, listing, list_of, stance, stance_in, stance_of, place_of, cto_as, cto_of, eto_as, delay_in, governing_list, ctot_of}

@@ -1,5 +1,5 @@
 -- a plan has no fault exactly where its key is a name and the rest is valid
-use Rattle.std.proofs.Common.{◌≡◌, ℕ, ◌+◌, ◌≤◌, List, [], ◌∷◌, length, suc, true, false, not, nat_lt, None, All, get_or, arith, subst, sym, ap, refl}
+use Rattle.std.proofs.Common.{◌≡◌, ℕ, ◌+◌, ◌≤◌, List, [], ◌∷◌, length, suc, true, false, not, nat_lt, None, All, get_or, arith, subst, sym, refl}
 use Rattle.std.specs.List.{list_any, AllPairs}
 use Rattle.std.proofs.lemmas.Bool.{ltb-false, or_parts, or_from, both_ways, false_from_ne_true, le-ltb, not-false}
 use Rattle.std.proofs.lemmas.List.Folds.{list_any_none}
