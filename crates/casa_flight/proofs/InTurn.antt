@@ -5,6 +5,7 @@ use Rattle.std.specs.Ordering.{is_eq}
 use Rattle.std.specs.List.{Contains, filter, list_any, slice_index_or}
 use Rattle.std.specs.List.Sorted.{IsStrictlySortedBy}
 use Rattle.std.specs.Map.{keys_of}
+use Rattle.std.proofs.Math.Bool.{and-true, and-false}
 use Rattle.std.proofs.lemmas.Bool.{or_left, or_right, le-ltb}
 use Rattle.std.proofs.lemmas.Cmp.{nat_list_eq_equiv}
 use Rattle.std.proofs.lemmas.List.Folds.{Any-from_list_any, list_any-from_Any}
@@ -205,14 +206,6 @@ ticked_in_turn m at id measure keys sorted valid opened who =
     (list_sorted n id (listing n.rows id measure) (ticked_sorted m at sorted) (ap (option_map (listing n.rows id)) opened)) turned.sorted
     (λ q. ticked_stance m at id measure q sorted opened ∙ ap (λ b. option_map (now_as l b q) (stance_of l q)) (sym (who q)) ∙ sym (turned.stands q))
 
-and_true : (b : Bool) → (b && true) ≡ b
-and_true true = refl
-and_true false = refl
-
-and_false : (b : Bool) → (b && false) ≡ false
-and_false true = refl
-and_false false = refl
-
 -- the keys that pass a test
 is_in-first : (p : Text → Bool) (q k : Text) (ks : List Text) (b : Bool) → p q ≡ b → same_text k q ≡ true → is_in (filter p ks) q ≡ (p q && is_in ks q) → is_in (cond b (k ∷ filter p ks) (filter p ks)) q ≡ b
 is_in-first p q k ks true passes same rest = ap (λ s. s || is_in (filter p ks) q) same
@@ -223,11 +216,11 @@ is_in-later p q k ks true other rest = ap (λ s. s || is_in (filter p ks) q) oth
 is_in-later p q k ks false other rest = rest
 
 is_in-filter : (p : Text → Bool) (q : Text) (ks : List Text) → is_in (filter p ks) q ≡ (p q && is_in ks q)
-is_in-filter p q [] = sym (and_false (p q))
+is_in-filter p q [] = sym (and-false (p q))
 is_in-filter p q (k ∷ ks) =
     let rest : is_in (filter p ks) q ≡ (p q && is_in ks q) = is_in-filter p q ks in
     elim (same_text k q) as (λ s. same_text k q ≡ s → is_in (cond (p k) (k ∷ filter p ks) (filter p ks)) q ≡ (p q && (s || is_in ks q))) [
-      | true ↦ λ same. ap (λ b. is_in (cond b (k ∷ filter p ks) (filter p ks)) q) (ap p (named k q same)) ∙ is_in-first p q k ks (p q) refl same rest ∙ sym (and_true (p q))
+      | true ↦ λ same. ap (λ b. is_in (cond b (k ∷ filter p ks) (filter p ks)) q) (ap p (named k q same)) ∙ is_in-first p q k ks (p q) refl same rest ∙ sym (and-true (p q))
       | false ↦ λ other. is_in-later p q k ks (p k) other rest
     ] refl
 
@@ -248,7 +241,7 @@ in_due_keys m at q = is_in-filter (is_due_at m at) q (keys_of m.rows) ∙ by (ro
   where
     by : (w : Option Row) → row_of m q ≡ w → (option_map_or (is_to_issue at) w false && is_in (keys_of m.rows) q) ≡ option_map_or (is_to_issue at) w false
     by None found = refl
-    by (Some row) found = ap (λ b. is_to_issue at row && b) (found_in m.rows q row found) ∙ and_true (is_to_issue at row)
+    by (Some row) found = ap (λ b. is_to_issue at row && b) (found_in m.rows q row found) ∙ and-true (is_to_issue at row)
 
 tick_issues : (m : State) (at : ℕ) (id : Text) (measure : Measure) → AreInOrder m.rows → IsProfile measure.profile → measure_of m id ≡ Some measure
     → Issues (listing m.rows id measure) (listing (issue_due (record m { clock = at })).rows id measure) (is_in (due_keys m at))

@@ -8,6 +8,7 @@ use Rattle.casa_grid.specs.Slots.{slots}
 use Rattle.casa_grid.specs.TimeOver.{cto}
 use Rattle.casa_flight.specs.declared.call.Call.{Call}
 use Rattle.casa_flight.specs.declared.call.Call.TheVariants.{File, Amend, Cancel, Revise, Exempt, OpenReg, CloseReg, Rates, Tick, Show, List as ListOf}
+use Rattle.casa_flight.specs.declared.call.Refusal.{Refusal}
 use Rattle.casa_flight.specs.declared.comp.Comp.{Comp}
 use Rattle.casa_flight.specs.declared.regulation.Measure.{Measure}
 use Rattle.casa_flight.specs.declared.row.Row.{Row}
@@ -17,7 +18,7 @@ use Rattle.casa_flight.specs.FlightPlan.{FlightPlan}
 use Rattle.casa_flight.specs.State.{row_of, measure_of, with_row, regulation, is_exempt, is_due, is_gone, is_governed_by, ungoverned}
 use Rattle.casa_flight.specs.Listing.{Listing, listing, place_of, cto_of, governing_list}
 use Rattle.casa_flight.specs.Entry.{situation, entered, enter_all, is_to_issue, issued_in, issue_if, issue_due}
-use Rattle.casa_flight.specs.Steps.{Step, most_regulations, new_row, file, amend, cancel, is_revised, state_if, revise, exempt, exempt_if, flights_over, may_compete, open_regulation, close_regulation, has_span, rates, rates_if, tick, show, list, after, next}
+use Rattle.casa_flight.specs.Steps.{Step, refused, step, most_regulations, new_row, file, amend, cancel, is_revised, state_if, revise, exempt, exempt_if, flights_over, may_compete, open_regulation, close_regulation, has_span, rates, rates_if, tick, show, list, after, next}
 use Rattle.casa_flight.specs.Good.{IsGood, IsFree, IsGoverned}
 use Rattle.casa_flight.specs.IssuedTimes.{may_free, may_serve, IsTakenIn, BecomesIssued}
 use Rattle.casa_flight.proofs.Entries.{named, apart, at-put_other, at-without_other, at-map}
@@ -25,6 +26,9 @@ use Rattle.casa_flight.proofs.GoodRegs.{next-good}
 use Rattle.casa_flight.proofs.ChangeMessages.{governed_by, free_of}
 use Rattle.casa_flight.proofs.EnterAll.{regs-enter_all, rest-enter_all}
 use Rattle.casa_flight.proofs.RegMessages.{to_issue_parts, issued_at, competes, row-opened, opened_governs, row-closed}
+
+pub refused_stays : (m : State) (call : Call) (r : Refusal) → step m call ≡ refused r → next m call ≡ m
+refused_stays m call r h = ap (after m) h
 
 -- a step leaves the row as it is
 abbrev Stays : State → Step → Text → Row → Type 0

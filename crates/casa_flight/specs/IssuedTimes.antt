@@ -19,7 +19,8 @@ may_free (Exempt other) key row = same_text other key
 may_free (CloseReg id) key row = is_governed_by id row
 may_free call key row = false
 
--- whether a call may govern or issue flights that it does not name: an opened regulation and the clock
+-- whether a call may govern or issue flights that were there before and that it does not free: an opened regulation and
+-- the clock
 abbrev pub may_serve : Call → Bool
 may_serve (OpenReg id loc profile) = true
 may_serve (Tick at) = true

@@ -220,10 +220,11 @@ pub fn calls_without_messages()
         is_silent call ≡ true → messages_in (reply m call) ≡ [] }
 {}
 
-/// An issued time is not moved for another flight. An issued flight stays as it is (plan, mark, governing regulation and
-/// issued time) at every call on a good state but its own revision, amendment, exemption or cancellation and the close of
-/// the regulation that governs it. A governed flight that is not issued stays as it is at these but for its issue; and
-/// so does each flight at these that do neither open a regulation nor move the clock.
+/// An issued time is not moved for another flight. A call on a good state that is neither a flight's own revision,
+/// amendment, exemption or cancellation nor the close of the regulation that governs it leaves the flight as it is (plan,
+/// mark, governing regulation and issued time) where it is issued, and as it is but for its issue where it is governed. If
+/// the call also opens no regulation and does not move the clock, it leaves the flight as it is, governed or not. A
+/// refused call changes nothing at all.
 pub fn issued_times_stay()
     ensures issued { (m : State) (call : Call) (key : Text) (row : Row) → IsGood m →
         row_of m key ≡ Some row → may_free call key row ≡ false → is_some row.issued ≡ true →
@@ -234,6 +235,7 @@ pub fn issued_times_stay()
     ensures others { (m : State) (call : Call) (key : Text) (row : Row) → IsGood m →
         row_of m key ≡ Some row → may_free call key row ≡ false → may_serve call ≡ false →
         row_of (next m call) key ≡ Some row }
+    ensures refusals { (m : State) (call : Call) (r : Refusal) → step m call ≡ refused r → next m call ≡ m }
 {}
 
 /// What an opened regulation and the clock give on a good state, they give to flights that had none: the regulation
