@@ -23,7 +23,10 @@ impl Cells {
         ensures { cells_of result ≡ opening }
     {
         Cells {
-            cells: [Cell { value: 0, version: 0 }; 4],
+            cells: [Cell {
+                value: 0,
+                version: 0,
+            }; 4],
         }
     }
 
