@@ -34,11 +34,7 @@ pub fn prepare<W: World, F: Fn(&W::View, &W::Call) -> Result<(W::Reply, W::Chang
 pub(crate) fn prepared_now<
     W: World,
     F: Fn(&W::View, &W::Call) -> Result<(W::Reply, W::Change), AllocError>,
->(
-    world: &W,
-    call: &W::Call,
-    plan: &F,
-) -> Result<Prepared<W>, AllocError>
+>(world: &W, call: &W::Call, plan: &F) -> Result<Prepared<W>, AllocError>
     requires good { W.good (W.state world.now) }
     requires callable { (v : _) (c : _) → W.is_for v.now c.now → F.pre plan.now v c }
     requires owes { OwesAnswers W.World (F.post plan.now) }

@@ -6,6 +6,7 @@ use crate::world::World;
 ///
 /// Its type keeps that this is the call's reply, and what it writes, in every state in order that shows the view.
 #[derive(Drop)]
+#[derive_where(Debug; W::Call, W::View, W::Reply, W::Change)]
 pub struct Prepared<W: World> {
     pub(crate) call: W::Call,
     pub(crate) view: W::View,

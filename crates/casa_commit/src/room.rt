@@ -19,6 +19,7 @@ const MAX_DESKS: usize = 1024;
 /// Its type keeps that the history is legal, that the world is its replay, and that the tally of each open desk is that
 /// of the history, in which no other desk has an entry.
 #[derive(Drop)]
+#[derive_where(Debug; W, W::Call, W::Reply)]
 pub struct Room<W: World> {
     world: W,
     history: History<W::Call, W::Reply>,
@@ -32,14 +33,14 @@ pub struct Room<W: World> {
 
 impl<W: World> Room<W> {
     ghost use Rattle.casa_commit.specs.Prepared.{call_of, view_of, reply_of, change_of};
-    ghost use Rattle.casa_commit.specs.Rooms.{world_of, history_of, room_number, open_desks, next_position, Admits, Accepts, AreUnchanged};
+    ghost use Rattle.casa_commit.specs.Rooms.{world_of, history_of, entries_of, room_number, open_desks, next_position, Admits, Accepts, AreUnchanged};
 
     /// The room with this number over a world in the opening state: no desk is open and the history is empty.
     pub fn new(alloc: Global, world: W, number: u32) -> Room<W>
         requires { W.state world ≡ W.opening }
         ensures world { world_of result ≡ world }
         ensures number { room_number result ≡ number }
-        ensures history { entries (history_of result) ≡ [] }
+        ensures history { entries_of result ≡ [] }
         ensures desks { open_desks result ≡ 0 }
     {
         Room {
@@ -53,7 +54,7 @@ impl<W: World> Room<W> {
     /// The world: the replay of the history, and in order.
     pub fn world(&self) -> &W
         ensures same { result.now ≡ world_of self.now }
-        ensures replay { W.state result.now ≡ replay W.after W.opening (entries (history_of self.now)) }
+        ensures replay { W.state result.now ≡ replay W.after W.opening (entries_of self.now) }
         ensures good { W.good (W.state result.now) }
     {
         &self.world
@@ -154,7 +155,7 @@ impl<W: World> Room<W> {
         change: &W::Change,
     ) -> Result<(Receipt<W::Call, W::Reply>, Receipt<W::Call, W::Reply>), AllocError>
         ensures world { W.alike (world_of self.old) (world_of self.new) }
-        ensures history { entries (history_of self.new) ≡ entries (history_of self.old) }
+        ensures history { entries_of self.new ≡ entries_of self.old }
         ensures number { room_number self.new ≡ room_number self.old }
         ensures desks { self.new.desks ≡ self.old.desks }
         ensures pass { SamePass pass.old pass.new }
