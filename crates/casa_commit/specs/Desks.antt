@@ -1,8 +1,6 @@
-use Rattle.std.specs.Prelude.{◌≡◌, ℕ, ◌<◌, List, [], ◌∷◌, ◌++◌, length, slice_index_or}
-use Rattle.casa_history.specs.Entries.{receipts, receipts_of, last_position}
+use Rattle.std.specs.Prelude.{◌≡◌, ℕ, List, length, slice_index_or}
+use Rattle.casa_history.specs.Entries.{receipts_of, last_position}
 use Rattle.casa_history.specs.declared.entry.Entry.{Entry}
-use Rattle.casa_history.specs.declared.entry.Receipt.{Receipt}
-use Rattle.casa_history.specs.declared.pass.Pass.{Pass}
 use Rattle.casa_commit.specs.declared.tally.Tally.{Tally}
 
 -- the most desks of a room (profile)
@@ -20,19 +18,3 @@ no_calls = record { calls = 0; last = 0 }
 -- the tallies of the open desks are those of the history, in which no other desk has an entry
 abbrev pub AreTallies : {C R : Type 0} → List Tally → List (Entry C R) → Type 0
 AreTallies ts es = (d : ℕ) → slice_index_or ts d no_calls ≡ tally d es
-
--- a room with this number, so many desks and this history knows a pass: the pass has its number and that of an open desk,
--- and as many receipts as the desk has entries, the last at the position of the last of these
-abbrev pub Knows : {C R : Type 0} → ℕ → ℕ → List (Entry C R) → Pass C R → Type 0
-Knows number desks es p =
-    (p.number ≡ number) × (p.desk < desks)
-    × (length (receipts p) ≡ length (receipts_of p.desk es))
-    × (last_position (receipts p) ≡ last_position (receipts_of p.desk es))
-
--- the same pass, but for spare memory
-abbrev pub SamePass : {C R : Type 0} → Pass C R → Pass C R → Type 0
-SamePass p q = (q.number ≡ p.number) × (q.desk ≡ p.desk) × (receipts q ≡ receipts p)
-
--- the pass with one receipt more
-abbrev pub PassWith : {C R : Type 0} → Pass C R → Receipt C R → Pass C R → Type 0
-PassWith p r q = (q.number ≡ p.number) × (q.desk ≡ p.desk) × (receipts q ≡ receipts p ++ r ∷ [])

@@ -1,7 +1,8 @@
-ghost use Rattle.std.specs.Prelude.{◌≡◌, ◌+◌, ◌≤◌, ◌<◌, ◌↔◌, [], ◌∷◌, ◌++◌, length, vec_len, IfOk, IfErr, OnOk, OnErr, IsTrue};
-ghost use Rattle.casa_history.specs.Entries.{entries, receipts, receipt, last_position, HasRoom};
+ghost use Rattle.std.specs.Prelude.{◌≡◌, ◌+◌, ◌≤◌, ◌↔◌, [], length, vec_len, IfOk, IfErr, OnOk, OnErr, IsTrue};
+ghost use Rattle.casa_history.specs.Entries.{entries, receipts, receipt, last_position, number_of, desk_of, HasRoomForEntry, HasRoomForReceipt};
 ghost use Rattle.casa_commit.specs.Legal.{entry, replay, IsLegal};
-ghost use Rattle.casa_commit.specs.Desks.{most_desks, AreTallies, Knows, SamePass, PassWith};
+ghost use Rattle.casa_commit.specs.Desks.{most_desks, AreTallies};
+ghost use Rattle.casa_commit.specs.Passes.{SamePass};
 
 use crate::fault::DeskFault;
 use crate::prepared::Prepared;
@@ -18,6 +19,7 @@ const MAX_DESKS: usize = 1024;
 /// Its type keeps that the history is legal, that the world is its replay, and that the tally of each open desk is that
 /// of the history, in which no other desk has an entry.
 #[derive(Drop)]
+#[derive_where(Debug; W, W::Call, W::Reply)]
 pub struct Room<W: World> {
     world: W,
     history: History<W::Call, W::Reply>,
@@ -30,13 +32,16 @@ pub struct Room<W: World> {
 }
 
 impl<W: World> Room<W> {
+    ghost use Rattle.casa_commit.specs.Prepared.{call_of, view_of, reply_of, change_of};
+    ghost use Rattle.casa_commit.specs.Rooms.{world_of, history_of, entries_of, room_number, open_desks, next_position, Admits, Accepts, AreUnchanged};
+
     /// The room with this number over a world in the opening state: no desk is open and the history is empty.
     pub fn new(alloc: Global, world: W, number: u32) -> Room<W>
         requires { W.state world ≡ W.opening }
-        ensures world { result.world ≡ world }
-        ensures number { result.number ≡ number }
-        ensures history { entries result.history ≡ [] }
-        ensures desks { vec_len result.desks ≡ 0 }
+        ensures world { world_of result ≡ world }
+        ensures number { room_number result ≡ number }
+        ensures history { entries_of result ≡ [] }
+        ensures desks { open_desks result ≡ 0 }
     {
         Room {
             world,
@@ -48,8 +53,8 @@ impl<W: World> Room<W> {
 
     /// The world: the replay of the history, and in order.
     pub fn world(&self) -> &W
-        ensures same { result.now ≡ self.now.world }
-        ensures replay { W.state result.now ≡ replay W.after W.opening (entries self.now.history) }
+        ensures same { result.now ≡ world_of self.now }
+        ensures replay { W.state result.now ≡ replay W.after W.opening (entries_of self.now) }
         ensures good { W.good (W.state result.now) }
     {
         &self.world
@@ -57,7 +62,7 @@ impl<W: World> Room<W> {
 
     /// The history, which is legal.
     pub fn history(&self) -> &History<W::Call, W::Reply>
-        ensures same { result.now ≡ self.now.history }
+        ensures same { result.now ≡ history_of self.now }
         ensures legal { IsLegal W.after W.reply W.opening (entries result.now) }
     {
         &self.history
@@ -65,7 +70,7 @@ impl<W: World> Room<W> {
 
     /// How many desks are open; they are numbered from 0.
     pub fn desks(&self) -> u32
-        ensures { result ≡ vec_len self.now.desks }
+        ensures { result ≡ open_desks self.now }
     {
         self.desks.len() as u32
     }
@@ -73,15 +78,15 @@ impl<W: World> Room<W> {
     /// Opens the next desk and gives its pass; `TooManyDesks` where 1,024 are open, else `NoMemory` where there is no
     /// memory for it.
     pub fn open_desk(&mut self) -> Result<Pass<W::Call, W::Reply>, DeskFault>
-        ensures full { (result ≡ Err DeskFault.TooManyDesks) ↔ (vec_len self.old.desks ≡ most_desks) }
-        ensures number { IfOk result (λ p. p.number ≡ self.old.number) }
-        ensures desk { IfOk result (λ p. p.desk ≡ vec_len self.old.desks) }
+        ensures full { (result ≡ Err DeskFault.TooManyDesks) ↔ (open_desks self.old ≡ most_desks) }
+        ensures number { IfOk result (λ p. number_of p ≡ room_number self.old) }
+        ensures desk { IfOk result (λ p. desk_of p ≡ open_desks self.old) }
         ensures empty { IfOk result (λ p. receipts p ≡ []) }
-        ensures opened { OnOk result (vec_len self.new.desks ≡ vec_len self.old.desks + 1) }
-        ensures closed { OnErr result (vec_len self.new.desks ≡ vec_len self.old.desks) }
-        ensures same_number { self.new.number ≡ self.old.number }
-        ensures same_history { self.new.history ≡ self.old.history }
-        ensures same_world { self.new.world ≡ self.old.world }
+        ensures opened { OnOk result (open_desks self.new ≡ open_desks self.old + 1) }
+        ensures closed { OnErr result (open_desks self.new ≡ open_desks self.old) }
+        ensures same_number { room_number self.new ≡ room_number self.old }
+        ensures same_history { history_of self.new ≡ history_of self.old }
+        ensures same_world { world_of self.new ≡ world_of self.old }
     {
         let desk = self.desks.len();
         if desk >= MAX_DESKS {
@@ -95,9 +100,8 @@ impl<W: World> Room<W> {
     }
 
     /// Whether the pass is this room's: its number, an open desk, and that desk's number of entries and last position.
-    pub(crate) fn knows(&self, pass: &Pass<W::Call, W::Reply>) -> bool
-        ensures { IsTrue result ↔
-            Knows self.now.number (vec_len self.now.desks) (entries self.now.history) pass.now }
+    pub(crate) fn admits(&self, pass: &Pass<W::Call, W::Reply>) -> bool
+        ensures { IsTrue result ↔ Admits self.now pass.now }
     {
         let desk = pass.desk() as usize;
         pass.number() == self.number
@@ -106,29 +110,20 @@ impl<W: World> Room<W> {
             && last_position(pass) == self.desks[desk].last
     }
 
-    /// Appends the entry of a prepared answer and applies its change, or hands the answer back for want of memory.
+    /// Appends the entry of a prepared answer and applies its change, or hands the answer back where memory is refused.
     pub(crate) fn accept(
         &mut self,
         pass: &mut Pass<W::Call, W::Reply>,
         prepared: Prepared<W>,
     ) -> Result<Receipt<W::Call, W::Reply>, Prepared<W>>
-        requires known { Knows self.old.number (vec_len self.old.desks) (entries self.old.history) pass.old }
-        requires shown { W.good (W.state self.old.world) → W.shows (W.state self.old.world) prepared.view }
-        ensures number { self.new.number ≡ self.old.number }
-        ensures desks { vec_len self.new.desks ≡ vec_len self.old.desks }
-        ensures reply { OnOk result (prepared.reply ≡ W.reply (W.state self.old.world) prepared.call) }
-        ensures history { OnOk result (entries self.new.history ≡
-            entries self.old.history ++ entry pass.old.desk prepared.call prepared.reply ∷ []) }
-        ensures receipt { IfOk result (λ r. r ≡ receipt (length (entries self.old.history) + 1)
-            (entry pass.old.desk prepared.call prepared.reply)) }
-        ensures pass { IfOk result (λ r. PassWith pass.old r pass.new) }
-        ensures changes { OnOk result ∥ W.changes (W.state self.old.world) prepared.call prepared.change ∥₁ }
-        ensures world { OnOk result (W.applied self.old.world (length (entries self.old.history) + 1)
-            prepared.change self.new.world) }
+        requires admitted { Admits self.old pass.old }
+        requires shown { W.good (W.state (world_of self.old)) → W.shows (W.state (world_of self.old)) (view_of prepared) }
+        ensures reply { OnOk result
+            (reply_of prepared ≡ W.reply (W.state (world_of self.old)) (call_of prepared)) }
+        ensures accepted { IfOk result (λ receipt.
+            Accepts self.old pass.old (call_of prepared) (change_of prepared) receipt self.new pass.new) }
+        ensures refused { OnErr result (AreUnchanged self.old pass.old self.new pass.new) }
         ensures back { IfErr result (λ p. p ≡ prepared) }
-        ensures same_history { OnErr result (entries self.new.history ≡ entries self.old.history) }
-        ensures same_pass { OnErr result (SamePass pass.old pass.new) }
-        ensures same_world { OnErr result (W.alike self.old.world self.new.world) }
     {
         let grown = self.grow(pass, &prepared.call, &prepared.reply, &prepared.change);
         let Ok((first, second)) = grown else {
@@ -159,19 +154,18 @@ impl<W: World> Room<W> {
         reply: &W::Reply,
         change: &W::Change,
     ) -> Result<(Receipt<W::Call, W::Reply>, Receipt<W::Call, W::Reply>), AllocError>
-        ensures world { W.alike self.old.world self.new.world }
-        ensures history { entries self.new.history ≡ entries self.old.history }
-        ensures number { self.new.number ≡ self.old.number }
+        ensures world { W.alike (world_of self.old) (world_of self.new) }
+        ensures history { entries_of self.new ≡ entries_of self.old }
+        ensures number { room_number self.new ≡ room_number self.old }
         ensures desks { self.new.desks ≡ self.old.desks }
         ensures pass { SamePass pass.old pass.new }
-        ensures history_room { OnOk result (HasRoom self.new.history.entries) }
-        ensures pass_room { OnOk result (HasRoom pass.new.receipts) }
-        ensures world_room { OnOk result (W.has_room self.new.world
-            (length (entries self.old.history) + 1) change.now) }
-        ensures first { IfOk result (λ r. r.0 ≡ receipt (length (entries self.old.history) + 1)
-            (entry pass.old.desk call.now reply.now)) }
-        ensures second { IfOk result (λ r. r.1 ≡ receipt (length (entries self.old.history) + 1)
-            (entry pass.old.desk call.now reply.now)) }
+        ensures history_room { OnOk result (HasRoomForEntry (history_of self.new)) }
+        ensures pass_room { OnOk result (HasRoomForReceipt pass.new) }
+        ensures world_room { OnOk result (W.has_room (world_of self.new) (next_position self.old) change.now) }
+        ensures first { IfOk result (λ r. r.0 ≡ receipt (next_position self.old)
+            (entry (desk_of pass.old) call.now reply.now)) }
+        ensures second { IfOk result (λ r. r.1 ≡ receipt (next_position self.old)
+            (entry (desk_of pass.old) call.now reply.now)) }
     {
         self.history.reserve()?;
         pass.reserve()?;
@@ -184,9 +178,11 @@ impl<W: World> Room<W> {
 }
 
 impl<W: World + Drop> Room<W> {
+    ghost use Rattle.casa_commit.specs.Rooms.{history_of};
+
     /// The history, which is legal.
     pub fn into_history(self) -> History<W::Call, W::Reply>
-        ensures same { result ≡ self.history }
+        ensures same { result ≡ history_of self }
         ensures legal { IsLegal W.after W.reply W.opening (entries result) }
     {
         self.history

@@ -4,8 +4,8 @@ use std::alloc::AllocError;
 
 /// Data of which views are taken, on which changes are worked out, and to which changes are applied.
 ///
-/// A world stands for a state. Each item of its data has a mark, which changes when the item is written; a view keeps
-/// the marks of what a call reads.
+/// A world stands for a state. Each item of its data has a version, which changes when the item is written; a view
+/// keeps the versions of what a call reads.
 pub trait World {
     type Call: Drop;
 
@@ -42,7 +42,7 @@ pub trait World {
     /// The view was taken on the world of this name.
     ghost is_of: { Self.View → Self → Type 0 };
 
-    /// The marks of the view are the present ones.
+    /// The versions of the view are the present ones.
     ghost is_current: { Self → Self.View → Type 0 };
 
     /// What the view shows is so in the state.
@@ -60,14 +60,14 @@ pub trait World {
     /// The second world is the first with the change of the entry with this number applied.
     ghost applied: { Self → ℕ → Self.Change → Self → Type 0 };
 
-    /// What the call reads, with the present marks. `AllocError` where there is no memory for it.
+    /// What the call reads, with the present versions. `AllocError` where there is no memory for it.
     fn view(&self, call: &Self::Call) -> Result<Self::View, AllocError>
-        ensures for_call { IfOk result (λ v. is_for v call.now) }
+        ensures for_call { IfOk result (λ v. good (state self.now) → is_for v call.now) }
         ensures of_world { IfOk result (λ v. is_of v self.now) }
         ensures current { IfOk result (λ v. is_current self.now v) }
         ensures shown { IfOk result (λ v. good (state self.now) → shows (state self.now) v) };
 
-    /// Whether all marks of the view are the present ones. Equal marks show equal contents.
+    /// Whether all versions of the view are the present ones. Equal versions show equal contents.
     fn same(&self, view: &Self::View) -> bool
         requires { is_of view.now self.now }
         ensures current { IsTrue result ↔ is_current self.now view.now }
@@ -112,7 +112,7 @@ pub trait World {
     /// Worlds that are alike stand for one state.
     ghost alike_state: { (w w' : Self) → alike w w' → state w' ≡ state w };
 
-    /// A view of a world is one of each world like it, with the same marks.
+    /// A view of a world is one of each world like it, with the same versions.
     ghost alike_views: { (w w' : Self) (v : Self.View) → alike w w' →
         (is_of v w ↔ is_of v w') × (is_current w v ↔ is_current w' v) };
 

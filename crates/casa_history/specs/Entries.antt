@@ -1,7 +1,5 @@
 use Rattle.std.specs.Prelude.{ℕ, ◌+◌, ◌-◌, ◌<◌, ◌==◌, Bool, if◌then◌else◌, Option, None, slice_get, List, [], ◌∷◌, filter, length, vec_len, vec_capacity}
 use Rattle.std.specs.Option.{option_map_or}
-use Rattle.std.specs.declared.vec.Vec.{Vec}
-use Rattle.std.proofs.Common.{Global}
 use Rattle.casa_history.specs.declared.entry.Entry.{Entry}
 use Rattle.casa_history.specs.declared.entry.Receipt.{Receipt}
 use Rattle.casa_history.specs.declared.history.History.{History}
@@ -15,9 +13,21 @@ entries h = h.entries.items
 abbrev pub receipts : {C R : Type 0} → Pass C R → List (Receipt C R)
 receipts p = p.receipts.items
 
--- there is room for one more
-abbrev pub HasRoom : {X : Type 0} → Vec X Global → Type 0
-HasRoom v = vec_len v < vec_capacity v
+-- the number of the engine that gave a pass
+abbrev pub number_of : {C R : Type 0} → Pass C R → ℕ
+number_of p = p.number
+
+-- the number of the desk that has a pass
+abbrev pub desk_of : {C R : Type 0} → Pass C R → ℕ
+desk_of p = p.desk
+
+-- a history has room for one more entry
+abbrev pub HasRoomForEntry : {C R : Type 0} → History C R → Type 0
+HasRoomForEntry h = vec_len h.entries < vec_capacity h.entries
+
+-- a pass has room for one more receipt
+abbrev pub HasRoomForReceipt : {C R : Type 0} → Pass C R → Type 0
+HasRoomForReceipt p = vec_len p.receipts < vec_capacity p.receipts
 
 -- the entry at a position, counted from 1
 abbrev pub entry_at : {C R : Type 0} → ℕ → List (Entry C R) → Option (Entry C R)

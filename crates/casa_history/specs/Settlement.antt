@@ -2,11 +2,11 @@ use Rattle.std.specs.Prelude.{◌≡◌, ◌⊎◌, ℕ, ◌<◌, ◌==◌, Bool
 use Rattle.casa_history.specs.declared.entry.Entry.{Entry}
 use Rattle.casa_history.specs.declared.entry.Receipt.{Receipt}
 use Rattle.casa_history.specs.declared.pass.Pass.{Pass}
-use Rattle.casa_history.specs.Entries.{receipts, receipts_of}
+use Rattle.casa_history.specs.Entries.{receipts, receipts_of, desk_of}
 
 -- whether a pass is a desk's
 abbrev pub is_pass_of : {C R : Type 0} → ℕ → Pass C R → Bool
-is_pass_of d p = p.desk == d
+is_pass_of d p = desk_of p == d
 
 -- the receipts of each pass of a desk
 abbrev pub passes_of : {C R : Type 0} → ℕ → List (Pass C R) → List (List (Receipt C R))

@@ -1,5 +1,5 @@
 /// A call of a desk with the reply that it got.
-#[derive(Drop)]
+#[derive(Debug, Drop)]
 pub struct Entry<C, R> {
     /// The number of the desk.
     pub desk: u32,
@@ -8,7 +8,7 @@ pub struct Entry<C, R> {
 }
 
 /// An entry with its position in the history.
-#[derive(Drop)]
+#[derive(Debug, Drop)]
 pub struct Receipt<C, R> {
     /// How many entries the history has up to and with this one.
     pub position: usize,

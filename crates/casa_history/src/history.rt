@@ -1,6 +1,6 @@
 ghost use Rattle.std.specs.Prelude.{◌≡◌, [], ◌∷◌, ◌++◌, length, OnOk};
 ghost use Rattle.std.specs.Option.{option_copied};
-ghost use Rattle.casa_history.specs.Entries.{entries, entry_at, HasRoom};
+ghost use Rattle.casa_history.specs.Entries.{entries, entry_at, HasRoomForEntry};
 
 use crate::entry::Entry;
 use std::alloc::{AllocError, Global};
@@ -8,7 +8,7 @@ use std::alloc::{AllocError, Global};
 /// The calls that were answered, oldest first, each with its desk and reply.
 ///
 /// A history only grows.
-#[derive(Drop)]
+#[derive(Debug, Drop)]
 pub struct History<C, R> {
     entries: Vec<Entry<C, R>>,
 }
@@ -47,14 +47,14 @@ impl<C, R> History<C, R> {
     /// Makes room for one more entry, or answers `AllocError` where there is no memory for it.
     pub fn reserve(&mut self) -> Result<(), AllocError>
         ensures same { entries self.new ≡ entries self.old }
-        ensures room { OnOk result (HasRoom self.new.entries) }
+        ensures room { OnOk result (HasRoomForEntry self.new) }
     {
         self.entries.reserve(1)
     }
 
     /// Appends an entry, for which `reserve` has made room.
     pub fn push(&mut self, entry: Entry<C, R>)
-        requires { HasRoom self.old.entries }
+        requires { HasRoomForEntry self.old }
         ensures { entries self.new ≡ entries self.old ++ entry ∷ [] }
     {
         self.entries.push_reserved(entry);

@@ -1,6 +1,6 @@
 ghost use Rattle.std.specs.Prelude.{◌≡◌, [], ◌∷◌, ◌++◌, length, OnOk};
 ghost use Rattle.std.specs.Option.{option_copied};
-ghost use Rattle.casa_history.specs.Entries.{receipts, latest, HasRoom};
+ghost use Rattle.casa_history.specs.Entries.{receipts, latest, number_of, desk_of, HasRoomForReceipt};
 
 use crate::entry::Receipt;
 use std::alloc::{AllocError, Global};
@@ -8,7 +8,7 @@ use std::alloc::{AllocError, Global};
 /// What a desk has in hand: its engine's number, its own, and the receipts of its calls, oldest first.
 ///
 /// A pass can't be cloned, so a desk has one.
-#[derive(Drop)]
+#[derive(Debug, Drop)]
 pub struct Pass<C, R> {
     number: u32,
     desk: u32,
@@ -18,8 +18,8 @@ pub struct Pass<C, R> {
 impl<C, R> Pass<C, R> {
     /// The pass of a desk that made no call yet.
     pub fn new(alloc: Global, number: u32, desk: u32) -> Pass<C, R>
-        ensures number { result.number ≡ number }
-        ensures desk { result.desk ≡ desk }
+        ensures number { number_of result ≡ number }
+        ensures desk { desk_of result ≡ desk }
         ensures empty { receipts result ≡ [] }
     {
         Pass {
@@ -31,14 +31,14 @@ impl<C, R> Pass<C, R> {
 
     /// The number of the engine that gave it.
     pub fn number(&self) -> u32
-        ensures { result ≡ self.now.number }
+        ensures { result ≡ number_of self.now }
     {
         self.number
     }
 
     /// The number of the desk.
     pub fn desk(&self) -> u32
-        ensures { result ≡ self.now.desk }
+        ensures { result ≡ desk_of self.now }
     {
         self.desk
     }
@@ -66,19 +66,19 @@ impl<C, R> Pass<C, R> {
 
     /// Makes room for one more receipt, or answers `AllocError` where there is no memory for it.
     pub fn reserve(&mut self) -> Result<(), AllocError>
-        ensures number { self.new.number ≡ self.old.number }
-        ensures desk { self.new.desk ≡ self.old.desk }
+        ensures number { number_of self.new ≡ number_of self.old }
+        ensures desk { desk_of self.new ≡ desk_of self.old }
         ensures same { receipts self.new ≡ receipts self.old }
-        ensures room { OnOk result (HasRoom self.new.receipts) }
+        ensures room { OnOk result (HasRoomForReceipt self.new) }
     {
         self.receipts.reserve(1)
     }
 
     /// Appends a receipt, for which `reserve` has made room.
     pub fn push(&mut self, receipt: Receipt<C, R>)
-        requires { HasRoom self.old.receipts }
-        ensures number { self.new.number ≡ self.old.number }
-        ensures desk { self.new.desk ≡ self.old.desk }
+        requires { HasRoomForReceipt self.old }
+        ensures number { number_of self.new ≡ number_of self.old }
+        ensures desk { desk_of self.new ≡ desk_of self.old }
         ensures pushed { receipts self.new ≡ receipts self.old ++ receipt ∷ [] }
     {
         self.receipts.push_reserved(receipt);

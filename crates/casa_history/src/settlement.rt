@@ -1,12 +1,13 @@
 ghost use Rattle.std.specs.Prelude.{◌≡◌, ◌≢◌, ◌↔◌, ◌⊎◌, ◌<◌, ℕ, true, [], length, map, All, Contains, IsTrue, IfSome, IfOk, IfErr};
 ghost use Rattle.casa_history.specs.declared.entry.Entry.{Entry};
 ghost use Rattle.casa_history.specs.declared.pass.Pass.{Pass};
-ghost use Rattle.casa_history.specs.Entries.{entries, receipts, receipts_of};
+ghost use Rattle.casa_history.specs.Entries.{entries, receipts, receipts_of, desk_of};
 ghost use Rattle.casa_history.specs.Settlement.{passes_of, IsSettled, Precedes};
 
 use crate::entry::{Entry, Receipt};
 use crate::history::History;
 use crate::pass::{Holds, Pass};
+use thiserror::Error;
 
 /// History and passes tell the same story.
 #[derive(Clone, Copy, PartialEq, Eq, Debug)]
@@ -18,7 +19,8 @@ pub struct Settled {
 }
 
 /// The least desk whose entries in the history are not the receipts of its one pass.
-#[derive(Clone, Copy, PartialEq, Eq, Debug)]
+#[derive(Clone, Copy, PartialEq, Eq, Debug, Error)]
+#[error("the entries of desk {0} are not the receipts of its one pass")]
 pub struct Torn(pub u32);
 
 /// Whether for each desk its entries in the history, with their positions, are the receipts of its one pass.
@@ -55,8 +57,8 @@ fn torn_pass<C: PartialEq, R: PartialEq, P: Holds<C, R>>(
     requires calls { (x y : C) → C.eq x y ≡ true ↔ x ≡ y }
     requires replies { (x y : R) → R.eq x y ≡ true ↔ x ≡ y }
     ensures torn { IfSome result (λ d. ¬ (IsSettled d (entries history.now) (map P.held passes.now))) }
-    ensures others { All (λ (p : Pass C R). Precedes p.desk result →
-        IsSettled p.desk (entries history.now) (map P.held passes.now)) (map P.held passes.now) }
+    ensures others { All (λ (p : Pass C R). Precedes (desk_of p) result →
+        IsSettled (desk_of p) (entries history.now) (map P.held passes.now)) (map P.held passes.now) }
 {
     let mut torn = None;
     for holder in passes {
@@ -115,7 +117,7 @@ fn is_settled<C: PartialEq, R: PartialEq, P: Holds<C, R>>(
     requires calls { (x y : C) → C.eq x y ≡ true ↔ x ≡ y }
     requires replies { (x y : R) → R.eq x y ≡ true ↔ x ≡ y }
     requires among { Contains (map P.held passes.now) pass.now }
-    ensures { IsTrue result ↔ IsSettled pass.now.desk (entries history.now) (map P.held passes.now) }
+    ensures { IsTrue result ↔ IsSettled (desk_of pass.now) (entries history.now) (map P.held passes.now) }
 {
     count_passes(passes, pass.desk()) == 1 && are_receipts(history, pass)
 }
@@ -150,7 +152,7 @@ fn count_passes<C, R, P: Holds<C, R>>(passes: &[P], desk: u32) -> usize
 fn are_receipts<C: PartialEq, R: PartialEq>(history: &History<C, R>, pass: &Pass<C, R>) -> bool
     requires calls { (x y : C) → C.eq x y ≡ true ↔ x ≡ y }
     requires replies { (x y : R) → R.eq x y ≡ true ↔ x ≡ y }
-    ensures { IsTrue result ↔ (receipts pass.now ≡ receipts_of pass.now.desk (entries history.now)) }
+    ensures { IsTrue result ↔ (receipts pass.now ≡ receipts_of (desk_of pass.now) (entries history.now)) }
 {
     let desk = pass.desk();
     let mut rest = pass.receipts();

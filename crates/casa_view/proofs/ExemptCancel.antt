@@ -30,7 +30,7 @@ use Rattle.casa_view.proofs.Forms.{Decides, DecidesWrites, DecidesReads, Spares}
 abbrev SameLists : State → State → Text → Type 0
 SameLists m n key = (id : Text) → is_list_of m key id ≡ true → list_of m id ≡ list_of n id
 
--- the flight's lists are told by the catalogue and its row
+-- the catalogue and its row decide the flight's lists
 lists_read : (m n : State) (key id : Text) → contents m the_catalogue ≡ contents n the_catalogue → contents m (a_row key) ≡ contents n (a_row key) → is_list_of m key id ≡ is_list_of n key id
 lists_read m n key id c r = is_list_of_same m n key id (catalogue_in m n c) (row_in m n key r)
 

@@ -5,6 +5,7 @@ use Rattle.casa_flight.specs.declared.call.Call.{Call}
 use Rattle.casa_flight.specs.declared.call.Call.TheVariants.{File, Cancel, OpenReg, Tick, Show, List as ListOf}
 use Rattle.casa_flight.specs.declared.plan.Crossing.{Crossing}
 use Rattle.casa_flight.specs.declared.plan.Sts.TheVariants.{Plain}
+use Rattle.casa_flight.specs.declared.reply.Reply.{Reply}
 use Rattle.casa_flight.specs.declared.state.State.{State}
 use Rattle.casa_flight.specs.Text.{Text}
 use Rattle.casa_flight.specs.FlightPlan.{FlightPlan}
@@ -13,10 +14,11 @@ use Rattle.casa_flight.specs.Steps.{next}
 use Rattle.casa_flight.specs.Replies.{reply}
 use Rattle.casa_view.specs.Items.{Item, the_clock, the_catalogue, a_row, a_list}
 use Rattle.casa_view.specs.Footprint.{reads, writes}
-use Rattle.casa_view.specs.Stamps.{Entry, replay, stamp}
+use Rattle.casa_history.specs.declared.entry.Entry.{Entry}
+use Rattle.casa_view.specs.Stamps.{state_after, stamp}
 
 -- the entries of these calls, replied to as the sequential allocator replies in this state
-abbrev entries : State → List Call → List Entry
+abbrev entries : State → List Call → List (Entry Call Reply)
 entries m [] = []
 entries m (c ∷ cs) = record { desk = 0; call = c; reply = reply m c } ∷ entries (next m c) cs
 
@@ -43,38 +45,38 @@ abbrev opening : Text → Text → ℕ → ℕ → Call
 opening id loc from until = OpenReg id loc (record { begin = from; until = until; rate = 30 } ∷ [])
 
 -- A has a place in R1 and is forced in R2; D has one in R2; B is governed by R2 and forced in R1
-abbrev busy : List Entry
+abbrev busy : List (Entry Call Reply)
 busy = entries empty (opening r1 la 36000 37200 ∷ opening r2 lb 36600 37800 ∷ File (plan (codes "A") (over la 36010 ∷ over lb 36610 ∷ [])) ∷ File (plan (codes "D") (over lb 36601 ∷ [])) ∷ File (plan (codes "B") (over la 36005 ∷ over lb 36615 ∷ [])) ∷ [])
 
 abbrev items : List Item
 items = the_clock ∷ the_catalogue ∷ a_row (codes "A") ∷ a_row (codes "B") ∷ a_row (codes "C") ∷ a_row (codes "D") ∷ a_list r1 ∷ a_list r2 ∷ a_list (codes "R3") ∷ []
 
 -- B's delay is in R2's list
-show_reads : map (reads (replay busy) (Show (codes "B"))) items ≡ false ∷ false ∷ false ∷ true ∷ false ∷ false ∷ false ∷ true ∷ false ∷ []
+show_reads : map (reads (state_after busy) (Show (codes "B"))) items ≡ false ∷ false ∷ false ∷ true ∷ false ∷ false ∷ false ∷ true ∷ false ∷ []
 show_reads = refl
 
 -- R1 shows B with the delay that it has in R2
-list_reads : map (reads (replay busy) (ListOf r1)) items ≡ false ∷ true ∷ false ∷ true ∷ false ∷ false ∷ true ∷ true ∷ false ∷ []
+list_reads : map (reads (state_after busy) (ListOf r1)) items ≡ false ∷ true ∷ false ∷ true ∷ false ∷ false ∷ true ∷ true ∷ false ∷ []
 list_reads = refl
 
 -- C crosses LB alone
-file_writes : map (writes (replay busy) (File (plan (codes "C") (over lb 36700 ∷ [])))) items ≡ false ∷ false ∷ false ∷ false ∷ true ∷ false ∷ false ∷ true ∷ false ∷ []
+file_writes : map (writes (state_after busy) (File (plan (codes "C") (over lb 36700 ∷ [])))) items ≡ false ∷ false ∷ false ∷ false ∷ true ∷ false ∷ false ∷ true ∷ false ∷ []
 file_writes = refl
 
-refused_writes : map (writes (replay busy) (File (plan (codes "B") (over lb 36700 ∷ [])))) items ≡ false ∷ false ∷ false ∷ false ∷ false ∷ false ∷ false ∷ false ∷ false ∷ []
+refused_writes : map (writes (state_after busy) (File (plan (codes "B") (over lb 36700 ∷ [])))) items ≡ false ∷ false ∷ false ∷ false ∷ false ∷ false ∷ false ∷ false ∷ false ∷ []
 refused_writes = refl
 
 -- all three become issued
-tick_writes : map (writes (replay busy) (Tick 22800)) items ≡ true ∷ false ∷ true ∷ true ∷ false ∷ true ∷ true ∷ true ∷ false ∷ []
+tick_writes : map (writes (state_after busy) (Tick 22800)) items ≡ true ∷ false ∷ true ∷ true ∷ false ∷ true ∷ true ∷ true ∷ false ∷ []
 tick_writes = refl
 
 stamps : map (stamp busy) items ≡ 0 ∷ 2 ∷ 3 ∷ 5 ∷ 0 ∷ 4 ∷ 5 ∷ 5 ∷ 0 ∷ []
 stamps = refl
 
 -- whether what the call reads after these entries has the same stamps after some more calls, among these items
-abbrev is_unmoved_by : List Entry → List Call → Call → Bool
+abbrev is_unmoved_by : List (Entry Call Reply) → List Call → Call → Bool
 is_unmoved_by history calls call =
-    list_all (λ (i : Item). not (reads (replay history) call i) || (stamp history i == stamp (history ++ entries (replay history) calls) i)) items
+    list_all (λ (i : Item). not (reads (state_after history) call i) || (stamp history i == stamp (history ++ entries (state_after history) calls) i)) items
 
 abbrev plain : Call
 plain = File (plan (codes "C") [])

@@ -2,15 +2,17 @@
 
 ghost use Rattle.std.specs.Prelude.{◌≡◌, false, List, ◌++◌, None};
 ghost use Rattle.casa_flight.specs.declared.call.Call.{Call};
+ghost use Rattle.casa_flight.specs.declared.reply.Reply.{Reply};
 ghost use Rattle.casa_flight.specs.declared.state.State.{State};
 ghost use Rattle.casa_flight.specs.Text.{Text};
 ghost use Rattle.casa_flight.specs.Listing.{list_of};
 ghost use Rattle.casa_flight.specs.Good.{IsGood};
 ghost use Rattle.casa_flight.specs.Steps.{next};
 ghost use Rattle.casa_flight.specs.Replies.{reply};
+ghost use Rattle.casa_history.specs.declared.entry.Entry.{Entry};
 ghost use Rattle.casa_view.specs.Items.{Item, the_catalogue, contents, AgreeOn};
 ghost use Rattle.casa_view.specs.Footprint.{reads, writes};
-ghost use Rattle.casa_view.specs.Stamps.{Entry, View, replay, stamp, IsUnmoved};
+ghost use Rattle.casa_view.specs.Stamps.{View, state_after, stamp, IsUnmoved};
 
 /// What a call reads decides its reply, which items it writes, and what these contain afterwards: two good states
 /// that agree on what the call reads in the first of them differ in none of these.
@@ -39,11 +41,12 @@ pub fn reads_decide_reads()
 /// every item, also the absence of a row that came back. So where a view is unmoved, its items contain what they
 /// contained when it saw them. The catalogue's stamp answers for the lists that are absent.
 pub fn equal_stamps_show_equal_items()
-    ensures item { (history later : List Entry) (i : Item) → stamp history i ≡ stamp (history ++ later) i →
-        contents (replay history) i ≡ contents (replay (history ++ later)) i }
-    ensures view { (history later : List Entry) (view : View) → IsUnmoved view history →
-        IsUnmoved view (history ++ later) → AgreeOn view.has (replay history) (replay (history ++ later)) }
-    ensures absent { (history later : List Entry) (id : Text) →
+    ensures item { (history later : List (Entry Call Reply)) (i : Item) →
+        stamp history i ≡ stamp (history ++ later) i →
+        contents (state_after history) i ≡ contents (state_after (history ++ later)) i }
+    ensures view { (history later : List (Entry Call Reply)) (view : View) → IsUnmoved view history →
+        IsUnmoved view (history ++ later) → AgreeOn view.has (state_after history) (state_after (history ++ later)) }
+    ensures absent { (history later : List (Entry Call Reply)) (id : Text) →
         stamp history the_catalogue ≡ stamp (history ++ later) the_catalogue →
-        list_of (replay history) id ≡ None → list_of (replay (history ++ later)) id ≡ None }
+        list_of (state_after history) id ≡ None → list_of (state_after (history ++ later)) id ≡ None }
 {}

@@ -9,4 +9,4 @@ IsChange v to d = (d.writes ≡ not (is_full v)) × (d.to ≡ to) × (d.writes �
 
 -- the cells with a change by entry n
 abbrev pub changed : ℕ → Change → List Cell → List Cell
-changed n d cells = if d.writes then slice_set cells d.to (record { value = d.value; stamp = n }) else cells
+changed n d cells = if d.writes then slice_set cells d.to (record { value = d.value; version = n }) else cells

@@ -6,7 +6,7 @@ use Rattle.cells.specs.declared.cell.Answer.TheVariants.{Value, Full}
 
 -- a cell that nobody wrote
 abbrev pub blank : Cell
-blank = record { value = 0; stamp = 0 }
+blank = record { value = 0; version = 0 }
 
 -- the four cells before any call
 abbrev pub opening : List Cell
@@ -32,4 +32,4 @@ reply cells c = answer_of (cell_at cells c.from).value
 abbrev pub after : ℕ → List Cell → Copying → List Cell
 after n cells c =
     if is_full (cell_at cells c.from).value then cells
-    else slice_set cells c.to (record { value = (cell_at cells c.from).value + 1; stamp = n })
+    else slice_set cells c.to (record { value = (cell_at cells c.from).value + 1; version = n })

@@ -15,15 +15,15 @@ cells_set = Coded-set (coded_list row.the_row.coded)
 
 -- by whether the value is the greatest
 changed_by : (cells : List Cell) (n v to : ℕ) (d : Change) → IsChange v to d → (b : Bool) → is_full v ≡ b
-    → changed n d cells ≡ (if b then cells else slice_set cells to (record { value = v + 1; stamp = n }))
+    → changed n d cells ≡ (if b then cells else slice_set cells to (record { value = v + 1; version = n }))
 changed_by cells n v to d is true full =
     let written : Bool → List Cell = λ b.
-    if b then slice_set cells d.to (record { value = d.value; stamp = n }) else cells in
+    if b then slice_set cells d.to (record { value = d.value; version = n }) else cells in
     ap written (is.0 ∙ ap not full)
 changed_by cells n v to d is false full =
     let written : Bool → List Cell = λ b.
-    if b then slice_set cells d.to (record { value = d.value; stamp = n }) else cells in
-    let cell : ℕ → Cell = λ x. record { value = x; stamp = n } in
+    if b then slice_set cells d.to (record { value = d.value; version = n }) else cells in
+    let cell : ℕ → Cell = λ x. record { value = x; version = n } in
     let writes : d.writes ≡ true = is.0 ∙ ap not full in
     ap written writes ∙ ap (λ t. slice_set cells t (cell d.value)) is.1
     ∙ ap (λ x. slice_set cells to (cell x)) (is.2 writes)

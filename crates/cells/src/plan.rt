@@ -12,7 +12,7 @@ pub fn copied(view: &View, call: &Copying) -> Result<(Answer, Change), AllocErro
     ensures change { IfOk result (λ answer. IsChange view.now.cell.value call.now.to answer.1) }
 {
     let value = view.cell.value;
-    let to = call.to();
+    let to = call.to;
     match value.checked_add(1) {
         Some(value_after) => Ok((
             Answer::Value(value),

@@ -2,6 +2,7 @@ ghost use Rattle.std.specs.Prelude.{◌≡◌, ◌<◌, List, refl};
 ghost use Rattle.std.proofs.Common.{ap, sym, ◌∙◌};
 ghost use Rattle.cells.specs.declared.cell.Cell.{Cell};
 ghost use Rattle.cells.specs.declared.world.Cells.{Cells};
+ghost use Rattle.cells.specs.Cells.{cells_of};
 ghost use Rattle.cells.specs.Copies.{opening, cell_at, after, reply};
 ghost use Rattle.cells.specs.Changes.{IsChange, changed};
 ghost use Rattle.cells.specs.Laws.{cells_set, changed_after};
@@ -19,17 +20,20 @@ pub struct Cells {
 impl Cells {
     /// Four cells with 0 that nobody wrote.
     pub fn new() -> Cells
-        ensures { result.cells ≡ opening }
+        ensures { cells_of result ≡ opening }
     {
         Cells {
-            cells: [Cell { value: 0, stamp: 0 }; 4],
+            cells: [Cell {
+                value: 0,
+                version: 0,
+            }; 4],
         }
     }
 
     /// The value of a cell.
     pub fn value(&self, at: usize) -> u32
         requires { at < 4 }
-        ensures { result ≡ (cell_at self.now.cells at).value }
+        ensures { result ≡ (cell_at (cells_of self.now) at).value }
     {
         self.cells[at].value
     }
@@ -48,7 +52,7 @@ impl World for Cells {
 
     ghost state_set = { cells_set };
 
-    ghost state = { λ w. w.cells };
+    ghost state = { cells_of };
 
     ghost opening = { opening };
 
@@ -62,7 +66,7 @@ impl World for Cells {
 
     ghost is_of = { λ v w. Unit {0} };
 
-    ghost is_current = { λ w v. cell_at w.cells v.from ≡ v.cell };
+    ghost is_current = { λ w v. cell_at (cells_of w) v.from ≡ v.cell };
 
     ghost shows = { λ s v. (cell_at s v.from).value ≡ v.cell.value };
 
@@ -72,10 +76,10 @@ impl World for Cells {
 
     ghost has_room = { λ w n d. Unit {0} };
 
-    ghost applied = { λ w n d x. x.cells ≡ changed n d w.cells };
+    ghost applied = { λ w n d x. cells_of x ≡ changed n d (cells_of w) };
 
     fn view(&self, call: &Copying) -> Result<View, AllocError> {
-        let from = call.from();
+        let from = call.from;
         Ok(View {
             from,
             cell: self.cells[from],
@@ -94,7 +98,7 @@ impl World for Cells {
         if change.writes {
             self.cells[change.to] = Cell {
                 value: change.value,
-                stamp: number,
+                version: number,
             };
         }
     }
@@ -111,19 +115,19 @@ impl World for Cells {
 
     ghost good_after = { λ n s c fine. tt };
 
-    ghost applied_after = { λ w n c d x fine is applied. changed_after w.cells x.cells n c d is applied };
+    ghost applied_after = { λ w n c d x fine is applied. changed_after (cells_of w) (cells_of x) n c d is applied };
 
-    ghost alike_applied = { λ w x n d y same applied. applied ∙ ap (λ (s : Cells). changed n d s.cells) same };
+    ghost alike_applied = { λ w x n d y same applied. applied ∙ ap (λ (s : Cells). changed n d (cells_of s)) same };
 
     ghost alike_same = { λ w. refl };
 
-    ghost alike_state = { λ w x same. ap (λ (s : Cells). s.cells) same };
+    ghost alike_state = { λ w x same. ap cells_of same };
 
     ghost alike_views = { λ w x v same. (
       (λ _. tt, λ _. tt),
       (
-        λ now. ap (λ (s : Cells). cell_at s.cells v.from) same ∙ now,
-        λ now. ap (λ (s : Cells). cell_at s.cells v.from) (sym same) ∙ now,
+        λ now. ap (λ (s : Cells). cell_at (cells_of s) v.from) same ∙ now,
+        λ now. ap (λ (s : Cells). cell_at (cells_of s) v.from) (sym same) ∙ now,
       ),
     ) };
 

@@ -1,11 +1,11 @@
 use Rattle.std.specs.declared.vec.Vec.{Vec}
-use Rattle.std.proofs.Common.{Global, set, ◌<◌, ◌≡◌, ◌+◌, List, [], ◌∷◌, ◌++◌, length, refl, sym, ap, subst, ◌∙◌, rules}
+use Rattle.std.proofs.Common.{Global, ℕ, set, ◌<◌, ◌≡◌, ◌+◌, List, [], ◌∷◌, ◌++◌, length, refl, sym, ap, subst, ◌∙◌, rules}
 use Rattle.std.proofs.Math.Logic.{∥∥₁_elim, ∥∥₁_map}
 use Rattle.std.proofs.lemmas.Option.{get_or_from_slice_get, slice_get_read}
 use base.Stored.{Coded-set}
 use Rattle.casa_history.specs.declared.entry.Entry.{Entry}
 use Rattle.casa_history.specs.declared.entry.Receipt.{Receipt}
-use Rattle.casa_history.specs.Entries.{entries}
+use Rattle.casa_history.specs.Entries.{entries, receipt}
 use Rattle.casa_commit.specs.declared.tally.Tally.{Tally}
 use Rattle.casa_commit.specs.Legal.{entry, replay, IsLegal}
 use Rattle.casa_commit.specs.Desks.{AreTallies, no_calls}
@@ -31,15 +31,42 @@ returns-clause-reply g c =
     ∥∥₁_elim c.args.prepared.holds (Coded-set g.row.W-Reply.coded _ _)
     (λ h. (h (W.state w) fine (c.requires.shown fine)).0)
 
--- so is the prepared change what it writes
-pub returns-clause-changes : goal.returns-clause-changes
-returns-clause-changes g c =
+-- the room and the pass are those after the entry
+pub returns-clause-accepted : goal.returns-clause-accepted
+returns-clause-accepted g c =
     let W = g.W.World in
     let m = g.met.W.World in
-    let w = c.args.self.now.world in
-    let es = entries c.args.self.now.history in
-    let fine = good_state W.good W.after m.good_after W.opening m.good_opening es (W.state w) c.args.self.now.replayed in
-    ∥∥₁_map c.args.prepared.holds (λ h. (h (W.state w) fine (c.requires.shown fine)).1)
+    let room = c.args.self.now in
+    let w = room.world in
+    let es = entries room.history in
+    let p = c.args.prepared in
+    let pass = c.args.pass.now in
+    let fine = good_state W.good W.after m.good_after W.opening m.good_opening es (W.state w) room.replayed in
+    let says : p.reply ≡ W.reply (W.state w) p.call =
+    ∥∥₁_elim p.holds (Coded-set g.row.W-Reply.coded _ _)
+    (λ h. (h (W.state w) fine (c.requires.shown fine)).0) in
+    let e : OfWorld g = entry c.desk-desk.result p.call p.reply in
+    let desk : c.desk-desk.result ≡ pass.desk = search (rules) in
+    let same : e ≡ entry pass.desk p.call (W.reply (W.state w) p.call) =
+    ap (λ (d : ℕ). entry d p.call p.reply) desk ∙ ap (entry pass.desk p.call) says in
+    let items = pushed_behind (entries c.push.new.self) _ es e c.push.ensures c.grow-grown.ensures.history in
+    let number : c.in-Ok.second.position ≡ length es + 1 =
+    ap (λ (r : ReceiptOfWorld g). r.position) c.in-Ok.ensures.second in
+    let applied =
+    m.alike_applied w c.grow-grown.new.self.world c.in-Ok.second.position p.change c.apply.new.self
+    c.grow-grown.ensures.world c.apply.ensures in
+    record {
+      admitted = c.requires.admitted;
+      history = items ∙ ap (λ (x : OfWorld g). es ++ x ∷ []) same;
+      legal = search (rules);
+      receipt_is = c.in-Ok.ensures.first ∙ ap (λ x. receipt (length es + 1) (entry pass.desk p.call x)) says;
+      pass_with = search (rules);
+      written = ∥∥₁_map p.holds (λ h. (h (W.state w) fine (c.requires.shown fine)).1);
+      applied = subst (λ (k : ℕ). W.applied w k p.change c.apply.new.self) number applied;
+      replayed = search (rules);
+      number = search (rules);
+      desks = search (rules);
+    }
 
 -- the change gives the state after the call, which is the replay with the new entry
 pub invariant_of-self-clause-replayed : goal.invariant_of-self-clause-replayed

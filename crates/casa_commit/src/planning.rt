@@ -1,0 +1,47 @@
+ghost use Rattle.std.specs.Prelude.{◌≡◌, IfOk};
+ghost use Rattle.casa_commit.specs.Answers.{OwesAnswers};
+ghost use Rattle.casa_commit.specs.Prepared.{call_of, view_of};
+
+use crate::prepared::Prepared;
+use crate::world::World;
+use std::alloc::AllocError;
+
+/// Works out the answer to a call on a view of what it reads, or answers `AllocError` where `plan` does.
+///
+/// `plan` owes the reply and the change of the call in every state in order that shows the view. No room and no lock
+/// is held meanwhile.
+pub fn prepare<W: World, F: Fn(&W::View, &W::Call) -> Result<(W::Reply, W::Change), AllocError>>(
+    view: W::View,
+    call: W::Call,
+    plan: &F,
+) -> Result<Prepared<W>, AllocError>
+    requires for_call { W.is_for view call }
+    requires callable { (v : _) (c : _) → W.is_for v.now c.now → F.pre plan.now v c }
+    requires owes { OwesAnswers W.World (F.post plan.now) }
+    ensures call { IfOk result (λ p. call_of p ≡ call) }
+    ensures view { IfOk result (λ p. view_of p ≡ view) }
+{
+    let (reply, change) = plan(&view, &call)?;
+    Ok(Prepared {
+        call,
+        view,
+        reply,
+        change,
+    })
+}
+
+/// The answer to a call, worked out on a view of the world as it is.
+pub(crate) fn prepared_now<
+    W: World,
+    F: Fn(&W::View, &W::Call) -> Result<(W::Reply, W::Change), AllocError>,
+>(world: &W, call: &W::Call, plan: &F) -> Result<Prepared<W>, AllocError>
+    requires good { W.good (W.state world.now) }
+    requires callable { (v : _) (c : _) → W.is_for v.now c.now → F.pre plan.now v c }
+    requires owes { OwesAnswers W.World (F.post plan.now) }
+    ensures call { IfOk result (λ p. call_of p ≡ call.now) }
+    ensures shown { IfOk result (λ p. W.good (W.state world.now) → W.shows (W.state world.now) (view_of p)) }
+{
+    let view = world.view(call)?;
+    let call = W::copy_call(call)?;
+    prepare::<W, F>(view, call, plan)
+}

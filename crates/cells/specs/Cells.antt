@@ -1,0 +1,7 @@
+use Rattle.std.specs.Prelude.{List}
+use Rattle.cells.specs.declared.cell.Cell.{Cell}
+use Rattle.cells.specs.declared.world.Cells.{Cells}
+
+-- the four cells
+abbrev pub cells_of : Cells → List Cell
+cells_of world = world.cells
