@@ -80,7 +80,7 @@ impl Grid {
         (ended < windows.len()).then_some(ended)
     }
 
-    /// The slot whose window holds this moment, and there is no second one in a profile; `None` where no window does.
+    /// The slot whose window holds this moment; `None` where no window does. In a profile no two windows hold one moment.
     pub fn window_of(&self, at: Moment) -> Option<usize>
         ensures value { result ≡ window_of (slots self.now) at }
         ensures valid { IsProfile self.now }

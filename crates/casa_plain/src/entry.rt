@@ -9,7 +9,7 @@ ghost use Rattle.casa_flight.specs.Entry.{situation, offer_in, offer, offers, mo
 ghost use Rattle.casa_flight.specs.Entry.{entered, enter, reenter, enter_all};
 
 use crate::plain::Plain;
-use crate::slot_list::SlotList;
+use crate::plain_list::PlainList;
 use crate::standing::{is_due, is_exempt, is_gone, ungoverned};
 use casa_flight::{Comp, Key, Measure, RegId, Regulation, Row, Stance, subject};
 use casa_time::Moment;
@@ -41,11 +41,11 @@ fn list_with(
     rows: &BTreeMap<Key, Row>,
     id: RegId,
     measure: Option<&Measure>,
-) -> Result<Option<SlotList>, AllocError>
+) -> Result<Option<PlainList>, AllocError>
     ensures { IfOk result (λ list. list ≡ option_map (listing rows.now.entries id) (option_copied measure.entry)) }
 {
     match measure {
-        Some(measure) => Ok(Some(SlotList::of(alloc, rows, id, measure)?)),
+        Some(measure) => Ok(Some(PlainList::of(alloc, rows, id, measure)?)),
         None => Ok(None),
     }
 }
@@ -55,7 +55,7 @@ fn offer_in(
     alloc: Global,
     id: RegId,
     key: Key,
-    list: Option<SlotList>,
+    list: Option<PlainList>,
     eto: Option<Moment>,
 ) -> Result<Option<Offer>, AllocError>
     ensures { IfOk result (λ offer. offer ≡ offer_in id key list eto) }
@@ -107,7 +107,7 @@ fn governed(clock: Moment, row: Row, offer: Offer) -> Row
 
 impl Plain {
     /// The list of an open regulation.
-    pub(crate) fn list_of(&self, alloc: Global, id: RegId) -> Result<Option<SlotList>, AllocError>
+    pub(crate) fn list_of(&self, alloc: Global, id: RegId) -> Result<Option<PlainList>, AllocError>
         ensures { IfOk result (λ list. list ≡ list_of self.now id) }
     {
         list_with(alloc, self.rows(), id, self.measure(id))
@@ -118,7 +118,7 @@ impl Plain {
         &self,
         alloc: Global,
         row: &Row,
-    ) -> Result<Option<SlotList>, AllocError>
+    ) -> Result<Option<PlainList>, AllocError>
         ensures { IfOk result (λ list. list ≡ governing_list self.now row.now) }
     {
         match row.governing {

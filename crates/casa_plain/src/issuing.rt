@@ -9,7 +9,7 @@ ghost use Rattle.casa_flight.specs.Listing.{Listing, cto_of, delay_in, delay_of,
 ghost use Rattle.casa_flight.specs.Entry.{is_to_issue, issued_in, issue_if, issue_due};
 
 use crate::plain::Plain;
-use crate::slot_list::SlotList;
+use crate::plain_list::PlainList;
 use crate::standing::is_due;
 use casa_flight::{Key, Row};
 use casa_time::Moment;
@@ -17,7 +17,7 @@ use std::alloc::{AllocError, Global};
 use std::collections::BTreeMap;
 
 /// The flight's delay in this list, and none without one.
-fn delay_at(alloc: Global, list: Option<SlotList>, key: Key) -> Result<u32, AllocError>
+fn delay_at(alloc: Global, list: Option<PlainList>, key: Key) -> Result<u32, AllocError>
     ensures value { IfOk result (λ delay. delay ≡ option_map_or (λ (l : Listing). delay_in l key) list 0) }
     ensures in_range { IfOk result (λ delay. delay ≤ last_moment) }
 {
@@ -28,7 +28,7 @@ fn delay_at(alloc: Global, list: Option<SlotList>, key: Key) -> Result<u32, Allo
 }
 
 /// The flight's calculated time over in this list.
-fn cto_at(alloc: Global, list: Option<SlotList>, key: Key) -> Result<Option<Moment>, AllocError>
+fn cto_at(alloc: Global, list: Option<PlainList>, key: Key) -> Result<Option<Moment>, AllocError>
     ensures { IfOk result (λ cto. cto ≡ option_and_then (λ (l : Listing). cto_of l key) list) }
 {
     match list {

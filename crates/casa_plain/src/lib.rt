@@ -11,8 +11,8 @@ mod flights;
 mod issuing;
 mod order;
 mod plain;
+mod plain_list;
 mod replies;
-mod slot_list;
 mod standing;
 mod steps;
 

@@ -16,7 +16,7 @@ use std::marker::Model;
 /// The slow sequential allocator.
 ///
 /// Contracts see it as the state of the definitions.
-#[derive(Drop)]
+#[derive(Drop, Debug)]
 pub struct Plain {
     clock: Moment,
     regs: BTreeMap<RegId, Measure>,
@@ -43,7 +43,7 @@ impl Plain {
         }
     }
 
-    /// Does what the call asks, and replies. Where memory is wanting, nothing changes.
+    /// Does what the call asks, and replies; `AllocError` where memory is refused, and then nothing changes.
     pub fn step(&mut self, alloc: Global, call: &Call) -> Result<Reply, AllocError>
         ensures reply { IfOk result (λ r. r ≡ reply self.old call.now) }
         ensures state { OnOk result (self.new ≡ next self.old call.now) }

@@ -1,34 +1,24 @@
 //! What the allocator replies: the answer to a call, and the messages of a change.
 
-ghost use Rattle.std.specs.Prelude.{◌≡◌, ◌≤◌, IfOk, OnOk, OnErr, map, option_copied};
-ghost use Rattle.std.specs.Option.{option_map_or};
-ghost use Rattle.casa_time.specs.Moment.{last_moment};
-ghost use Rattle.std.specs.List.{filter_map};
-ghost use Rattle.casa_flight.specs.declared.regulation.Measure.{Measure};
-ghost use Rattle.casa_flight.specs.declared.row.Row.{Row};
-ghost use Rattle.casa_flight.specs.declared.row.Stance.{Stance};
-ghost use Rattle.casa_flight.specs.Text.{Text};
-ghost use Rattle.casa_flight.specs.State.{regulation};
-ghost use Rattle.casa_flight.specs.Listing.{in_order, listing, delay_of, ctot_of};
+ghost use Rattle.std.specs.Prelude.{◌≡◌, IfOk, OnOk, OnErr, option_copied};
 ghost use Rattle.casa_flight.specs.Steps.{next, step};
 ghost use Rattle.casa_flight.specs.Replies.{flight_reply, flight_answer, slot_number, forced_time, row_in};
-ghost use Rattle.casa_flight.specs.Replies.{is_row_before, list_rows, list_reply, list_answer, answer, is_issued};
-ghost use Rattle.casa_flight.specs.Replies.{message_of, ctot_before, message, messages, reply};
+ghost use Rattle.casa_flight.specs.Replies.{list_rows, list_reply, list_answer, answer, is_issued};
+ghost use Rattle.casa_flight.specs.Replies.{ctot_before, message, messages, reply};
 ghost use Rattle.casa_plain.specs.Outcome.{step_of};
 
 use crate::order::put_row;
 use crate::plain::Plain;
-use crate::slot_list::SlotList;
+use crate::plain_list::PlainList;
 use crate::standing::{is_exempt, regulation};
 use crate::steps::Outcome;
 use casa_flight::{
-    Answer, Call, FlightReply, Key, Kind, ListReply, ListRow, Measure, Message, Messages, RegId,
-    Regulation, Reply, Row, Rows, Stance,
+    Answer, Call, FlightReply, Key, Kind, ListReply, ListRow, Message, Messages, RegId, Regulation,
+    Reply, Row, Rows, Stance,
 };
 use casa_grid::Place;
 use casa_time::Moment;
 use std::alloc::{AllocError, Global};
-use std::collections::BTreeMap;
 
 /// The number of the slot at a place, if it is one.
 fn slot_number(place: Place) -> Option<usize>
@@ -44,39 +34,10 @@ fn slot_number(place: Place) -> Option<usize>
 fn is_issued(row: Option<&Row>) -> bool
     ensures { result ≡ is_issued (option_copied row.entry) }
 {
-    match row {
-        Some(row) => row.issued.is_some(),
-        None => false,
-    }
+    row.is_some_and(|row| row.issued.is_some())
 }
 
-/// The message to a flight's operator: whether it was and is issued, and its take-off times before and now.
-fn message_of(
-    key: Key,
-    reg: Option<RegId>,
-    was: bool,
-    is: bool,
-    before: u32,
-    now: u32,
-) -> Option<Message>
-    ensures { result ≡ message_of key reg was is before now }
-{
-    if !is {
-        return if was { Some(Message::Slc(key)) } else { None };
-    }
-    let reg = reg?;
-    if !was {
-        return Some(Message::Sam(key, now, reg));
-    }
-    if before == now {
-        None
-    } else {
-        Some(Message::Srm(key, now, reg))
-    }
-}
-
-/// The message to the operator of a flight that is now filed under a key. Take-off times are worked out where a message
-/// could have them.
+/// The message to the operator of a flight that is now filed under a key, if its slot is issued, revised or taken back.
 fn message(
     alloc: Global,
     old: &Plain,
@@ -86,59 +47,43 @@ fn message(
 ) -> Result<Option<Message>, AllocError>
     ensures { IfOk result (λ m. m ≡ message old.now new.now key row.now) }
 {
-    let was = is_issued(old.row(key));
-    let is = row.issued.is_some();
-    let before = if was && is {
-        old.ctot_before(alloc, key)?
-    } else {
-        0
-    };
-    let now = if is { new.ctot_of(alloc, key, row)? } else { 0 };
-    Ok(message_of(key, row.governing, was, is, before, now))
-}
-
-/// The messages to the operators of these flights.
-fn messages_of(
-    alloc: Global,
-    old: &Plain,
-    new: &Plain,
-    rows: &BTreeMap<Key, Row>,
-) -> Result<Vec<Message>, AllocError>
-    ensures { IfOk result (λ all. all.items ≡
-        filter_map (λ (e : Text × Row). message old.now new.now e.0 e.1) rows.now.entries) }
-{
-    let mut all = Vec::new(alloc);
-    for (key, row) in rows {
-        if let Some(message) = message(alloc, old, new, *key, row)? {
-            all.push(message)?;
-        }
+    let was_issued = is_issued(old.row(key));
+    if !row.issued.is_some() {
+        return Ok(was_issued.then_some(Message::Slc(key)));
     }
-    Ok(all)
+    let Some(reg) = row.governing else {
+        return Ok(None);
+    };
+    let ctot = new.ctot_of(alloc, key, row)?;
+    if !was_issued {
+        return Ok(Some(Message::Sam(key, ctot, reg)));
+    }
+    let before = old.ctot_before(alloc, key)?;
+    Ok((before != ctot).then_some(Message::Srm(key, ctot, reg)))
 }
 
 /// The messages of a change from one state to another.
 fn messages(alloc: Global, old: &Plain, new: &Plain) -> Result<Messages, AllocError>
     ensures { IfOk result (λ m. m ≡ messages old.now new.now) }
 {
-    Ok(Messages::of(messages_of(alloc, old, new, new.rows())?))
+    let mut all = Vec::new(alloc);
+    for (key, row) in new.rows() {
+        if let Some(message) = message(alloc, old, new, *key, row)? {
+            all.push(message)?;
+        }
+    }
+    Ok(Messages::of(all))
 }
 
 impl Plain {
-    /// The flight's calculated take-off time, and 0 where there is none.
-    fn ctot_at(&self, alloc: Global, key: Key, row: Option<&Row>) -> Result<u32, AllocError>
-        ensures { IfOk result (λ ctot. ctot ≡ option_map_or (ctot_of self.now key) (option_copied row.entry) 0) }
+    /// The calculated take-off time of the flight under a key, and 0 where there is none.
+    fn ctot_before(&self, alloc: Global, key: Key) -> Result<u32, AllocError>
+        ensures { IfOk result (λ ctot. ctot ≡ ctot_before self.now key) }
     {
-        match row {
+        match self.row(key) {
             Some(row) => self.ctot_of(alloc, key, row),
             None => Ok(0),
         }
-    }
-
-    /// The calculated take-off time of the flight under a key, and 0 where there is none.
-    pub(crate) fn ctot_before(&self, alloc: Global, key: Key) -> Result<u32, AllocError>
-        ensures { IfOk result (λ ctot. ctot ≡ ctot_before self.now key) }
-    {
-        self.ctot_at(alloc, key, self.row(key))
     }
 
     /// The flight as it is answered.
@@ -158,83 +103,45 @@ impl Plain {
         })
     }
 
-    /// The answer with this flight.
-    fn flight_answer_of(
-        &self,
-        alloc: Global,
-        key: Key,
-        row: Option<&Row>,
-    ) -> Result<Answer, AllocError>
-        ensures { IfOk result (λ a. a ≡
-            option_map_or (λ (r : Row). Answer.Flight (flight_reply self.now key r))
-            (option_copied row.entry) Answer.Done) }
+    /// The answer with the flight under a key.
+    fn flight_answer(&self, alloc: Global, key: Key) -> Result<Answer, AllocError>
+        ensures { IfOk result (λ a. a ≡ flight_answer self.now key) }
     {
-        match row {
+        match self.row(key) {
             Some(row) => Ok(Answer::Flight(self.flight_reply(alloc, key, row)?)),
             None => Ok(Answer::Done),
         }
     }
 
-    /// The answer with the flight under a key.
-    fn flight_answer(&self, alloc: Global, key: Key) -> Result<Answer, AllocError>
-        ensures { IfOk result (λ a. a ≡ flight_answer self.now key) }
-    {
-        self.flight_answer_of(alloc, key, self.row(key))
-    }
-
-    /// The delay of the flight, and none where there is no flight.
-    fn delay_at(&self, alloc: Global, key: Key, row: Option<&Row>) -> Result<u32, AllocError>
-        ensures value { IfOk result (λ delay. delay ≡
-            option_map_or (delay_of self.now key) (option_copied row.entry) 0) }
-        ensures in_range { IfOk result (λ delay. delay ≤ last_moment) }
-    {
-        match row {
-            Some(row) => self.delay_of(alloc, key, row),
-            None => Ok(0),
-        }
-    }
-
-    /// When a forced flight passes: with the delay that it has at its governing regulation.
+    /// When a forced flight passes, in seconds from midnight UTC: with the delay that it has at its governing
+    /// regulation.
     fn forced_time(&self, alloc: Global, key: Key, eto: Moment) -> Result<u32, AllocError>
         ensures { IfOk result (λ at. at ≡ forced_time self.now key eto) }
     {
-        let delay = self.delay_at(alloc, key, self.row(key))?;
-        Ok(eto.secs() + delay)
-    }
-
-    /// A competitor as its list shows it.
-    fn competitor_in(
-        &self,
-        alloc: Global,
-        list: &SlotList,
-        key: Key,
-        eto: Moment,
-    ) -> Result<ListRow, AllocError>
-        ensures { IfOk result (λ row. row ≡ row_in self.now list.now key (Stance.Competing eto)) }
-    {
-        let cto = list.cto_as(alloc, key, &Stance::Competing { eto })?;
-        let slot = slot_number(list.place_of(alloc, key)?);
-        Ok(ListRow {
-            key,
-            eto,
-            cto: cto.secs(),
-            kind: Kind::Pre,
-            slot,
-        })
+        match self.row(key) {
+            Some(row) => Ok(eto.secs() + self.delay_of(alloc, key, row)?),
+            None => Ok(eto.secs()),
+        }
     }
 
     /// A flight as its list shows it.
     fn row_in(
         &self,
         alloc: Global,
-        list: &SlotList,
+        list: &PlainList,
         key: Key,
         stance: Stance,
     ) -> Result<ListRow, AllocError>
         ensures { IfOk result (λ row. row ≡ row_in self.now list.now key stance) }
     {
         match stance {
-            Stance::Competing { eto } => self.competitor_in(alloc, list, key, eto),
+            Stance::Competing { eto } => Ok(ListRow {
+                key,
+                eto,
+                cto: list.cto_as(alloc, key, &stance)?.secs(),
+                kind: Kind::Pre,
+                slot: slot_number(list.place_of(alloc, key)?),
+            }),
             Stance::Issued { eto, cto } => Ok(ListRow {
                 key,
                 eto,
@@ -252,28 +159,15 @@ impl Plain {
         }
     }
 
-    /// These flights as the list shows them.
-    fn rows_in(
-        &self,
-        alloc: Global,
-        list: &SlotList,
-        flights: &BTreeMap<Key, Stance>,
-    ) -> Result<Vec<ListRow>, AllocError>
-        ensures { IfOk result (λ all. all.items ≡
-            in_order is_row_before (map (λ (e : Text × Stance). row_in self.now list.now e.0 e.1) flights.now.entries)) }
-    {
-        let mut all = Vec::new(alloc);
-        for (key, stance) in flights {
-            put_row(&mut all, self.row_in(alloc, list, *key, *stance)?)?;
-        }
-        Ok(all)
-    }
-
-    /// The rows of a list.
-    fn list_rows(&self, alloc: Global, list: &SlotList) -> Result<Rows, AllocError>
+    /// The rows of a list, in their order.
+    fn list_rows(&self, alloc: Global, list: &PlainList) -> Result<Rows, AllocError>
         ensures { IfOk result (λ rows. rows ≡ list_rows self.now list.now) }
     {
-        Ok(Rows::of(self.rows_in(alloc, list, list.flights())?))
+        let mut rows = Vec::new(alloc);
+        for (key, stance) in list.flights() {
+            put_row(&mut rows, self.row_in(alloc, list, *key, *stance)?)?;
+        }
+        Ok(Rows::of(rows))
     }
 
     /// A regulation's list as it is answered.
@@ -281,7 +175,7 @@ impl Plain {
         &self,
         alloc: Global,
         regulation: &Regulation,
-        list: &SlotList,
+        list: &PlainList,
     ) -> Result<ListReply, AllocError>
         ensures { IfOk result (λ r. r ≡ list_reply self.now regulation.now list.now) }
     {
@@ -295,29 +189,15 @@ impl Plain {
         })
     }
 
-    /// The answer with the list of this measure.
-    fn list_answer_of(
-        &self,
-        alloc: Global,
-        id: RegId,
-        measure: Option<&Measure>,
-    ) -> Result<Answer, AllocError>
-        ensures { IfOk result (λ a. a ≡ option_map_or
-            (λ (m : Measure). Answer.List (list_reply self.now (regulation id m) (listing self.now.rows id m)))
-            (option_copied measure.entry) Answer.Done) }
-    {
-        let Some(measure) = measure else {
-            return Ok(Answer::Done);
-        };
-        let list = SlotList::of(alloc, self.rows(), id, measure)?;
-        Ok(Answer::List(self.list_reply(alloc, &regulation(id, measure), &list)?))
-    }
-
     /// The answer with the list of a regulation.
     fn list_answer(&self, alloc: Global, id: RegId) -> Result<Answer, AllocError>
         ensures { IfOk result (λ a. a ≡ list_answer self.now id) }
     {
-        self.list_answer_of(alloc, id, self.measure(id))
+        let Some(measure) = self.measure(id) else {
+            return Ok(Answer::Done);
+        };
+        let list = PlainList::of(alloc, self.rows(), id, measure)?;
+        Ok(Answer::List(self.list_reply(alloc, &regulation(id, measure), &list)?))
     }
 
     /// The answer to an accepted call, in the state that it led to.

@@ -1,7 +1,7 @@
 use Rattle.std.proofs.Common.{◌≡◌, []}
 use Rattle.casa_flight.specs.Listing.{kept, stance_in}
 use Rattle.casa_plain.proofs.InOrder.{put_all}
-use Rattle.casa_plain.proofs.slot_list.stances.Given as goal
+use Rattle.casa_plain.proofs.plain_list.stances.Given as goal
 
 abbrev pub invariant-loop-key : goal.invariant-loop-key
 invariant-loop-key l =

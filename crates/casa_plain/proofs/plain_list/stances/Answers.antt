@@ -2,7 +2,7 @@ use Rattle.std.proofs.Common.{arith}
 use Rattle.std.proofs.lemmas.Grind.{common_steps}
 use Rattle.casa_flight.specs.Listing.{stance_in}
 use Rattle.casa_plain.proofs.InOrder.{put_all-kept}
-use Rattle.casa_plain.proofs.slot_list.stances.Goals as goal
+use Rattle.casa_plain.proofs.plain_list.stances.Goals as goal
 
 pub returns : goal.returns
 returns c =

@@ -23,13 +23,15 @@ use std::collections::BTreeMap;
 use std::marker::Model;
 
 /// A regulation's slots, and how each flight that is subject to it stands there.
+///
+/// It is made anew each time that one is asked for, and keeps no place: these are worked out competitor by competitor.
 #[derive(Drop)]
-pub struct SlotList {
+pub struct PlainList {
     grid: Grid,
     flights: BTreeMap<Key, Stance>,
 }
 
-impl Model for SlotList {
+impl Model for PlainList {
     ghost use Rattle.casa_flight.specs.Listing.{Listing};
 
     ghost Value = { Listing };
@@ -96,30 +98,22 @@ fn places(
 {
     let issued = issued_times(alloc, flights)?;
     let comps = competitors(alloc, flights)?;
-    assignment(alloc, grid.windows(), issued.as_slice(), comps.as_slice())
+    assignment(alloc, grid, issued.as_slice(), comps.as_slice())
 }
 
-/// The calculated time over at a place in this grid.
-fn cto_at(grid: &Grid, eto: Moment, place: Place) -> Moment
-    ensures { result ≡ time_over (slots grid.now) (end_of grid.now) eto place }
-{
-    let (_start, end) = grid.profile().span();
-    cto(grid.windows(), end, eto, place)
-}
-
-impl SlotList {
+impl PlainList {
     /// The list of a regulation, among these flights.
     pub fn of(
         alloc: Global,
         rows: &BTreeMap<Key, Row>,
         id: RegId,
         measure: &Measure,
-    ) -> Result<SlotList, AllocError>
+    ) -> Result<PlainList, AllocError>
         ensures { IfOk result (λ list. list ≡ listing rows.now.entries id measure.now) }
     {
         let grid = Grid::of(alloc, &measure.profile)?;
         let flights = stances(alloc, rows, id, measure)?;
-        Ok(SlotList { grid, flights })
+        Ok(PlainList { grid, flights })
     }
 
     /// How many slots the list has.
@@ -177,7 +171,7 @@ impl SlotList {
     fn cto_at(&self, eto: Moment, place: Place) -> Moment
         ensures { result ≡ time_over (slots self.now.profile) (end_of self.now.profile) eto place }
     {
-        cto_at(&self.grid, eto, place)
+        cto(&self.grid, eto, place)
     }
 
     /// The calculated time over of the flight where it stands so.
