@@ -150,9 +150,9 @@ impl Both {
 #[test]
 fn chains_equal_plain(rt: HostRuntime) -> Result<(), Fail> {
     let mut both = Both::open(rt.alloc(), 12)?;
-    both.file_all(rt.alloc(), 0, 30)?;
+    both.file_all(rt.alloc(), 0, 70)?;
     both.change_rate(rt.alloc(), 60)?;
-    both.file_all(rt.alloc(), 30, 60)?;
+    both.file_all(rt.alloc(), 70, 130)?;
     both.change_rate(rt.alloc(), 20)?;
-    both.file_all(rt.alloc(), 60, 90)
+    both.file_all(rt.alloc(), 130, 200)
 }

@@ -29,7 +29,7 @@ use Rattle.casa_flight.specs.Messages.{Passes}
 use Rattle.casa_flight.specs.IssuedTimes.{issued_as, with_issued, issue_in_turn}
 use Rattle.casa_flight.proofs.Entries.{text_cmp, same_name, named, apart, sorted-put, at-put_same, at-put_other, at-map, keys-map}
 use Rattle.casa_flight.proofs.Kept.{at-kept, same_entries}
-use Rattle.casa_flight.proofs.MovesNobody.{issued_at, place_issued}
+use Rattle.casa_flight.proofs.MovesNobody.{with_issue_at, place_issued}
 use Rattle.casa_flight.proofs.Planned.{list_sorted}
 use Rattle.casa_flight.proofs.RegMessages.{to_issue_parts, issued_at, governed_name}
 
@@ -75,7 +75,7 @@ issues_one l key valid sorted = by (stance_of l key) refl
     by (Some (Forced eto)) is = idle (Some (Forced eto)) is (λ e h. cc)
     by (Some (Competing eto)) is =
         let t : ℕ = cto_as l key (Competing eto) in
-        let g : Listing = issued_at l key eto t in
+        let g : Listing = with_issue_at l key eto t in
         let its : stance_of g key ≡ Some (Issued eto t) = at-put_same key (Issued eto t) l.flights in
         let own : stance_of g key ≡ option_map (now_as l true key) (stance_of l key) = its ∙ sym (ap (option_map (now_as l true key)) is) in
         record {

@@ -128,8 +128,8 @@ find-filter {X} wants test keeps (x ∷ xs) =
     ] refl
 
 -- the list once this flight is issued
-abbrev pub issued_at : Listing → Text → ℕ → ℕ → Listing
-issued_at l key eto t = record l { flights = put l.flights key (Issued eto t) }
+abbrev pub with_issue_at : Listing → Text → ℕ → ℕ → Listing
+with_issue_at l key eto t = record l { flights = put l.flights key (Issued eto t) }
 
 issued_time : (l : Listing) (key : Text) (eto t : ℕ) → stance_of l key ≡ Some (Competing eto) → cto_of l key ≡ Some t → t ≡ cto (slots l.profile) (end_of l.profile) eto (place_of l key)
 issued_time l key eto t stands time =
@@ -137,7 +137,7 @@ issued_time l key eto t stands time =
     cc
 
 -- the places are those of before without its own
-pub places_issued : (l : Listing) (key : Text) (eto t : ℕ) → IsProfile l.profile → AreInOrder l.flights → stance_of l key ≡ Some (Competing eto) → cto_of l key ≡ Some t → places (issued_at l key eto t) ≡ filter (is_others key) (places l)
+pub places_issued : (l : Listing) (key : Text) (eto t : ℕ) → IsProfile l.profile → AreInOrder l.flights → stance_of l key ≡ Some (Competing eto) → cto_of l key ≡ Some t → places (with_issue_at l key eto t) ≡ filter (is_others key) (places l)
 places_issued l key eto t valid sorted stands time =
     let c : Comp = record { eto = eto; key = key } in
     let rest : List Comp = competitors (record l { flights = without l.flights key }) in
@@ -157,16 +157,16 @@ places_issued l key eto t valid sorted stands time =
     let time_is : t ≡ cto (slots l.profile) (end_of l.profile) eto placed.own.place = issued_time l key eto t stands time ∙ ap (cto (slots l.profile) (end_of l.profile) eto) place_is in
     let adds : AddsTime (times l.flights) (times (put l.flights key (Issued eto t))) (cto (slots l.profile) (end_of l.profile) eto placed.own.place) =
     subst (AddsTime (times l.flights) (times (put l.flights key (Issued eto t)))) time_is (λ w. any-issued (λ s. is_within s w) key eto t l.flights sorted stands) in
-    let blocks : BlocksToo (occupancy l) (occupancy (issued_at l key eto t)) placed.own.place =
+    let blocks : BlocksToo (occupancy l) (occupancy (with_issue_at l key eto t)) placed.own.place =
     blocks_place l.profile placed.front eto placed.own.place (times l.flights) (times (put l.flights key (Issued eto t))) valid served adds in
-    let still : placed.front ++ placed.back ≡ assignment (occupancy (issued_at l key eto t)) (comps_of (placed.front ++ placed.back)) =
-    right_is_assignment (occupancy (issued_at l key eto t)) (placed.front ++ placed.back)
-    (right_without (occupancy l) (occupancy (issued_at l key eto t)) placed.front placed.own placed.back blocks right) in
-    sym (still ∙ ap (assignment (occupancy (issued_at l key eto t))) (remaining ∙ sym (competitors_stopped l key (Issued eto t) sorted refl)))
+    let still : placed.front ++ placed.back ≡ assignment (occupancy (with_issue_at l key eto t)) (comps_of (placed.front ++ placed.back)) =
+    right_is_assignment (occupancy (with_issue_at l key eto t)) (placed.front ++ placed.back)
+    (right_without (occupancy l) (occupancy (with_issue_at l key eto t)) placed.front placed.own placed.back blocks right) in
+    sym (still ∙ ap (assignment (occupancy (with_issue_at l key eto t))) (remaining ∙ sym (competitors_stopped l key (Issued eto t) sorted refl)))
     ∙ sym (ap (filter (is_others key)) placed.whole ∙ filter_out (is_others key) placed.own (ap not is_own) placed.front placed.back others)
 
 -- every other flight's place stays
-pub place_issued : (l : Listing) (key other : Text) (eto t : ℕ) → IsProfile l.profile → AreInOrder l.flights → stance_of l key ≡ Some (Competing eto) → cto_of l key ≡ Some t → (other ≡ key → ⊥) → place_of (issued_at l key eto t) other ≡ place_of l other
+pub place_issued : (l : Listing) (key other : Text) (eto t : ℕ) → IsProfile l.profile → AreInOrder l.flights → stance_of l key ≡ Some (Competing eto) → cto_of l key ≡ Some t → (other ≡ key → ⊥) → place_of (with_issue_at l key eto t) other ≡ place_of l other
 place_issued l key other eto t valid sorted stands time apart =
     let keeps : (a : Assigned) → same_text other a.comp.key ≡ true → is_others key a ≡ true =
     λ a h. ap not (false_from_ne_true _ (λ own. apart (text_is other a.comp.key (sym h) ∙ sym (text_is key a.comp.key (sym own))))) in

@@ -72,7 +72,7 @@ fn messages(alloc: Global, old: &Plain, new: &Plain) -> Result<Messages, AllocEr
             all.push(message)?;
         }
     }
-    Ok(Messages::of(all))
+    Ok(Messages::from_vec(all)?)
 }
 
 impl Plain {
@@ -167,7 +167,7 @@ impl Plain {
         for (key, stance) in list.flights() {
             put_row(&mut rows, self.row_in(alloc, list, *key, *stance)?)?;
         }
-        Ok(Rows::of(rows))
+        Ok(Rows::from_vec(rows)?)
     }
 
     /// A regulation's list as it is answered.

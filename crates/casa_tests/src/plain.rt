@@ -29,7 +29,7 @@ fn file(alloc: Global, key: &[u8], eto: u32) -> Result<Call, Fail> {
 
 /// The reply with this answer and these messages.
 fn answered(alloc: Global, answer: Answer, messages: &[Message]) -> Result<Reply, AllocError> {
-    let messages = Messages::of(Vec::from_slice(alloc, messages)?);
+    let messages = Messages::from_vec(Vec::from_slice(alloc, messages)?)?;
     Ok(Reply::Answered(answer, messages))
 }
 
@@ -66,7 +66,7 @@ fn list(alloc: Global, rows: &[ListRow]) -> Result<Answer, Fail> {
         start: Moment::new(36_000)?,
         end: Moment::new(37_200)?,
         slots: 10,
-        rows: Rows::of(Vec::from_slice(alloc, rows)?),
+        rows: Rows::from_vec(Vec::from_slice(alloc, rows)?)?,
     }))
 }
 
