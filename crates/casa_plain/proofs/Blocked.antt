@@ -1,5 +1,5 @@
 -- which slots the issued times block
-use Rattle.std.proofs.Common.{◌≡◌, ◌∙◌, sym, ℕ, List, [], ◌∷◌, Bool, false, nat_eq, Option, None, Some, refl}
+use Rattle.std.proofs.Common.{◌≡◌, ◌∙◌, sym, ℕ, List, [], ◌∷◌, false, nat_eq, Option, None, Some, refl}
 use Rattle.std.specs.List.{list_any, slice_get}
 use Rattle.std.specs.Option.{option_eq, option_map_or}
 use Rattle.casa_grid.specs.declared.period.Period.{Period}
