@@ -1,6 +1,6 @@
 //! Answers the lines of an input, one after the other.
 
-ghost use Rattle.std.specs.Prelude.{◌≡◌, ◌∷◌, [], ◌++◌, Err, IfOk, IfErr, OnErr};
+ghost use Rattle.std.specs.Prelude.{◌≡◌, ◌∷◌, [], ◌++◌, List, Err, IfOk, IfErr, OnErr};
 ghost use Rattle.casa.specs.Commands.{line_call};
 ghost use Rattle.casa.specs.Faults.{session_fault_name};
 ghost use Rattle.casa.specs.Transcript.{Receipts, Ends, IsRefused, Kept, LineEnds, Replied, TooLongEnds};
