@@ -9,7 +9,7 @@ use std::alloc::Global;
 use std::test::Fail;
 
 /// How many flights stay: each leaves when this many more are filed.
-const STAYING: u8 = 30;
+const STAYING: u8 = 16;
 
 /// The one regulation, from 36000 on for an hour, with this many flights per hour.
 fn profile(alloc: Global, rate: u32) -> Result<Profile, Fail> {
@@ -146,13 +146,13 @@ impl Both {
     }
 }
 
-/// At 12 flights per hour the list is soon full, at 60 all competitors have slots, and at 20 it is full again.
+/// At 8 flights per hour the list is soon full, at 60 all competitors have slots, and at 12 it is full again.
 #[test]
 fn chains_equal_plain(rt: HostRuntime) -> Result<(), Fail> {
-    let mut both = Both::open(rt.alloc(), 12)?;
+    let mut both = Both::open(rt.alloc(), 8)?;
     both.file_all(rt.alloc(), 0, 70)?;
     both.change_rate(rt.alloc(), 60)?;
     both.file_all(rt.alloc(), 70, 130)?;
-    both.change_rate(rt.alloc(), 20)?;
+    both.change_rate(rt.alloc(), 12)?;
     both.file_all(rt.alloc(), 130, 200)
 }
