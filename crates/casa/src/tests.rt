@@ -143,7 +143,9 @@ fn replies_are_lines(rt: HostRuntime) -> Result<(), Fail> {
         issued: true,
         reg: Some(reg_id(b"R1")?),
     };
-    let messages = Messages::from_vec(vec![in alloc; Message::Sam(key(b"E")?, 9719, reg_id(b"R1")?)]?)?;
+    let messages = Messages::from_vec(vec![in alloc;
+        Message::Sam(key(b"E")?, 9719, reg_id(b"R1")?),
+    ]?)?;
     let line = reply_line(alloc, &Reply::Answered(Answer::Flight(flight), messages), 4)?;
     assert!(rt;
         line.as_slice()
