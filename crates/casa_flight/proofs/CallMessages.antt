@@ -127,20 +127,19 @@ pub not_outside : (regs : List (Text × Measure)) (plan : FlightPlan) (id : Text
 not_outside regs plan id measure eto out opened over =
     let none : None ≡ Some eto = sym (all_at (λ (e : Text × Measure). subject plan (regulation e.0 e.1) ≡ None) id measure regs out opened) ∙ over in cc
 
--- a flight that is not issued is not due where it is governed
-pub not_due : (clock : ℕ) (regs : List (Text × Measure)) (row : Row) (id : Text) → IsGoverned clock regs row id → is_some row.issued ≡ false → is_due clock row.plan ≡ false
-not_due clock regs row id g = by row.issued g.issued
+-- a governed flight is issued exactly if it is due
+pub issued_if_due : (clock : ℕ) (regs : List (Text × Measure)) (row : Row) (id : Text) → IsGoverned clock regs row id → is_some row.issued ≡ is_due clock row.plan
+issued_if_due clock regs row id g = by row.issued g.issued
   where
-    by : (w : Option ℕ) → MatchOption w (is_due clock row.plan ≡ false) (λ t. (is_due clock row.plan ≡ true) × (g.eto ≤ t) × (t ≤ end_of g.measure.profile)) → is_some w ≡ false → is_due clock row.plan ≡ false
-    by None h n = h
-    by (Some t) h n = cc
+    by : (w : Option ℕ) → MatchOption w (is_due clock row.plan ≡ false) (λ t. (is_due clock row.plan ≡ true) × (g.eto ≤ t) × (t ≤ end_of g.measure.profile)) → is_some w ≡ is_due clock row.plan
+    by None h = sym h
+    by (Some t) h = sym h.0
+
+pub not_due : (clock : ℕ) (regs : List (Text × Measure)) (row : Row) (id : Text) → IsGoverned clock regs row id → is_some row.issued ≡ false → is_due clock row.plan ≡ false
+not_due clock regs row id g h = sym (issued_if_due clock regs row id g) ∙ h
 
 pub was_due : (clock : ℕ) (regs : List (Text × Measure)) (row : Row) (id : Text) → IsGoverned clock regs row id → is_some row.issued ≡ true → is_due clock row.plan ≡ true
-was_due clock regs row id g = by row.issued g.issued
-  where
-    by : (w : Option ℕ) → MatchOption w (is_due clock row.plan ≡ false) (λ t. (is_due clock row.plan ≡ true) × (g.eto ≤ t) × (t ≤ end_of g.measure.profile)) → is_some w ≡ true → is_due clock row.plan ≡ true
-    by None h n = cc
-    by (Some t) h n = h.0
+was_due clock regs row id g h = sym (issued_if_due clock regs row id g) ∙ h
 
 -- a flight that waits for its slot still waits when it enters anew
 still_waits : (m : State) (key : Text) (row : Row) → IsGood m → row_of m key ≡ Some row → is_some row.issued ≡ false → is_some (entered (situation m) key (ungoverned row)).issued ≡ true → ⊥

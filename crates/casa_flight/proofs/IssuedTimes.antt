@@ -24,7 +24,8 @@ use Rattle.casa_flight.specs.IssuedTimes.{may_free, may_serve, IsTakenIn, Become
 use Rattle.casa_flight.proofs.Entries.{named, apart, at-put_other, at-without_other, at-map}
 use Rattle.casa_flight.proofs.GoodRegs.{next-good}
 use Rattle.casa_flight.proofs.ChangeMessages.{governed_by, free_of}
-use Rattle.casa_flight.proofs.EnterAll.{regs-enter_all, rest-enter_all}
+use Rattle.casa_flight.proofs.EnterAll.{clock-enter_all, regs-enter_all, rest-enter_all}
+use Rattle.casa_flight.proofs.CallMessages.{issued_if_due}
 use Rattle.casa_flight.proofs.RegMessages.{to_issue_parts, issued_at, competes, row-opened, opened_governs, row-closed}
 
 pub refused_stays : (m : State) (call : Call) (r : Refusal) → step m call ≡ refused r → next m call ≡ m
@@ -115,9 +116,9 @@ there_as : (n : State) (key : Text) (row : Row) (Becomes : Row → Type 0) → r
 there_as n key row Becomes found = (row, found, inl refl)
 
 -- what an opened regulation makes of a flight
-taken_in : (m n : State) (id key : Text) (measure : Measure) (row new : Row) → IsGood m → IsGood n → n.regs ≡ put m.regs id measure → row_of m key ≡ Some row → may_compete m.clock row ≡ true
-    → row_of n key ≡ Some new → ungoverned new ≡ ungoverned row → (new ≡ row) ⊎ IsTakenIn id row new
-taken_in m n id key measure row new good later regs found waits there rest = by new.governing refl
+taken_in : (m n : State) (id key : Text) (measure : Measure) (row new : Row) → IsGood m → IsGood n → n.regs ≡ put m.regs id measure → n.clock ≡ m.clock → row_of m key ≡ Some row → may_compete m.clock row ≡ true
+    → row_of n key ≡ Some new → ungoverned new ≡ ungoverned row → (new ≡ row) ⊎ IsTakenIn m.clock id row new
+taken_in m n id key measure row new good later regs clocks found waits there rest = by new.governing refl
   where
     parts : (is_exempt row ≡ false) × (is_gone m.clock row.plan ≡ false) × (row.governing ≡ None)
     parts = competes (is_exempt row) (is_gone m.clock row.plan) row.governing waits
@@ -131,7 +132,7 @@ taken_in m n id key measure row new good later regs found waits there rest = by 
     marks : new.marked ≡ row.marked
     marks = ap (λ (r : Row). r.marked) rest
 
-    by : (g : Option Text) → new.governing ≡ g → (new ≡ row) ⊎ IsTakenIn id row new
+    by : (g : Option Text) → new.governing ≡ g → (new ≡ row) ⊎ IsTakenIn m.clock id row new
     by None governs =
         let nothing : new.governing ≡ row.governing = governs ∙ sym parts.2 in
         let issues : new.issued ≡ row.issued = (free_of n key new later there governs).not_issued ∙ sym free.not_issued in
@@ -139,12 +140,17 @@ taken_in m n id key measure row new good later regs found waits there rest = by 
     by (Some reg) governs =
         let g : IsGoverned n.clock n.regs new reg = governed_by n key new reg later there governs in
         let its : new.governing ≡ Some id = governs ∙ ap (λ (q : Text). Some q) (opened_governs m n id measure new row reg regs (free.left parts.0 parts.1) plans g) in
-        inr (record { was_free = parts.2; not_issued = free.not_issued; now = λ i. record { plan = plans i; marked = marks i; governing = its i; issued = new.issued } })
+        inr (record {
+          was_free = parts.2;
+          not_issued = free.not_issued;
+          now = λ i. record { plan = plans i; marked = marks i; governing = its i; issued = new.issued };
+          issued_if_due = issued_if_due n.clock n.regs new reg g ∙ (λ i. is_due (clocks i) (plans i));
+        })
 
 opened_if : (m : State) (id key : Text) (measure : Measure) (row : Row) (b : Bool) → let n : State = enter_all (record m { regs = put m.regs id measure }) (flights_over (may_compete m.clock) (regulation id measure) m.rows) in
-    IsGood m → IsGood n → row_of m key ≡ Some row → may_compete m.clock row ≡ b → IsThere n key row (IsTakenIn id row)
+    IsGood m → IsGood n → row_of m key ≡ Some row → may_compete m.clock row ≡ b → IsThere n key row (IsTakenIn m.clock id row)
 opened_if m id key measure row false good later found waits =
-    there_as (enter_all (record m { regs = put m.regs id measure }) (flights_over (may_compete m.clock) (regulation id measure) m.rows)) key row (IsTakenIn id row)
+    there_as (enter_all (record m { regs = put m.regs id measure }) (flights_over (may_compete m.clock) (regulation id measure) m.rows)) key row (IsTakenIn m.clock id row)
     (row-opened m id measure key good (ap (λ (w : Option Row). option_map_or (may_compete m.clock) w false) found ∙ waits) ∙ found)
 opened_if m id key measure row true good later found waits = by (row_of n key) refl
   where
@@ -160,20 +166,20 @@ opened_if m id key measure row true good later found waits = by (row_of n key) r
     rest : option_map ungoverned (row_of n key) ≡ Some (ungoverned row)
     rest = rest-enter_all s key cs ∙ ap (option_map ungoverned) found
 
-    by : (w : Option Row) → row_of n key ≡ w → IsThere n key row (IsTakenIn id row)
+    by : (w : Option Row) → row_of n key ≡ w → IsThere n key row (IsTakenIn m.clock id row)
     by None there = let none : None ≡ Some (ungoverned row) = sym (ap (option_map ungoverned) there) ∙ rest in cc
     by (Some new) there =
         let both : Some (ungoverned new) ≡ Some (ungoverned row) = sym (ap (option_map ungoverned) there) ∙ rest in
         let same : ungoverned new ≡ ungoverned row = cc in
-        (new, there, taken_in m n id key measure row new good later (regs-enter_all s cs) found waits there same)
+        (new, there, taken_in m n id key measure row new good later (regs-enter_all s cs) (clock-enter_all s cs) found waits there same)
 
 open_serves : (m : State) (id key : Text) (measure : Measure) (row : Row) (o : Option Measure) (full : Bool) → IsGood m → IsGood (after m (open_regulation m id measure o full)) → row_of m key ≡ Some row
-    → IsThere (after m (open_regulation m id measure o full)) key row (IsTakenIn id row)
-open_serves m id key measure row (Some old) full good later found = there_as m key row (IsTakenIn id row) found
-open_serves m id key measure row None true good later found = there_as m key row (IsTakenIn id row) found
+    → IsThere (after m (open_regulation m id measure o full)) key row (IsTakenIn m.clock id row)
+open_serves m id key measure row (Some old) full good later found = there_as m key row (IsTakenIn m.clock id row) found
+open_serves m id key measure row None true good later found = there_as m key row (IsTakenIn m.clock id row) found
 open_serves m id key measure row None false good later found = opened_if m id key measure row (may_compete m.clock row) good later found refl
 
-pub opened : (m : State) (id loc key : Text) (profile : List Period) (row : Row) → IsGood m → row_of m key ≡ Some row → IsThere (next m (OpenReg id loc profile)) key row (IsTakenIn id row)
+pub opened : (m : State) (id loc key : Text) (profile : List Period) (row : Row) → IsGood m → row_of m key ≡ Some row → IsThere (next m (OpenReg id loc profile)) key row (IsTakenIn m.clock id row)
 opened m id loc key profile row good found =
     open_serves m id key (record { loc = loc; profile = profile }) row (measure_of m id) (nat_le most_regulations (length m.regs)) good (next-good m (OpenReg id loc profile) good) found
 
@@ -221,7 +227,7 @@ as_it_was n key old new Becomes there not (inr becomes) = absurd (not becomes)
 pub issued_stays : (m : State) (call : Call) (key : Text) (row : Row) → IsGood m → row_of m key ≡ Some row → may_free call key row ≡ false → is_some row.issued ≡ true → row_of (next m call) key ≡ Some row
 issued_stays m (OpenReg id loc profile) key row good found free issued =
     let s = opened m id loc key profile row good found in
-    as_it_was (next m (OpenReg id loc profile)) key row s.0 (IsTakenIn id row) s.1 (λ t. both_ways (is_some row.issued) (ap is_some t.not_issued) issued) s.2
+    as_it_was (next m (OpenReg id loc profile)) key row s.0 (IsTakenIn m.clock id row) s.1 (λ t. both_ways (is_some row.issued) (ap is_some t.not_issued) issued) s.2
 issued_stays m (Tick at) key row good found free issued =
     let s = ticked m at key row good found in
     as_it_was (next m (Tick at)) key row s.0 (BecomesDue m key row) s.1 (λ t. both_ways (is_some row.issued) (ap is_some t.1.not_issued) issued) s.2
@@ -237,7 +243,7 @@ but_issued m n key old new there (inr due) = (Some due.0, there ∙ ap (λ (r : 
 pub governed_stays : (m : State) (call : Call) (key : Text) (row : Row) → IsGood m → row_of m key ≡ Some row → may_free call key row ≡ false → is_some row.governing ≡ true → IsThereBut (next m call) key row
 governed_stays m (OpenReg id loc profile) key row good found free governed =
     let s = opened m id loc key profile row good found in
-    (row.issued, as_it_was (next m (OpenReg id loc profile)) key row s.0 (IsTakenIn id row) s.1 (λ t. both_ways (is_some row.governing) (ap is_some t.was_free) governed) s.2)
+    (row.issued, as_it_was (next m (OpenReg id loc profile)) key row s.0 (IsTakenIn m.clock id row) s.1 (λ t. both_ways (is_some row.governing) (ap is_some t.was_free) governed) s.2)
 governed_stays m (Tick at) key row good found free governed =
     let s = ticked m at key row good found in
     but_issued m (next m (Tick at)) key row s.0 s.1 s.2

@@ -6,7 +6,7 @@ use Rattle.casa_flight.specs.declared.row.Row.{Row}
 use Rattle.casa_flight.specs.declared.row.Stance.{Stance}
 use Rattle.casa_flight.specs.declared.row.Stance.TheVariants.{Competing, Issued, Forced}
 use Rattle.casa_flight.specs.Text.{Text, same_text, put}
-use Rattle.casa_flight.specs.State.{is_governed_by}
+use Rattle.casa_flight.specs.State.{is_due, is_governed_by}
 use Rattle.casa_flight.specs.Listing.{Listing, cto_as, stance_of}
 
 -- whether a call may take a flight's issued time or its governing regulation: the flight's own amendment, cancellation,
@@ -26,11 +26,13 @@ may_serve (OpenReg id loc profile) = true
 may_serve (Tick at) = true
 may_serve call = false
 
--- a flight that nothing governed, and that was not issued, is now governed by this regulation; plan and mark stay
-pub record IsTakenIn (id : Text) (old new : Row) : Type 0 where
+-- a flight that nothing governed, and that was not issued, is now governed by this regulation, and issued exactly if it is
+-- due; plan and mark stay
+pub record IsTakenIn (clock : ℕ) (id : Text) (old new : Row) : Type 0 where
   pub was_free : old.governing ≡ None
   pub not_issued : old.issued ≡ None
   pub now : new ≡ record old { governing = Some id; issued = new.issued }
+  pub issued_if_due : is_some new.issued ≡ is_due clock old.plan
 
 -- a governed flight that was not issued is now issued at this time; plan, mark and governing regulation stay
 pub record BecomesIssued (time : ℕ) (old new : Row) : Type 0 where

@@ -239,13 +239,13 @@ pub fn issued_times_stay()
 {}
 
 /// What an opened regulation and the clock give on a good state, they give to flights that had none: the regulation
-/// governs only flights that nothing governed, and the clock issues only flights that were governed and not issued, at the
-/// calculated time over that they have. Each other flight stays as it is.
+/// governs only flights that nothing governed, and issues those of them that are due; the clock issues only flights that
+/// were governed and not issued, at the calculated time over that they have. Each other flight stays as it is.
 pub fn only_waiting_flights_are_served()
     ensures opened { (m : State) (id loc key : Text) (profile : List Period) (row : Row) → IsGood m →
         row_of m key ≡ Some row →
         (new : Row) × (row_of (next m (OpenReg id loc profile)) key ≡ Some new) ×
-        ((new ≡ row) ⊎ IsTakenIn id row new) }
+        ((new ≡ row) ⊎ IsTakenIn m.clock id row new) }
     ensures ticked { (m : State) (at : ℕ) (key : Text) (row : Row) → IsGood m →
         row_of m key ≡ Some row →
         (new : Row) × (row_of (next m (Tick at)) key ≡ Some new) ×
