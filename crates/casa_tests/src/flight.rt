@@ -122,10 +122,10 @@ fn refusals_have_a_code_and_a_name(rt: HostRuntime) {
     );
 }
 
-/// Run also with each allocation refused in turn: the refused call answers want of memory and nothing
-/// else, and is as good as new when it is made again.
+/// Run also with each allocation refused in turn: the refused call answers that memory was refused and nothing else, and
+/// is as good as new when it is made again.
 #[test]
-fn a_refused_growth_is_want_of_memory(rt: HostRuntime) -> Result<(), Fail> {
+fn a_refused_growth_of_a_plan_can_be_tried_again(rt: HostRuntime) -> Result<(), Fail> {
     let alloc = rt.alloc();
     let via = [over(b"LA", 36010)?];
     let eobt = Moment::new(30000)?;

@@ -132,13 +132,13 @@ cancelled_list m n key id gm gn c same = by (measure_of m id) refl (sym (measure
 pub cancel_decides : (key : Text) → Decides (Cancel key)
 cancel_decides key m n gm gn s =
     let found : row_of m key ≡ row_of n key = row_in m n key (s (a_row key) (text_itself key)) in (
-      told (row_of m key) ∙ ap (λ (w : Option Row). reply_of n (Cancel key) (cancel n key w)) found,
+      replied (row_of m key) ∙ ap (λ (w : Option Row). reply_of n (Cancel key) (cancel n key w)) found,
       λ i h. wrote (row_of m key) i h ∙ ap (λ (w : Option Row). contents (after n (cancel n key w)) i) found,
     )
   where
-    told : (w : Option Row) → reply_of m (Cancel key) (cancel m key w) ≡ reply_of n (Cancel key) (cancel n key w)
-    told None = refl
-    told (Some row) = λ i. Answered Done ((cancel_messages m key gm ∙ sym (cancel_messages n key gn)) i)
+    replied : (w : Option Row) → reply_of m (Cancel key) (cancel m key w) ≡ reply_of n (Cancel key) (cancel n key w)
+    replied None = refl
+    replied (Some row) = λ i. Answered Done ((cancel_messages m key gm ∙ sym (cancel_messages n key gn)) i)
 
     wrote : (w : Option Row) (i : Item) → (is_accepted (cancel m key w) && would_write m (Cancel key) i) ≡ true → contents (after m (cancel m key w)) i ≡ contents (after n (cancel n key w)) i
     wrote None i h = cc

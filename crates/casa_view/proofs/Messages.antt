@@ -31,7 +31,7 @@ other_measure id y (Some z) e = (z, refl, ap (λ (w : Option Regulation). unwrap
 pub stays_open : (m n : State) (id : Text) → catalogue m ≡ catalogue n → StaysOpen m n id
 stays_open m n id c a opened = other_measure id a (measure_of n id) (sym (ap (option_map (regulation id)) opened) ∙ regulation_same m n id c)
 
--- where each row that is there afterwards was there before, nobody is told anything
+-- where each row that is there afterwards was there before, no message comes
 pub messages_none : (m n : State) → IsGood m → AreInOrder n.rows → catalogue m ≡ catalogue n → ((key : Text) (row : Row) → row_of n key ≡ Some row → row_of m key ≡ Some row) → messages m n ≡ []
 messages_none m n good sorted c before = messages_unchanged m n good sorted (λ id. stays_open m n id c) before
 

@@ -70,11 +70,11 @@ one_messages m n key row o =
 -- a flight's answer is that of its row and its governing list
 pub answer_same : (m n : State) (key : Text) (row : Row) → row_of m key ≡ Some row → row_of n key ≡ Some row → governing_list m row ≡ governing_list n row → flight_answer m key ≡ flight_answer n key
 answer_same m n key row here there lists =
-    let told : Option Listing → Answer = λ w.
+    let replied : Option Listing → Answer = λ w.
     let delay : ℕ = option_map_or (λ (l : Listing). delay_in l key) w 0 in
     Flight (record { key = key; eobt = row.plan.eobt; etot = etot row.plan; ctot = etot row.plan + delay; delay = delay; exempt = is_exempt row; issued = is_some row.issued; reg = row.governing }) in
     ap (λ (w : Option Row). option_map_or (λ (r : Row). Flight (flight_reply m key r)) w Done) here
-    ∙ ap told lists
+    ∙ ap replied lists
     ∙ sym (ap (λ (w : Option Row). option_map_or (λ (r : Row). Flight (flight_reply n key r)) w Done) there)
 
 pub one_answer : (m n : State) (key : Text) (row : Row) → OneFlight m n key row → flight_answer (with_row m key row) key ≡ flight_answer (with_row n key row) key

@@ -72,7 +72,7 @@ list_rated m id measure profile h =
 
 pub rates_decides : (id : Text) (profile : List Period) → Decides (Rates id profile)
 rates_decides id profile m n gm gn s = (
-  told (measure_of m id) refl (sym measures) ∙ ap (λ (w : Option Measure). reply_of n (Rates id profile) (rates n id profile w)) measures,
+  replied (measure_of m id) refl (sym measures) ∙ ap (λ (w : Option Measure). reply_of n (Rates id profile) (rates n id profile w)) measures,
   λ i h. wrote (measure_of m id) refl (sym measures) i h ∙ ap (λ (w : Option Measure). contents (after n (rates n id profile w)) i) measures,
 )
   where
@@ -82,13 +82,13 @@ rates_decides id profile m n gm gn s = (
     measures : measure_of m id ≡ measure_of n id
     measures = measure_same m n id (catalogue_in m n (s the_catalogue refl)) lists
 
-    told_if : (measure : Measure) → measure_of m id ≡ Some measure → measure_of n id ≡ Some measure → (b : Bool) → has_span profile measure.profile ≡ b → reply_of m (Rates id profile) (rates_if m id measure profile b) ≡ reply_of n (Rates id profile) (rates_if n id measure profile b)
-    told_if measure e f false h = refl
-    told_if measure e f true h = λ i. Answered Done ((rates_messages m id measure profile gm e h ∙ sym (rates_messages n id measure profile gn f h)) i)
+    replied_if : (measure : Measure) → measure_of m id ≡ Some measure → measure_of n id ≡ Some measure → (b : Bool) → has_span profile measure.profile ≡ b → reply_of m (Rates id profile) (rates_if m id measure profile b) ≡ reply_of n (Rates id profile) (rates_if n id measure profile b)
+    replied_if measure e f false h = refl
+    replied_if measure e f true h = λ i. Answered Done ((rates_messages m id measure profile gm e h ∙ sym (rates_messages n id measure profile gn f h)) i)
 
-    told : (w : Option Measure) → measure_of m id ≡ w → measure_of n id ≡ w → reply_of m (Rates id profile) (rates m id profile w) ≡ reply_of n (Rates id profile) (rates n id profile w)
-    told None e f = refl
-    told (Some measure) e f = told_if measure e f (has_span profile measure.profile) refl
+    replied : (w : Option Measure) → measure_of m id ≡ w → measure_of n id ≡ w → reply_of m (Rates id profile) (rates m id profile w) ≡ reply_of n (Rates id profile) (rates n id profile w)
+    replied None e f = refl
+    replied (Some measure) e f = replied_if measure e f (has_span profile measure.profile) refl
 
     wrote_if : (measure : Measure) → measure_of m id ≡ Some measure → measure_of n id ≡ Some measure → (b : Bool) → has_span profile measure.profile ≡ b → (i : Item) → (is_accepted (rates_if m id measure profile b) && would_write m (Rates id profile) i) ≡ true
         → contents (after m (rates_if m id measure profile b)) i ≡ contents (after n (rates_if n id measure profile b)) i

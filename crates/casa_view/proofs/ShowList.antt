@@ -163,9 +163,9 @@ list_decides id m n gm gn s = (by (measure_of m id) refl ∙ ap (λ (w : Option 
     by (Some measure) e =
         let l : Listing = listing m.rows id measure in
         let both : Same m n id l = same_at id m n l s (ap (option_map (listing m.rows id)) e) in
-        let told : List ListRow → Answer = λ rows. ListAnswer (record { reg = id; loc = measure.loc; start = start_of measure.profile; end = end_of measure.profile; slots = length (slots l.profile); rows = in_order is_row_before rows }) in
+        let replied : List ListRow → Answer = λ rows. ListAnswer (record { reg = id; loc = measure.loc; start = start_of measure.profile; end = end_of measure.profile; slots = length (slots l.profile); rows = in_order is_row_before rows }) in
         let answers : list_answer m id ≡ list_answer n id =
-        answer_at m id measure l e both.here ∙ ap told (rows_same m n id l both) ∙ sym (answer_at n id measure l (sym measures ∙ e) both.there) in
+        answer_at m id measure l e both.here ∙ ap replied (rows_same m n id l both) ∙ sym (answer_at n id measure l (sym measures ∙ e) both.there) in
         λ i. Answered (answers i) ((messages_self m gm ∙ sym (messages_self n gn)) i)
 
 pub list_writes : (id : Text) → DecidesWrites (ListOf id)
