@@ -10,6 +10,10 @@ IsAnswer world view call reply change =
     (s : world.state_type) → world.good s → world.shows s view →
     (reply ≡ world.reply s call) × world.changes s call change
 
+-- a plan may be called with every view and each call that the view is for
+abbrev pub TakesViews : {W C V D R : Type 0} (world : WorldOf W C V D R) → (Bor V → Bor C → Type 0) → Type 0
+TakesViews {W} {C} {V} world may_call = (v : Bor V) (c : Bor C) → world.is_for v.now c.now → may_call v c
+
 -- what a plan owes, by its results: where it answers a call on a view for it, this is the answer
 abbrev pub OwesAnswers : {W C V D R : Type 0} (world : WorldOf W C V D R)
     → (Bor V → Bor C → Result (R × D) AllocError → Type 0) → Type 0

@@ -1,5 +1,5 @@
 ghost use Rattle.std.specs.Prelude.{◌≡◌, ◌↔◌, Some, IfOk, IfErr, OnOk, OnErr};
-ghost use Rattle.casa_commit.specs.Answers.{OwesAnswers};
+ghost use Rattle.casa_commit.specs.Answers.{TakesViews, OwesAnswers};
 ghost use Rattle.casa_commit.specs.Prepared.{call_of, view_of, reply_of, change_of};
 ghost use Rattle.casa_commit.specs.Rooms.{world_of, Admits, Accepts, AreUnchanged};
 ghost use Rattle.casa_commit.specs.Faults.{fault_of};
@@ -57,7 +57,7 @@ pub fn locked<W: World, F: Fn(&W::View, &W::Call) -> Result<(W::Reply, W::Change
     call: &W::Call,
     plan: &F,
 ) -> Result<Receipt<W::Call, W::Reply>, CallFault>
-    requires callable { (v : _) (c : _) → W.is_for v.now c.now → F.pre plan.now v c }
+    requires callable { TakesViews W.World (F.pre plan.now) }
     requires owes { OwesAnswers W.World (F.post plan.now) }
     ensures foreign { (result ≡ Err CallFault.ForeignPass) ↔ ¬ (Admits room.old pass.old) }
     ensures no_memory { result ≡ Err CallFault.NoMemory → Admits room.old pass.old }

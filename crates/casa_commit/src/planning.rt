@@ -1,5 +1,5 @@
 ghost use Rattle.std.specs.Prelude.{◌≡◌, IfOk};
-ghost use Rattle.casa_commit.specs.Answers.{OwesAnswers};
+ghost use Rattle.casa_commit.specs.Answers.{TakesViews, OwesAnswers};
 ghost use Rattle.casa_commit.specs.Prepared.{call_of, view_of};
 
 use crate::prepared::Prepared;
@@ -16,7 +16,7 @@ pub fn prepare<W: World, F: Fn(&W::View, &W::Call) -> Result<(W::Reply, W::Chang
     plan: &F,
 ) -> Result<Prepared<W>, AllocError>
     requires for_call { W.is_for view call }
-    requires callable { (v : _) (c : _) → W.is_for v.now c.now → F.pre plan.now v c }
+    requires callable { TakesViews W.World (F.pre plan.now) }
     requires owes { OwesAnswers W.World (F.post plan.now) }
     ensures call { IfOk result (λ p. call_of p ≡ call) }
     ensures view { IfOk result (λ p. view_of p ≡ view) }
@@ -36,7 +36,7 @@ pub(crate) fn prepared_now<
     F: Fn(&W::View, &W::Call) -> Result<(W::Reply, W::Change), AllocError>,
 >(world: &W, call: &W::Call, plan: &F) -> Result<Prepared<W>, AllocError>
     requires good { W.good (W.state world.now) }
-    requires callable { (v : _) (c : _) → W.is_for v.now c.now → F.pre plan.now v c }
+    requires callable { TakesViews W.World (F.pre plan.now) }
     requires owes { OwesAnswers W.World (F.post plan.now) }
     ensures call { IfOk result (λ p. call_of p ≡ call.now) }
     ensures shown { IfOk result (λ p. W.good (W.state world.now) → W.shows (W.state world.now) (view_of p)) }
