@@ -4,6 +4,7 @@ pub mod Entries
 pub mod Kept
 pub mod Same
 pub mod SameReply
+mod SameRow
 pub mod Assignment
 pub mod Rising
 pub mod Competitors

@@ -33,12 +33,12 @@ message_same a b h = search rules
 list_row_same : (a b : ListRow) → list_row.eq a b ≡ true → a ≡ b
 list_row_same a b h = search rules
 
-flag_same : (a b : Bool) → beq a b ≡ true → a ≡ b
+pub flag_same : (a b : Bool) → beq a b ≡ true → a ≡ b
 flag_same true true h = refl
 flag_same false false h = refl
 flag_same a b h = cc
 
-id_same : (a b : Option (List ℕ)) → option_eq (pointwise nat_eq) a b ≡ true → a ≡ b
+pub id_same : (a b : Option (List ℕ)) → option_eq (pointwise nat_eq) a b ≡ true → a ≡ b
 id_same None None h = refl
 id_same (Some a) (Some b) h = ap Some (text_same a b h)
 id_same a b h = cc

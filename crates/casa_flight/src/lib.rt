@@ -18,7 +18,7 @@ mod state;
 
 pub use call::{Call, Refusal};
 pub use comp::{Assigned, Comp};
-pub use equality::{call_equality, reply_equality};
+pub use equality::{call_equality, reply_equality, row_equality};
 pub use laws::{
     assignment_is_right, calls_without_messages, choice_is_most_penalising,
     competitors_are_in_order, delay_is_of_the_place, entering_flights_are_in_order,

@@ -8,7 +8,7 @@ use casa_time::Moment;
 use std::alloc::AllocError;
 
 /// What the allocator keeps of a flight.
-#[derive(Drop, Debug)]
+#[derive(Drop, Debug, PartialEq, Eq)]
 pub struct Row {
     pub plan: Plan,
     /// Whether a desk marked the flight as exempt.
