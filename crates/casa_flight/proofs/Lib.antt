@@ -4,7 +4,7 @@ pub mod Entries
 pub mod Kept
 pub mod Same
 pub mod SameReply
-mod SameRow
+pub mod SameRow
 pub mod Assignment
 pub mod Rising
 pub mod Competitors
@@ -22,6 +22,8 @@ pub mod EnterAll
 pub mod CallMessages
 pub mod RegMessages
 pub mod InOrder
+pub mod Sorting
+pub mod Planning
 pub mod Chosen
 pub mod Planned
 pub mod IssuedTimes

@@ -22,7 +22,7 @@ use Rattle.casa_flight.proofs.GoodRegs.{comp_if, comp_if-key}
 use Rattle.casa_flight.proofs.InOrder.{HasName, PairsByRecursion, pairs_from_recursion, contains-planned, turn-planned}
 
 -- what is kept of a map is in the order of its names
-sorted-kept : {X Y : Type 0} (f : X → Option Y) (es : List (Text × X)) → AreInOrder es → AreInOrder (kept f es)
+pub sorted-kept : {X Y : Type 0} (f : X → Option Y) (es : List (Text × X)) → AreInOrder es → AreInOrder (kept f es)
 unfolding IsStrictlySortedBy
 sorted-kept f [] h = tt
 sorted-kept {X} {Y} f (e ∷ es) h =

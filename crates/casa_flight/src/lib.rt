@@ -9,6 +9,7 @@ mod comp;
 mod equality;
 mod laws;
 mod name;
+mod order;
 mod plan;
 mod regulation;
 mod reply;
@@ -28,6 +29,7 @@ pub use laws::{
     valid_plan_has_no_fault, written_row_changes_its_entries,
 };
 pub use name::{Key, Loc, Name, OfFlight, OfLocation, OfRegulation, RegId};
+pub use order::{put_in_order, sort_comps, sort_rows};
 pub use plan::{Crossing, Plan, PlanFault, Sts};
 pub use regulation::{Measure, Regulation};
 pub use reply::{Answer, FlightReply, Kind, ListReply, ListRow, Message, Messages, Reply, Rows};

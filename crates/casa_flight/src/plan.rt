@@ -7,6 +7,7 @@ ghost use Rattle.casa_flight.specs.FlightPlan.{FlightPlan, etot};
 ghost use Rattle.casa_flight.specs.PlanFaults.{plan_fault, name_of, has_twice, has_early};
 
 use crate::name::{Key, Loc, is_name};
+use crate::regulation::Regulation;
 use casa_time::Moment;
 use std::alloc::{AllocError, Global};
 use std::marker::Model;
@@ -197,6 +198,26 @@ impl Plan {
             via: self.via.clone()?,
             sts: self.sts,
         })
+    }
+}
+
+impl Plan {
+    ghost use Rattle.casa_flight.specs.State.{subject};
+
+    /// The estimated time over the regulation's location, where a flight with this plan is subject to the regulation;
+    /// `None` where it is not.
+    ///
+    /// By the ATFCM manuals a flight is subject to a regulation when it plans to cross the location while the
+    /// regulation lasts: from its start on and before its end.
+    pub fn time_over(&self, regulation: &Regulation) -> Option<Moment>
+        ensures { result ≡ subject self.now regulation.now }
+    {
+        let crossing = self.via().iter().find(|crossing| {
+            crossing.loc == regulation.loc
+                && regulation.start <= crossing.eto
+                && crossing.eto < regulation.end
+        });
+        crossing.map(|crossing| crossing.eto)
     }
 }
 

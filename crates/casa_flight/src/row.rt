@@ -1,7 +1,9 @@
 ghost use Rattle.std.specs.Prelude.{◌≡◌, IfOk};
+ghost use Rattle.casa_flight.specs.Listing.{competitor};
 ghost use Rattle.casa_flight.specs.State.{subject};
 
-use crate::name::RegId;
+use crate::comp::Comp;
+use crate::name::{Key, RegId};
 use crate::plan::Plan;
 use crate::regulation::Regulation;
 use casa_time::Moment;
@@ -30,20 +32,24 @@ pub enum Stance {
     Forced { eto: Moment },
 }
 
+impl Stance {
+    /// The flight with this key as a competitor; `None` where it does not compete.
+    pub fn competitor(&self, key: Key) -> Option<Comp>
+        ensures { result ≡ competitor key self.now }
+    {
+        match self {
+            Stance::Competing { eto } => Some(Comp { eto: *eto, key }),
+            _ => None,
+        }
+    }
+}
+
 /// The flight's estimated time over the regulation's location, where it is subject to the regulation; `None`
-/// where it is not.
-///
-/// By the ATFCM manuals a flight is subject to a regulation when it plans to cross the location while the
-/// regulation lasts: from its start on and before its end, whatever delay the flight has.
+/// where it is not (`Plan::time_over`), whatever delay the flight has.
 pub fn subject(row: &Row, regulation: &Regulation) -> Option<Moment>
     ensures { result ≡ subject row.now.plan regulation.now }
 {
-    let crossing = row.plan.via().iter().find(|crossing| {
-        crossing.loc == regulation.loc
-            && regulation.start <= crossing.eto
-            && crossing.eto < regulation.end
-    });
-    crossing.map(|crossing| crossing.eto)
+    row.plan.time_over(regulation)
 }
 
 impl Clone for Row {
