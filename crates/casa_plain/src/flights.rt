@@ -9,9 +9,8 @@ ghost use Rattle.casa_flight.specs.State.{is_governed_by, regulation};
 ghost use Rattle.casa_flight.specs.Steps.{flights_over, freed, may_compete};
 ghost use Rattle.casa_plain.specs.Flights.{flight_if};
 
-use crate::order::in_order;
 use crate::standing::{is_exempt, is_gone, is_governed_by, regulation, ungoverned};
-use casa_flight::{Comp, Key, Measure, RegId, Regulation, Row, subject};
+use casa_flight::{Comp, Key, Measure, RegId, Regulation, Row, sort_comps, subject};
 use casa_time::Moment;
 use std::alloc::{AllocError, Global};
 use std::collections::BTreeMap;
@@ -71,8 +70,9 @@ pub fn newcomers(
     ensures { IfOk result (λ comps. comps.items ≡
         flights_over (may_compete clock) regulation.now rows.now.entries) }
 {
-    let found = found_newcomers(alloc, rows, clock, regulation)?;
-    in_order(alloc, found.as_slice())
+    let mut comps = found_newcomers(alloc, rows, clock, regulation)?;
+    sort_comps(&mut comps);
+    Ok(comps)
 }
 
 /// The flights that a regulation governs, by key.
@@ -100,8 +100,9 @@ pub fn governed_flights(
     ensures { IfOk result (λ comps. comps.items ≡
         flights_over (is_governed_by regulation.now.id) regulation.now rows.now.entries) }
 {
-    let found = found_governed(alloc, rows, regulation)?;
-    in_order(alloc, found.as_slice())
+    let mut comps = found_governed(alloc, rows, regulation)?;
+    sort_comps(&mut comps);
+    Ok(comps)
 }
 
 /// The flight free of its regulation, if it is to be freed.

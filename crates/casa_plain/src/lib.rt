@@ -9,7 +9,6 @@ mod assignment;
 mod entry;
 mod flights;
 mod issuing;
-mod order;
 mod plain;
 mod plain_list;
 mod replies;

@@ -13,9 +13,8 @@ ghost use Rattle.casa_flight.specs.Listing.{places, place_of, stance_of, cto_as,
 ghost use Rattle.casa_flight.specs.Entry.{with_competitor};
 
 use crate::assignment::{assignment, cto, place_among};
-use crate::order::in_order;
-use crate::standing::{competitor, eto_as, issued_cto, stance_in};
-use casa_flight::{Assigned, Comp, Key, Measure, RegId, Row, Stance};
+use crate::standing::{eto_as, issued_cto, stance_in};
+use casa_flight::{Assigned, Comp, Key, Measure, RegId, Row, Stance, sort_comps};
 use casa_grid::{Grid, Place};
 use casa_time::Moment;
 use std::alloc::{AllocError, Global};
@@ -64,7 +63,7 @@ fn competing(alloc: Global, flights: &BTreeMap<Key, Stance>) -> Result<Vec<Comp>
 {
     flights
         .iter()
-        .filter_map(|(key, stance)| competitor(*key, stance))
+        .filter_map(|(key, stance)| stance.competitor(*key))
         .collect(alloc)
 }
 
@@ -73,8 +72,9 @@ fn competitors(alloc: Global, flights: &BTreeMap<Key, Stance>) -> Result<Vec<Com
     ensures { IfOk result (λ comps. comps.items ≡ in_order is_before
         (filter_map (λ (e : Text × Stance). competitor e.0 e.1) flights.now.entries)) }
 {
-    let comps = competing(alloc, flights)?;
-    in_order(alloc, comps.as_slice())
+    let mut comps = competing(alloc, flights)?;
+    sort_comps(&mut comps);
+    Ok(comps)
 }
 
 /// The times of the issued flights among these.

@@ -1,20 +1,21 @@
 //! What the allocator replies: the answer to a call, and the messages of a change.
 
-ghost use Rattle.std.specs.Prelude.{◌≡◌, IfOk, OnOk, OnErr, option_copied};
+ghost use Rattle.std.specs.Prelude.{◌≡◌, IfOk, OnOk, OnErr, map, option_copied};
+ghost use Rattle.casa_flight.specs.declared.row.Stance.{Stance};
+ghost use Rattle.casa_flight.specs.Text.{Text};
 ghost use Rattle.casa_flight.specs.Steps.{next, step};
 ghost use Rattle.casa_flight.specs.Replies.{flight_reply, flight_answer, slot_number, forced_time, row_in};
 ghost use Rattle.casa_flight.specs.Replies.{list_rows, list_reply, list_answer, answer, is_issued};
 ghost use Rattle.casa_flight.specs.Replies.{ctot_before, message, messages, reply};
 ghost use Rattle.casa_plain.specs.Outcome.{step_of};
 
-use crate::order::put_row;
 use crate::plain::Plain;
 use crate::plain_list::PlainList;
 use crate::standing::{is_exempt, regulation};
 use crate::steps::Outcome;
 use casa_flight::{
     Answer, Call, FlightReply, Key, Kind, ListReply, ListRow, Message, Messages, RegId, Regulation,
-    Reply, Row, Rows, Stance,
+    Reply, Row, Rows, Stance, sort_rows,
 };
 use casa_grid::Place;
 use casa_time::Moment;
@@ -159,14 +160,24 @@ impl Plain {
         }
     }
 
+    /// The flights of a list as it shows them, by key.
+    fn rows_in(&self, alloc: Global, list: &PlainList) -> Result<Vec<ListRow>, AllocError>
+        ensures { IfOk result (λ rows. rows.items ≡
+            map (λ (e : Text × Stance). row_in self.now list.now e.0 e.1) list.now.flights) }
+    {
+        let mut rows = Vec::new(alloc);
+        for (key, stance) in list.flights() {
+            rows.push(self.row_in(alloc, list, *key, *stance)?)?;
+        }
+        Ok(rows)
+    }
+
     /// The rows of a list, in their order.
     fn list_rows(&self, alloc: Global, list: &PlainList) -> Result<Rows, AllocError>
         ensures { IfOk result (λ rows. rows ≡ list_rows self.now list.now) }
     {
-        let mut rows = Vec::new(alloc);
-        for (key, stance) in list.flights() {
-            put_row(&mut rows, self.row_in(alloc, list, *key, *stance)?)?;
-        }
+        let mut rows = self.rows_in(alloc, list)?;
+        sort_rows(&mut rows)?;
         Ok(Rows::from_vec(rows)?)
     }
 

@@ -3,9 +3,9 @@
 ghost use Rattle.std.specs.Prelude.{◌≡◌, IfOk};
 ghost use Rattle.casa_flight.specs.FlightPlan.{is_exempting};
 ghost use Rattle.casa_flight.specs.State.{is_due, is_exempt, is_gone, is_governed_by, regulation, ungoverned};
-ghost use Rattle.casa_flight.specs.Listing.{competitor, eto_as, issued_cto, stance, stance_in};
+ghost use Rattle.casa_flight.specs.Listing.{eto_as, issued_cto, stance, stance_in};
 
-use casa_flight::{Comp, Key, Measure, Plan, RegId, Regulation, Row, Stance, Sts, subject};
+use casa_flight::{Measure, Plan, RegId, Regulation, Row, Stance, Sts, subject};
 use casa_time::{Moment, due};
 use std::alloc::AllocError;
 
@@ -94,16 +94,6 @@ pub fn stance_in(id: RegId, measure: &Measure, row: &Row) -> Option<Stance>
 {
     let eto = subject(row, &regulation(id, measure))?;
     Some(stance(is_governed_by(id, row), row.issued, eto))
-}
-
-/// The flight as a competitor, if it is one.
-pub fn competitor(key: Key, stance: &Stance) -> Option<Comp>
-    ensures { result ≡ competitor key stance.now }
-{
-    match stance {
-        Stance::Competing { eto } => Some(Comp { eto: *eto, key }),
-        _ => None,
-    }
 }
 
 /// The time at which the flight is issued, if it is.
