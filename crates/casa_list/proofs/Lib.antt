@@ -6,6 +6,7 @@ pub mod Walked
 pub mod Counted
 pub mod Changes
 pub mod Keeping
+pub mod Searched
 pub mod Flights
 pub mod Entering
 pub mod Holding
@@ -15,3 +16,4 @@ pub mod Regridding
 pub mod Reading
 pub mod Once
 pub mod Equal
+pub mod AtOnce

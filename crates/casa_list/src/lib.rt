@@ -8,6 +8,7 @@
 #![tactic(auto)]
 
 mod blocked;
+mod fresh;
 mod laws;
 mod list;
 mod order;

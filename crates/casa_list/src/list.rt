@@ -14,6 +14,7 @@ ghost use Rattle.casa_flight.specs.IssuedTimes.{with_issued};
 ghost use Rattle.casa_list.specs.Standings.{standings, count_governed, governed_place, governed_cto, issue_cto, is_forced, competing_eto, forced_eto};
 
 use crate::blocked::{block, counted, slot_of, unblock};
+use crate::fresh::{competitors_of, forced_of, issued_of};
 use crate::order::{entry_at, index_of, put_flight, take_flight};
 use crate::standing::{Entry, Standing};
 use crate::walk::{
@@ -105,6 +106,32 @@ impl SlotList {
             competitors: Vec::new(alloc),
             issued: Vec::new(alloc),
             forced: Vec::new(alloc),
+            blocked,
+        })
+    }
+
+    /// A list with these flights, or `AllocError` where there is no memory for it.
+    ///
+    /// It sorts them once and places them in one walk.
+    pub fn of(
+        alloc: Global,
+        grid: Grid,
+        flights: BTreeMap<Key, Stance>,
+    ) -> Result<SlotList, AllocError>
+        ensures { IfOk result (λ list. list ≡ record { profile = grid; flights = flights.entries }) }
+    {
+        let mut competitors = competitors_of(alloc, &flights)?;
+        let mut issued = issued_of(alloc, &flights)?;
+        let forced = forced_of(alloc, &flights)?;
+        issued.reserve(competitors.len())?;
+        let blocked = counted(alloc, &grid, issued.as_slice())?;
+        walk_all(&grid, blocked.as_slice(), &mut competitors);
+        Ok(SlotList {
+            grid,
+            flights,
+            competitors,
+            issued,
+            forced,
             blocked,
         })
     }
@@ -342,6 +369,14 @@ impl SlotList {
         ensures { result ≡ cto_as self.now comp.now.key (Stance.Competing comp.now.eto) }
     {
         cto_at(&self.grid, comp.eto, self.place_at(comp))
+    }
+
+    /// How each flight stands, by keys.
+    pub fn flights(&self) -> &BTreeMap<Key, Stance>
+        ensures flights { result.now.entries ≡ self.now.flights }
+        ensures keys { AreInOrder self.now.flights }
+    {
+        &self.flights
     }
 
     /// How many flights the regulation governs: the competitors and the issued flights.

@@ -2,6 +2,7 @@
 
 ghost use Rattle.std.specs.Prelude.{◌≡◌, ◌<◌, ◌≤◌, IfSome, length, not, unwrap_or, vec_len, vec_capacity, ◌+◌};
 ghost use Rattle.std.specs.List.{position, remove, slice_get};
+ghost use Rattle.std.specs.List.Sorted.{IsSortedBy};
 ghost use Rattle.casa_flight.specs.declared.comp.Assigned.{Assigned};
 ghost use Rattle.casa_flight.specs.declared.comp.Comp.{Comp};
 ghost use Rattle.casa_flight.specs.Listing.{is_before, put_by};
@@ -11,30 +12,28 @@ ghost use Rattle.casa_list.specs.declared.standing.Standing.{Standing};
 use crate::standing::{Entry, Standing};
 use casa_flight::{Assigned, Comp};
 
+/// Whether the one flight comes before the other: by time over, and by key among equal times.
+fn is_before(a: &Comp, b: &Comp) -> bool
+    ensures { result ≡ is_before a.now b.now }
+{
+    a < b
+}
+
 /// Whether the one flight does not come before the other: by time over, and by key among equal times.
 fn is_not_before(a: &Comp, b: &Comp) -> bool
     ensures { result ≡ not (is_before a.now b.now) }
 {
-    !(a < b)
+    !is_before(a, b)
 }
 
-/// The first competitor that does not come before this one.
-fn first_not_before(competitors: &[Assigned], comp: &Comp) -> Option<usize>
-    ensures value { result ≡ position (λ (a : Assigned). not (is_before a.comp comp.now)) competitors.now }
-    ensures within { IfSome result (λ i. i < length competitors.now) }
-{
-    competitors
-        .iter()
-        .position(|assigned| is_not_before(&assigned.comp, comp))
-}
-
-/// Where a competitor stands among these, or where it goes.
+/// Where a competitor stands among these, which are in their order, or where it goes.
 pub fn index_of(competitors: &[Assigned], comp: &Comp) -> usize
+    requires { IsSortedBy (λ (a b : Assigned). is_before a.comp b.comp) competitors.now }
     ensures value { result ≡
         unwrap_or (position (λ (a : Assigned). not (is_before a.comp comp.now)) competitors.now) (length competitors.now) }
     ensures within { result ≤ length competitors.now }
 {
-    first_not_before(competitors, comp).unwrap_or(competitors.len())
+    competitors.partition_point(|assigned| is_before(&assigned.comp, comp))
 }
 
 /// The first flight that does not come before this one.

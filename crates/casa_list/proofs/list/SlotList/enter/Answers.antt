@@ -2,10 +2,11 @@ use Rattle.std.proofs.Common.{◌≡◌, ◌∙◌, ◌+◌, ◌≤◌, ◌∷�
 use Rattle.casa_grid.specs.Slots.{slots}
 use Rattle.casa_flight.specs.declared.row.Stance.TheVariants.{Competing}
 use Rattle.casa_flight.specs.Text.{put}
-use Rattle.casa_flight.specs.Listing.{place_of}
+use Rattle.casa_flight.specs.Listing.{Listing, places, place_of}
 use Rattle.casa_list.specs.Walk.{place_low, low_behind, followed, comps_in}
 use Rattle.casa_list.proofs.Keeping.{index_of, kept_follow, stands}
 use Rattle.casa_list.proofs.Entering.{kept_entered, entered_place}
+use Rattle.casa_list.proofs.Searched.{sorted_places}
 use Rattle.casa_list.proofs.list.SlotList.enter.Goals as goal
 
 pub put_competitor-requires-clause-follow : goal.put_competitor-requires-clause-follow
@@ -36,3 +37,10 @@ returns-clause-place c =
     ∙ (λ j. place_low (slots c.self.inside.grid) (c.as_slice-blocked.ensures.value j) (low_behind (length (c.as_slice-blocked.ensures.value j)) 0 (take (at j) (c.reserve.ensures.items j))) comp.eto)
     ∙ sym (entered_place comp c.self.invariant absent)
     ∙ ap (λ es. place_of (record { profile = c.self.inside.grid; flights = es }) comp.key) (sym written)
+
+pub index_of-at-requires : goal.index_of-at-requires
+index_of-at-requires c =
+    let l : Listing = record { profile = c.self.inside.grid; flights = c.self.inside.flights.entries } in
+    let xs = c.as_slice.result.now in
+    let are : xs ≡ places l = search (rules, c.self.invariant.competitors_are) in
+    sorted_places l xs are

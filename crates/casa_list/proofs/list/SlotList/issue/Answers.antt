@@ -6,10 +6,11 @@ use Rattle.std.proofs.lemmas.Cmp.{nat_list_eq_equiv}
 use Rattle.casa_flight.specs.declared.comp.Comp.{Comp}
 use Rattle.casa_flight.specs.declared.row.Stance.TheVariants.{Competing}
 use Rattle.casa_flight.specs.Text.{same_text}
-use Rattle.casa_flight.specs.Listing.{Listing, place_of}
+use Rattle.casa_flight.specs.Listing.{Listing, places, place_of}
 use Rattle.casa_flight.proofs.MovesNobody.{place_issued}
 use Rattle.casa_list.proofs.Keeping.{index_of, standing_within, kept_few, stands}
 use Rattle.casa_list.proofs.Issuing.{kept_issued, issue_time}
+use Rattle.casa_list.proofs.Searched.{sorted_places}
 use Rattle.casa_list.proofs.list.SlotList.issue.Goals as goal
 
 pub remove-requires : goal.remove-requires
@@ -55,3 +56,10 @@ returns-clause-others c =
     ap (λ es. place_of (record l { flights = es }) other) c.write_issued.ensures
     ∙ place_issued l comp.key other comp.eto cto c.block.ensures.valid c.self.invariant.keys found time (λ same. both_ways _ apart (subst (λ q. same_text other q ≡ true) same (nat_list_eq_equiv.refl other)))
     ∙ ap (λ (m : Listing). place_of m other) c.self.view_is
+
+pub index_of-at-requires : goal.index_of-at-requires
+index_of-at-requires c =
+    let l : Listing = record { profile = c.self.inside.grid; flights = c.self.inside.flights.entries } in
+    let xs = c.as_slice.result.now in
+    let are : xs ≡ places l = search (rules, c.self.invariant.competitors_are) in
+    sorted_places l xs are

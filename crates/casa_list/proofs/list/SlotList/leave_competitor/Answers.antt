@@ -4,10 +4,11 @@ use Rattle.std.proofs.lemmas.Option.{slice_get-get_or}
 use Rattle.casa_grid.specs.Slots.{slots}
 use Rattle.casa_flight.specs.declared.comp.Assigned.{Assigned}
 use Rattle.casa_flight.specs.declared.row.Stance.TheVariants.{Competing}
-use Rattle.casa_flight.specs.Listing.{Listing, place_of}
+use Rattle.casa_flight.specs.Listing.{Listing, places, place_of}
 use Rattle.casa_list.specs.Walk.{followed, comps_in}
 use Rattle.casa_list.proofs.Keeping.{index_of, kept_follow, standing_within, standing_place, stands}
 use Rattle.casa_list.proofs.Entering.{kept_left}
+use Rattle.casa_list.proofs.Searched.{sorted_places}
 use Rattle.casa_list.proofs.list.SlotList.leave_competitor.Goals as goal
 
 pub take_competitor-requires-clause-within : goal.take_competitor-requires-clause-within
@@ -50,3 +51,10 @@ returns-clause-place c =
     c.take_competitor.ensures.place a (ap (slice_get xs) at ∙ there)
     ∙ standing_place comp a c.self.invariant found there
     ∙ ap (λ (m : Listing). place_of m comp.key) c.self.view_is
+
+pub index_of-at-requires : goal.index_of-at-requires
+index_of-at-requires c =
+    let l : Listing = record { profile = c.self.inside.grid; flights = c.self.inside.flights.entries } in
+    let xs = c.as_slice.result.now in
+    let are : xs ≡ places l = search (rules, c.self.invariant.competitors_are) in
+    sorted_places l xs are
