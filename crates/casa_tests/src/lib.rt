@@ -10,8 +10,6 @@ mod grid;
 #[cfg(test)]
 mod history;
 #[cfg(test)]
-mod list;
-#[cfg(test)]
 mod parts;
 #[cfg(test)]
 mod plain;

@@ -1,6 +1,6 @@
 //! What the tests are put together of.
 
-use casa_flight::{Comp, Crossing, Key, Loc, RegId};
+use casa_flight::{Crossing, Key, Loc, RegId};
 use casa_grid::{Period, Profile};
 use casa_time::Moment;
 use std::alloc::Global;
@@ -26,14 +26,6 @@ pub fn over(name: &[u8], eto: u32) -> Result<Crossing, Fail> {
     Ok(Crossing {
         loc: loc(name)?,
         eto: Moment::new(eto)?,
-    })
-}
-
-/// The flight with this key and estimated time over.
-pub fn comp(text: &[u8], eto: u32) -> Result<Comp, Fail> {
-    Ok(Comp {
-        eto: Moment::new(eto)?,
-        key: key(text)?,
     })
 }
 

@@ -1,0 +1,9 @@
+//! Tests of casa_list, through what is public of it.
+//!
+//! They stand in a crate of their own, so that they are proved beside those of the other crates.
+#![tactic(auto)]
+
+#[cfg(test)]
+mod list;
+#[cfg(test)]
+mod parts;
