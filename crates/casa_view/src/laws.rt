@@ -1,52 +1,17 @@
-//! Laws of the definitions, each on a function that does nothing: what a call needs to see and what it changes.
+//! Laws of the definitions, each on a function that does nothing: what the contracts of this crate mean.
 
-ghost use Rattle.std.specs.Prelude.{◌≡◌, false, List, ◌++◌, None};
-ghost use Rattle.casa_flight.specs.declared.call.Call.{Call};
-ghost use Rattle.casa_flight.specs.declared.reply.Reply.{Reply};
-ghost use Rattle.casa_flight.specs.declared.state.State.{State};
-ghost use Rattle.casa_flight.specs.Text.{Text};
-ghost use Rattle.casa_flight.specs.Listing.{list_of};
-ghost use Rattle.casa_flight.specs.Good.{IsGood};
-ghost use Rattle.casa_flight.specs.Steps.{next};
-ghost use Rattle.casa_flight.specs.Replies.{reply};
-ghost use Rattle.casa_history.specs.declared.entry.Entry.{Entry};
-ghost use Rattle.casa_view.specs.Items.{Item, the_catalogue, contents, AgreeOn};
-ghost use Rattle.casa_view.specs.Footprint.{reads, writes};
-ghost use Rattle.casa_view.specs.Stamps.{View, state_after, stamp, IsUnmoved};
+ghost use Rattle.std.specs.Prelude.{◌≡◌};
+ghost use Rattle.casa_flight.specs.Text.{Text, at_name};
+ghost use Rattle.casa_flight.specs.Good.{AreInOrder};
+ghost use Rattle.casa_view.specs.declared.view.View.{View};
+ghost use Rattle.casa_view.specs.Shown.{row_shown, rows_shown, HasRowsInOrder};
 
-/// What a call reads decides its reply, which items it writes, and what these contain afterwards: two good states
-/// that agree on what the call reads in the first of them differ in none of these.
-pub fn footprints_decide()
-    ensures reply { (m n : State) (call : Call) → IsGood m → IsGood n → AgreeOn (reads m call) m n →
-        reply m call ≡ reply n call }
-    ensures written { (m n : State) (call : Call) → IsGood m → IsGood n → AgreeOn (reads m call) m n →
-        (i : Item) → writes m call i ≡ writes n call i }
-    ensures afterwards { (m n : State) (call : Call) → IsGood m → IsGood n → AgreeOn (reads m call) m n →
-        AgreeOn (writes m call) (next m call) (next n call) }
-{}
+use crate::version::Version;
 
-/// What a call does not write contains afterwards what it contained before.
-pub fn other_items_stay()
-    ensures { (m : State) (call : Call) → IsGood m →
-        (i : Item) → writes m call i ≡ false → contents (next m call) i ≡ contents m i }
-{}
-
-/// What a call reads decides what it reads: to look at it is to know that nothing else is to be looked at.
-pub fn reads_decide_reads()
-    ensures { (m n : State) (call : Call) → IsGood m → IsGood n → AgreeOn (reads m call) m n →
-        (i : Item) → reads m call i ≡ reads n call i }
-{}
-
-/// An item with the same stamp after two histories, of which one begins the other, contains the same after both:
-/// every item, also the absence of a row that came back. So where a view is unmoved, its items contain what they
-/// contained when it saw them. The catalogue's stamp answers for the lists that are absent.
-pub fn equal_stamps_show_equal_items()
-    ensures item { (history later : List (Entry Call Reply)) (i : Item) →
-        stamp history i ≡ stamp (history ++ later) i →
-        contents (state_after history) i ≡ contents (state_after (history ++ later)) i }
-    ensures view { (history later : List (Entry Call Reply)) (view : View) → IsUnmoved view history →
-        IsUnmoved view (history ++ later) → AgreeOn view.has (state_after history) (state_after (history ++ later)) }
-    ensures absent { (history later : List (Entry Call Reply)) (id : Text) →
-        stamp history the_catalogue ≡ stamp (history ++ later) the_catalogue →
-        list_of (state_after history) id ≡ None → list_of (state_after (history ++ later)) id ≡ None }
+/// The rows of a view, as `rows` and `nth_row` give them, are in the order of their keys, each once; and they are those
+/// that `row` gives, key by key.
+pub fn rows_are_those_shown<V: Version>()
+    ensures ordered { (v : View V) → HasRowsInOrder v → AreInOrder (rows_shown V.item_of v) }
+    ensures shown { (v : View V) (key : Text) → HasRowsInOrder v →
+        at_name (rows_shown V.item_of v) key ≡ row_shown V.item_of v key }
 {}

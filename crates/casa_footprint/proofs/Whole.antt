@@ -1,0 +1,112 @@
+-- the calls that read all items, and what Tick leaves as it was
+use Rattle.std.proofs.Common.{◌≡◌, ℕ, List, [], ◌∷◌, Bool, true, false, refl, sym, ap, ◌∙◌, Option, None, Some, ◌&&◌, map, nat_lt}
+use Rattle.std.specs.Option.{option_map, option_map_or}
+use Rattle.std.specs.List.{cons_option, list_any}
+use Rattle.std.proofs.lemmas.Bool.{or_parts}
+use Rattle.casa_grid.specs.declared.period.Period.{Period}
+use Rattle.casa_flight.specs.declared.call.Call.{Call}
+use Rattle.casa_flight.specs.declared.call.Call.TheVariants.{OpenReg, CloseReg, Tick}
+use Rattle.casa_flight.specs.declared.regulation.Measure.{Measure}
+use Rattle.casa_flight.specs.declared.row.Row.{Row}
+use Rattle.casa_flight.specs.declared.row.Stance.{Stance}
+use Rattle.casa_flight.specs.declared.state.State.{State}
+use Rattle.casa_flight.specs.Text.{Text}
+use Rattle.casa_flight.specs.State.{row_of, measure_of, regulation, subject, is_governed_by}
+use Rattle.casa_flight.specs.Listing.{listing, stance, stance_in, kept}
+use Rattle.casa_flight.specs.Entry.{is_to_issue, issue_if, issue_due}
+use Rattle.casa_flight.specs.Steps.{tick, after, next}
+use Rattle.casa_flight.specs.Replies.{reply}
+use Rattle.casa_flight.specs.Good.{IsGood}
+use Rattle.casa_flight.proofs.Entries.{at-map}
+use Rattle.casa_flight.proofs.Kept.{same_entries}
+use Rattle.casa_footprint.specs.Items.{ItemName, the_clock, the_catalogue, a_row, a_list, row_or_none, list_or_none, contents, AgreeOn}
+use Rattle.casa_footprint.specs.Footprint.{reads, would_write, is_accepted}
+use Rattle.casa_footprint.proofs.Names.{clock_in, catalogue_in, row_in, list_in}
+use Rattle.casa_footprint.proofs.Catalogue.{measure_same}
+use Rattle.casa_footprint.proofs.Forms.{Decides, DecidesWrites, DecidesReads, Spares}
+
+-- good states with the same contents of all items are the same
+pub same_state : (m n : State) → IsGood m → IsGood n → ((i : ItemName) → contents m i ≡ contents n i) → m ≡ n
+same_state m n gm gn s =
+    let rows : m.rows ≡ n.rows = same_entries m.rows n.rows gm.rows_in_order gn.rows_in_order (λ key. row_in m n key (s (a_row key))) in
+    let regs : m.regs ≡ n.regs = same_entries m.regs n.regs gm.regs_in_order gn.regs_in_order (λ id. measure_same m n id (catalogue_in m n (s the_catalogue)) (list_in m n id (s (a_list id)))) in
+    let clock : m.clock ≡ n.clock = clock_in m n (s the_clock) in
+    λ i. record { clock = clock i; regs = regs i; rows = rows i }
+
+-- a call that reads all items
+abbrev ReadsAll : Call → Type 0
+ReadsAll call = (m : State) (i : ItemName) → reads m call i ≡ true
+
+whole : (call : Call) → ReadsAll call → (m n : State) → IsGood m → IsGood n → AgreeOn (reads m call) m n → m ≡ n
+whole call all m n gm gn s = same_state m n gm gn (λ i. s i (all m i))
+
+whole_decides : (call : Call) → ReadsAll call → Decides call
+whole_decides call all m n gm gn s =
+    let e : m ≡ n = whole call all m n gm gn s in
+    (ap (λ (t : State). reply t call) e, λ i h. ap (λ (t : State). contents (next t call) i) e)
+
+whole_writes : (call : Call) → ReadsAll call → DecidesWrites call
+whole_writes call all m n gm gn s i = ap (λ (t : State). would_write t call i) (whole call all m n gm gn s)
+
+whole_reads : (call : Call) → ReadsAll call → DecidesReads call
+whole_reads call all m n gm gn s i = all m i ∙ sym (all n i)
+
+pub tick_decides : (at : ℕ) → Decides (Tick at)
+tick_decides at = whole_decides (Tick at) (λ m i. refl)
+
+pub tick_writes : (at : ℕ) → DecidesWrites (Tick at)
+tick_writes at = whole_writes (Tick at) (λ m i. refl)
+
+pub tick_reads : (at : ℕ) → DecidesReads (Tick at)
+tick_reads at = whole_reads (Tick at) (λ m i. refl)
+
+pub open_decides : (id loc : Text) (profile : List Period) → Decides (OpenReg id loc profile)
+open_decides id loc profile = whole_decides (OpenReg id loc profile) (λ m i. refl)
+
+pub open_writes : (id loc : Text) (profile : List Period) → DecidesWrites (OpenReg id loc profile)
+open_writes id loc profile = whole_writes (OpenReg id loc profile) (λ m i. refl)
+
+pub open_reads : (id loc : Text) (profile : List Period) → DecidesReads (OpenReg id loc profile)
+open_reads id loc profile = whole_reads (OpenReg id loc profile) (λ m i. refl)
+
+pub close_decides : (id : Text) → Decides (CloseReg id)
+close_decides id = whole_decides (CloseReg id) (λ m i. refl)
+
+pub close_writes : (id : Text) → DecidesWrites (CloseReg id)
+close_writes id = whole_writes (CloseReg id) (λ m i. refl)
+
+pub close_reads : (id : Text) → DecidesReads (CloseReg id)
+close_reads id = whole_reads (CloseReg id) (λ m i. refl)
+
+-- a row that is not issued stays
+row_stays : (m : State) (at : ℕ) (key : Text) (w : Option Row) → option_map_or (is_to_issue at) w false ≡ false → option_map (λ (row : Row). issue_if (is_to_issue at row) m key row) w ≡ w
+row_stays m at key None h = refl
+row_stays m at key (Some row) h = ap (λ b. Some (issue_if b m key row)) h
+
+-- a flight that is not issued, or that another regulation governs, stands as it stood
+stance_stays : (m : State) (id : Text) (measure : Measure) (key : Text) (row : Row) (b : Bool) → (b && is_governed_by id row) ≡ false → stance_in id measure (issue_if b m key row) ≡ stance_in id measure row
+stance_stays m id measure key row false h = refl
+stance_stays m id measure key row true h =
+    ap (λ g. option_map (stance g (issue_if true m key row).issued) (subject row.plan (regulation id measure))) h
+    ∙ sym (ap (λ g. option_map (stance g row.issued) (subject row.plan (regulation id measure))) h)
+
+flights_stay : (m : State) (at : ℕ) (id : Text) (measure : Measure) (es : List (Text × Row)) → list_any (λ (e : Text × Row). is_to_issue at e.1 && is_governed_by id e.1) es ≡ false
+    → kept (stance_in id measure) (map (λ (e : Text × Row). (e.0, issue_if (is_to_issue at e.1) m e.0 e.1)) es) ≡ kept (stance_in id measure) es
+flights_stay m at id measure [] h = refl
+flights_stay m at id measure (e ∷ es) h =
+    let both = or_parts (is_to_issue at e.1 && is_governed_by id e.1) (list_any (λ (e : Text × Row). is_to_issue at e.1 && is_governed_by id e.1) es) h in
+    λ i. cons_option (option_map (λ (y : Stance). (e.0, y)) (stance_stays m id measure e.0 e.1 (is_to_issue at e.1) both.0 i)) (flights_stay m at id measure es both.1 i)
+
+pub tick_spares : (at : ℕ) → Spares (Tick at)
+tick_spares at m good i h = by (nat_lt at m.clock) i h
+  where
+    list : (id : Text) → list_any (λ (e : Text × Row). is_to_issue at e.1 && is_governed_by id e.1) m.rows ≡ false → (w : Option Measure) → option_map (listing (issue_due (record m { clock = at })).rows id) w ≡ option_map (listing m.rows id) w
+    list id h None = refl
+    list id h (Some measure) = λ i. Some (record { profile = measure.profile; flights = flights_stay (record m { clock = at }) at id measure m.rows h i })
+
+    by : (back : Bool) (i : ItemName) → (is_accepted (tick m at back) && would_write m (Tick at) i) ≡ false → contents (after m (tick m at back)) i ≡ contents m i
+    by true i h = refl
+    by false the_clock h = cc
+    by false the_catalogue h = refl
+    by false (a_row key) h = ap row_or_none (at-map (λ k row. issue_if (is_to_issue at row) (record m { clock = at }) k row) key m.rows ∙ row_stays (record m { clock = at }) at key (row_of m key) h)
+    by false (a_list id) h = ap list_or_none (list id h (measure_of m id))

@@ -1,0 +1,15 @@
+use Rattle.std.proofs.Common.{sym, subst}
+use Rattle.casa_view.specs.Board.{versions, next_versions, says}
+use Rattle.casa_view.specs.Versions.{IsOrderly}
+use Rattle.casa_view.proofs.Orderly.{orderly_kept}
+use Rattle.casa_view.proofs.board.BoardWorld.apply.Goals as goal
+
+pub invariant_of-self : goal.invariant_of-self
+invariant_of-self g c =
+    let version = g.K.Version.Version in
+    let items = c.args.self.now.items in
+    record {
+      orderly = subst (IsOrderly version.item_of) (sym c.turn.ensures)
+          (orderly_kept version.item_of version.number (says c.args._change) c.args._number (versions items) (next_versions items)
+          c.requires c.args.self.now.orderly);
+    }

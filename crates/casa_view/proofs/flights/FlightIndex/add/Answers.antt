@@ -1,0 +1,30 @@
+use Rattle.std.proofs.Common.{subst}
+use Rattle.casa_view.specs.Passing.{HaveVia}
+use Rattle.casa_view.proofs.Due.{more_departures, added_departure}
+use Rattle.casa_view.proofs.Over.{more_passings, added_passings}
+use Rattle.casa_view.proofs.flights.FlightIndex.add.Goals as goal
+
+pub returns-in_err-add_departure-clause-stays : goal.returns-in_err-add_departure-clause-stays
+returns-in_err-add_departure-clause-stays c = λ at h. record {
+  waiting = more_departures at _ _ c.add_departure.ensures.stays h.waiting;
+  passings = h.passings;
+}
+
+pub returns-in_err-add_passings-clause-stays : goal.returns-in_err-add_passings-clause-stays
+returns-in_err-add_passings-clause-stays c = λ at h. record {
+  waiting = more_departures at _ _ c.add_departure.ensures.stays h.waiting;
+  passings = more_passings at _ _ c.add_passings.ensures.stays h.passings;
+}
+
+pub returns-clause-stays : goal.returns-clause-stays
+returns-clause-stays c = λ at h. record {
+  waiting = more_departures at _ _ c.add_departure.ensures.stays h.waiting;
+  passings = more_passings at _ _ c.add_passings.ensures.stays h.passings;
+}
+
+pub returns-clause-added : goal.returns-clause-added
+returns-clause-added c = λ at h. record {
+  waiting = added_departure c.args.key c.args.row.now at _ _ c.add_departure.ensures.stays c.in_ok-add_departure.ensures.added h.waiting;
+  passings = added_passings c.args.key c.args.row.now at _ _ c.add_passings.ensures.stays
+      (subst (HaveVia c.add_passings.new.passings.keys c.args.key) c.via.ensures c.in_ok-add_passings.ensures.added) h.passings;
+}

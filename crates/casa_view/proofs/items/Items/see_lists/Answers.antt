@@ -1,0 +1,16 @@
+use Rattle.std.proofs.Common.{◌||◌, is_some, map}
+use Rattle.std.specs.Map.Iter.{deref_pair}
+use Rattle.casa_flight.specs.Text.{at_name}
+use Rattle.casa_view.proofs.Noted.{sees_same, some-push}
+use Rattle.casa_view.proofs.items.Items.see_lists.Goals as goal
+
+pub loop-id-preserved : goal.loop-id-preserved
+loop-id-preserved g c = (
+  tt,
+  tt,
+  λ t h.
+      let past = c.loop-id.yielded in
+      sees_same c.args.self.now.lists.entries _ _ _
+      (λ q. some-push deref_pair past (c.in-Some.id, c.in-Some.field-0-1) q (t q))
+      (c.in_ok-see_list.ensures (λ q. is_some (at_name (map deref_pair past) q) || t q) (c.loop-id.invariant.2 t h)),
+)

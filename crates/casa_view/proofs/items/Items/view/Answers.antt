@@ -1,0 +1,128 @@
+use Rattle.std.proofs.Common.{◌||◌, Bool, true, false, Option, None, Some, refl, ap, ◌∙◌}
+use Rattle.std.specs.Option.{option_copied}
+use Rattle.casa_flight.specs.Text.{Text, same_text}
+use Rattle.casa_flight.specs.FlightPlan.{FlightPlan}
+use Rattle.casa_footprint.specs.Items.{ItemName}
+use Rattle.casa_view.specs.Versions.{regulations_of}
+use Rattle.casa_view.specs.Board.{versions}
+use Rattle.casa_view.specs.Taking.{meets_either, is_of, named, plan_at, governing_at, forced_at, governs_forced_at}
+use Rattle.casa_view.proofs.WhatIsRead.{is_read, file_reads, amend_reads, cancel_reads, revise_reads, exempt_reads, rates_reads, show_reads, list_reads}
+use Rattle.casa_view.proofs.items.Items.view.Goals as goal
+
+pub returns-in-File : goal.returns-in-File
+returns-in-File g c =
+    let vs = versions c.args.self.now in
+    let item_of = g.V.Version.item_of in
+    let number = g.V.Version.number in
+    let regs = regulations_of (item_of vs.catalogue) in
+    let plan = c.in-File.plan in
+    let test : Text → ItemName → Bool = λ k. named true true (same_text k) (meets_either regs None (Some plan)) in
+    is_read item_of number vs _ _ c.in-File.is
+    (test c.key.result)
+    _ c.flight_view.ensures
+    (λ well i. ap (λ (k : Text). test k i) c.key.ensures ∙ file_reads item_of number vs c.requires.rows well plan i)
+
+pub returns-in-Amend : goal.returns-in-Amend
+returns-in-Amend g c =
+    let vs = versions c.args.self.now in
+    let item_of = g.V.Version.item_of in
+    let number = g.V.Version.number in
+    let regs = regulations_of (item_of vs.catalogue) in
+    let plan = c.in-Amend.plan in
+    let test : Text → Option FlightPlan → ItemName → Bool =
+    λ k old. named true true (same_text k) (meets_either regs old (Some plan)) in
+    is_read item_of number vs _ _ c.in-Amend.is
+    (test c.key-key.result (option_copied c.plan.result))
+    _ c.flight_view-in-Amend.ensures
+    (λ well i. ap (λ (old : Option FlightPlan). test c.key-key.result old i) c.plan.ensures
+    ∙ ap (λ (k : Text). test k (plan_at item_of vs k) i) c.key-key.ensures
+    ∙ amend_reads item_of number vs c.requires.rows well plan i)
+
+pub returns-in-Cancel : goal.returns-in-Cancel
+returns-in-Cancel g c =
+    let vs = versions c.args.self.now in
+    let item_of = g.V.Version.item_of in
+    let number = g.V.Version.number in
+    let regs = regulations_of (item_of vs.catalogue) in
+    let key = c.in-Cancel.key in
+    let test : Option FlightPlan → ItemName → Bool = λ old. named false true (same_text key) (meets_either regs old None) in
+    is_read item_of number vs _ _ c.in-Cancel.is
+    (test (option_copied c.plan-in-Cancel.result))
+    _ c.flight_view-in-Cancel.ensures
+    (λ well i. ap (λ (old : Option FlightPlan). test old i) c.plan-in-Cancel.ensures
+    ∙ cancel_reads item_of number vs c.requires.rows well key i)
+
+pub returns-in-Revise : goal.returns-in-Revise
+returns-in-Revise g c =
+    let vs = versions c.args.self.now in
+    let item_of = g.V.Version.item_of in
+    let number = g.V.Version.number in
+    let regs = regulations_of (item_of vs.catalogue) in
+    let key = c.in-Revise.key in
+    let test : Option FlightPlan → ItemName → Bool = λ old. named true true (same_text key) (meets_either regs old None) in
+    is_read item_of number vs _ _ c.in-Revise.is
+    (test (option_copied c.plan-in-Revise.result))
+    _ c.flight_view-in-Revise.ensures
+    (λ well i. ap (λ (old : Option FlightPlan). test old i) c.plan-in-Revise.ensures
+    ∙ revise_reads item_of number vs c.requires.rows well key i)
+
+pub returns-in-Exempt : goal.returns-in-Exempt
+returns-in-Exempt g c =
+    let vs = versions c.args.self.now in
+    let item_of = g.V.Version.item_of in
+    let number = g.V.Version.number in
+    let regs = regulations_of (item_of vs.catalogue) in
+    let key = c.in-Exempt.key in
+    let test : Option FlightPlan → ItemName → Bool = λ old. named false true (same_text key) (meets_either regs old None) in
+    is_read item_of number vs _ _ c.in-Exempt.is
+    (test (option_copied c.plan-in-Exempt.result))
+    _ c.flight_view-in-Exempt.ensures
+    (λ well i. ap (λ (old : Option FlightPlan). test old i) c.plan-in-Exempt.ensures
+    ∙ exempt_reads item_of number vs c.requires.rows well key i)
+
+pub returns-in-OpenReg : goal.returns-in-OpenReg
+returns-in-OpenReg g c =
+    is_read g.V.Version.item_of g.V.Version.number (versions c.args.self.now) _ _ c.in-OpenReg.is
+    (λ i. true) _ c.whole_view.ensures (λ well i. refl)
+
+pub returns-in-CloseReg : goal.returns-in-CloseReg
+returns-in-CloseReg g c =
+    is_read g.V.Version.item_of g.V.Version.number (versions c.args.self.now) _ _ c.in-CloseReg.is
+    (λ i. true) _ c.whole_view-in-CloseReg.ensures (λ well i. refl)
+
+pub returns-in-Tick : goal.returns-in-Tick
+returns-in-Tick g c =
+    is_read g.V.Version.item_of g.V.Version.number (versions c.args.self.now) _ _ c.in-Tick.is
+    (λ i. true) _ c.whole_view-in-Tick.ensures (λ well i. refl)
+
+pub returns-in-Rates : goal.returns-in-Rates
+returns-in-Rates g c =
+    let vs = versions c.args.self.now in
+    let item_of = g.V.Version.item_of in
+    let number = g.V.Version.number in
+    is_read item_of number vs _ _ c.in-Rates.is
+    (named false true (λ q. false) (same_text c.in-Rates.id))
+    _ c.rates_view.ensures
+    (λ well i. rates_reads item_of number vs c.requires.rows well c.in-Rates.id c.in-Rates.field-1 i)
+
+pub returns-in-Show : goal.returns-in-Show
+returns-in-Show g c =
+    let vs = versions c.args.self.now in
+    let item_of = g.V.Version.item_of in
+    let number = g.V.Version.number in
+    let key = c.in-Show.key in
+    is_read item_of number vs _ _ c.in-Show.is
+    (named false false (same_text key) (is_of (governing_at item_of vs key)))
+    _ c.show_view.ensures
+    (λ well i. show_reads item_of number vs c.requires.rows well key i)
+
+pub returns-in-List : goal.returns-in-List
+returns-in-List g c =
+    let vs = versions c.args.self.now in
+    let item_of = g.V.Version.item_of in
+    let number = g.V.Version.number in
+    let id = c.in-List.id in
+    is_read item_of number vs _ _ c.in-List.is
+    (named false true (forced_at item_of number vs id) (λ q. same_text id q || governs_forced_at item_of number vs id q))
+    _ c.list_view.ensures
+    (λ well i. list_reads item_of number vs c.requires.rows well id i)

@@ -1,5 +1,0 @@
-use Rattle.casa_view.proofs.EachCall.{reads_same}
-use Rattle.casa_view.proofs.laws.reads_decide_reads.Goals as goal
-
-pub returns : goal.returns
-returns c = λ m n call. reads_same call m n

@@ -1,0 +1,187 @@
+ghost use Rattle.std.specs.Prelude.{◌≡◌, IfOk, refl};
+ghost use Rattle.std.proofs.Props.{props};
+ghost use Rattle.casa_view.specs.Board.{versions};
+ghost use Rattle.casa_view.specs.Versions.{IsOrderly};
+
+use crate::catalogue::Catalogue;
+use crate::change::Change;
+use crate::contents::{clock_in, list_in, regulations_in, row_in};
+use crate::current::same_items;
+use crate::item::Item;
+use crate::items::Items;
+use crate::table::Table;
+use crate::version::{Kept, Version};
+use crate::view::View;
+use crate::writing::fit;
+use casa_commit::World;
+use casa_flight::{Call, Key, RegId, Regulation, Reply, Row};
+use casa_list::SlotList;
+use casa_time::Moment;
+use std::alloc::{AllocError, Global};
+use std::sync::Arc;
+
+/// All items of the allocator's state, each with its version.
+#[derive(Drop)]
+pub struct Board<K: Kept> {
+    pub(crate) alloc: Global,
+    pub(crate) store: K,
+    pub(crate) items: Items<K::Version>,
+    ghost orderly: { IsOrderly K.Version.item_of (versions items) } by { Prim.hlevel props },
+}
+
+impl<K: Kept> Board<K> {
+    ghost use Rattle.casa_view.specs.Standing.{standing, opening};
+
+    /// The board with the clock at midnight and no regulation and no flight, over this store. `AllocError` where there is
+    /// no memory for it.
+    pub fn new(alloc: Global, store: K) -> Result<Board<K>, AllocError>
+        ensures { IfOk result (λ board. standing K.Version.item_of K.Version.number (versions board.items) ≡ opening) }
+    {
+        let mut store = store;
+        let clock = store.put(0, Arc::new(alloc, Item::Clock(Moment::new(0).unwrap()))?)?;
+        let none = Item::Catalogue(Catalogue::new(alloc));
+        let catalogue = store.put(0, Arc::new(alloc, none)?)?;
+        let items = Items {
+            clock,
+            next_clock: None,
+            catalogue,
+            next_catalogue: None,
+            rows: Table::new(alloc)?,
+            lists: Table::new(alloc)?,
+        };
+        Ok(Board {
+            alloc,
+            store,
+            items,
+        })
+    }
+}
+
+impl<K: Kept> Board<K> {
+    ghost use Rattle.std.specs.Option.{option_copied};
+    ghost use Rattle.casa_flight.specs.State.{row_of};
+    ghost use Rattle.casa_view.specs.Standing.{standing};
+
+    /// The clock.
+    pub fn clock(&self) -> Moment
+        ensures { result ≡ (standing K.Version.item_of K.Version.number (versions self.now.items)).state.clock }
+    {
+        clock_in(self.items.clock.item())
+    }
+
+    /// The open regulations.
+    pub fn catalogue(&self) -> &[Regulation]
+        ensures { result.now ≡ (standing K.Version.item_of K.Version.number (versions self.now.items)).catalogue }
+    {
+        regulations_in(self.items.catalogue.item())
+    }
+
+    /// The row of the flight with this key.
+    pub fn row(&self, key: &Key) -> Option<&Row>
+        ensures { option_copied result ≡
+            row_of (standing K.Version.item_of K.Version.number (versions self.now.items)).state key.now }
+    {
+        row_in(self.items.rows.get(key)?.item())
+    }
+
+    /// The list of the regulation with this identifier.
+    pub fn list(&self, id: &RegId) -> Option<&SlotList>
+        ensures { option_copied result ≡
+            (standing K.Version.item_of K.Version.number (versions self.now.items)).list id.now }
+    {
+        list_in(self.items.lists.get(id)?.item())
+    }
+}
+
+impl<K: Kept> World for Board<K> {
+    ghost use Rattle.casa_view.specs.Board.{says, next_versions};
+    ghost use Rattle.casa_view.specs.Change.{IsChange, IsApplied};
+    ghost use Rattle.casa_view.specs.Sets.{standing_set};
+    ghost use Rattle.casa_view.specs.Standing.{Standing, StandsWell, standing, opening, after, reply};
+    ghost use Rattle.casa_view.specs.View.{IsFor, IsCurrent, Shows};
+    ghost use Rattle.casa_view.specs.Applied.{applied};
+    ghost use Rattle.casa_view.specs.Alike.{like_applied, like_state, like_views};
+    ghost use Rattle.casa_view.specs.WellStanding.{opening_well, after_well};
+
+    type Call = Call;
+
+    type View = View<K::Version>;
+
+    type Change = Change;
+
+    type Reply = Reply;
+
+    ghost state_type = { Standing };
+
+    ghost state_set = { standing_set };
+
+    ghost state = { λ w. standing K.Version.item_of K.Version.number (versions w.items) };
+
+    ghost opening = { opening };
+
+    ghost after = { after };
+
+    ghost reply = { reply };
+
+    ghost good = { StandsWell };
+
+    ghost is_for = { λ v c. IsFor K.Version.item_of v c };
+
+    ghost is_of = { λ v w. Unit {0} };
+
+    ghost is_current = { λ w v. IsCurrent K.Version.is_same (versions w.items) v };
+
+    ghost shows = { λ s v. Shows K.Version.item_of s.state v };
+
+    ghost changes = { λ s c d. IsChange s.state c (says d) };
+
+    ghost alike = { λ w x. versions x.items ≡ versions w.items };
+
+    ghost has_room = { λ w n d. IsApplied K.Version.item_of K.Version.number (says d) n (versions w.items) (next_versions w.items) };
+
+    ghost applied = { λ w n d x. IsApplied K.Version.item_of K.Version.number (says d) n (versions w.items) (versions x.items) };
+
+    fn view(&self, call: &Call) -> Result<View<K::Version>, AllocError> {
+        let view = self.items.view(self.alloc, call)?;
+        Ok(view)
+    }
+
+    fn same(&self, view: &View<K::Version>) -> bool {
+        same_items(&self.items, view)
+    }
+
+    fn fits(&mut self, number: usize, change: &Change) -> Result<(), AllocError> {
+        fit(self.alloc, &mut self.store, &mut self.items, number, change)
+    }
+
+    fn apply(&mut self, _number: usize, _change: Change) {
+        self.items.turn();
+    }
+
+    fn copy_call(call: &Call) -> Result<Call, AllocError> {
+        call.try_clone()
+    }
+
+    fn copy_reply(answer: &Reply) -> Result<Reply, AllocError> {
+        answer.try_clone()
+    }
+
+    ghost good_opening = { opening_well };
+
+    ghost good_after = { after_well };
+
+    ghost applied_after = { λ w n c d x well is done.
+        applied K.Version.item_of K.Version.number (versions w.items) (versions x.items) n c (says d) well is done };
+
+    ghost alike_applied = { λ w x n d y same done.
+        like_applied (versions w.items) (versions x.items) same K.Version.item_of K.Version.number (says d) n (versions y.items) done };
+
+    ghost alike_same = { λ w. refl };
+
+    ghost alike_state = { λ w x same. like_state (versions w.items) (versions x.items) same K.Version.item_of K.Version.number };
+
+    ghost alike_views = { λ w x v same.
+        ((λ _. tt, λ _. tt), like_views (versions w.items) (versions x.items) same K.Version.is_same v) };
+
+    ghost applied_views = { λ w n d x v done. (λ _. tt, λ _. tt) };
+}

@@ -1,0 +1,62 @@
+//! What an item contains.
+
+ghost use Rattle.std.specs.Prelude.{◌≡◌};
+ghost use Rattle.std.specs.Option.{option_copied};
+ghost use Rattle.casa_view.specs.Shown.{catalogue_of};
+ghost use Rattle.casa_view.specs.Versions.{moment_of, regulations_of, row_of, list_of};
+
+use crate::catalogue::Catalogue;
+use crate::item::Item;
+use casa_flight::{Regulation, Row};
+use casa_list::SlotList;
+use casa_time::Moment;
+
+/// The moment that a clock shows.
+pub(crate) fn clock_in(item: &Item) -> Moment
+    ensures { result ≡ moment_of item.now }
+{
+    match item {
+        Item::Clock(at) => *at,
+        _ => Moment::new(0).unwrap(),
+    }
+}
+
+/// The catalogue that an item contains.
+pub(crate) fn catalogue_in(item: &Item) -> Option<&Catalogue>
+    ensures { option_copied result ≡ catalogue_of item.now }
+{
+    match item {
+        Item::Catalogue(catalogue) => Some(catalogue),
+        _ => None,
+    }
+}
+
+/// The regulations of a catalogue.
+pub(crate) fn regulations_in(item: &Item) -> &[Regulation]
+    ensures { result.now ≡ regulations_of item.now }
+{
+    match item {
+        Item::Catalogue(catalogue) => catalogue.as_slice(),
+        _ => &[],
+    }
+}
+
+/// The row that an item contains.
+pub(crate) fn row_in(item: &Item) -> Option<&Row>
+    ensures { option_copied result ≡ row_of item.now }
+{
+    match item {
+        Item::Row(_, row) => row.as_ref(),
+        _ => None,
+    }
+}
+
+/// The list that an item contains.
+pub(crate) fn list_in(item: &Item) -> Option<&SlotList>
+    ensures { option_copied result ≡ list_of item.now }
+{
+    match item {
+        Item::List(_, list) => list.as_ref(),
+        _ => None,
+    }
+}

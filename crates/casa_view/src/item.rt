@@ -1,0 +1,27 @@
+ghost use Rattle.std.specs.Prelude.{◌≡◌, IsTrue};
+
+use crate::catalogue::Catalogue;
+use casa_flight::{Key, RegId, Row};
+use casa_list::SlotList;
+use casa_time::Moment;
+
+/// An item of the allocator's state: what it contains, under its name.
+#[derive(Drop, PartialEq, Eq)]
+pub enum Item {
+    /// The clock.
+    Clock(Moment),
+    /// All open regulations.
+    Catalogue(Catalogue),
+    /// The row of a flight, or its absence.
+    Row(Key, Option<Row>),
+    /// The list of a regulation, or its absence.
+    List(RegId, Option<SlotList>),
+}
+
+/// Whether items have the same name and contents.
+pub(crate) fn same_item(one: &Item, other: &Item) -> bool
+    ensures test { result ≡ ⟦<Item as PartialEq>⟧.eq one.now other.now }
+    ensures shows { IsTrue result → one.now ≡ other.now }
+{
+    *one == *other
+}

@@ -1,0 +1,18 @@
+//! The versions of a board's items, and those that the next change will put in their place.
+
+use crate::flights::FlightIndex;
+use crate::index::NoIndex;
+use crate::table::Table;
+use crate::version::Version;
+use casa_flight::{OfFlight, OfRegulation};
+
+/// The versions of all items of a board, and those to which the next change will turn.
+#[derive(Drop)]
+pub(crate) struct Items<V: Version> {
+    pub(crate) clock: V,
+    pub(crate) next_clock: Option<V>,
+    pub(crate) catalogue: V,
+    pub(crate) next_catalogue: Option<V>,
+    pub(crate) rows: Table<OfFlight, V, FlightIndex>,
+    pub(crate) lists: Table<OfRegulation, V, NoIndex>,
+}

@@ -1,0 +1,92 @@
+use crate::catalogue::Catalogue;
+use crate::contents::{catalogue_in, clock_in, list_in, row_in};
+use crate::flights::FlightIndex;
+use crate::index::{Index, NoIndex};
+use crate::table::{Changes, Shared};
+use crate::version::Version;
+use casa_flight::{Key, Name, OfFlight, OfRegulation, RegId, Row};
+use casa_list::SlotList;
+use casa_time::Moment;
+
+/// Versions of all names, or of some.
+#[derive(Drop)]
+pub enum Part<Kind, V, I: Index<Kind, V>> {
+    /// The versions of all names that have one: any other name has none.
+    All(Shared<Kind, V, I>),
+    /// The versions of some names, and which of these have none.
+    Named(Changes<Kind, V>),
+}
+
+/// What a call reads: items with their versions, and which items were not there.
+#[derive(Drop)]
+pub struct View<V: Version> {
+    pub(crate) clock: Option<V>,
+    pub(crate) catalogue: Option<V>,
+    pub(crate) rows: Part<OfFlight, V, FlightIndex>,
+    pub(crate) lists: Part<OfRegulation, V, NoIndex>,
+}
+
+impl<Kind, V, I: Index<Kind, V>> Part<Kind, V, I> {
+    ghost use Rattle.std.specs.Prelude.{◌≡◌};
+    ghost use Rattle.std.specs.Option.{option_copied, option_flatten};
+    ghost use Rattle.casa_view.specs.View.{seen_in};
+    ghost use Rattle.casa_view.specs.Shown.{IsInOrder};
+
+    /// The version that is held under a name, if the name has one.
+    pub(crate) fn get(&self, name: &Name<Kind>) -> Option<&V>
+        ensures { option_copied result ≡ option_flatten (seen_in self.now name.now) }
+    {
+        match self {
+            Part::All(shared) => shared.get(name),
+            Part::Named(noted) => noted.get(name)?.as_ref(),
+        }
+    }
+
+    /// What is held is in the order of its names: this says so, and does nothing.
+    pub(crate) fn in_order(&self)
+        ensures { IsInOrder self.now }
+    {
+        match self {
+            Part::All(shared) => {
+                let _layers = shared.layers();
+            }
+            Part::Named(noted) => {
+                let _length = noted.len();
+            }
+        }
+    }
+}
+
+impl<V: Version> View<V> {
+    ghost use Rattle.std.specs.Prelude.{◌≡◌};
+    ghost use Rattle.std.specs.Option.{option_copied};
+    ghost use Rattle.casa_view.specs.Shown.{clock_shown, catalogue_shown, row_shown, list_shown};
+
+    /// The clock, if the view holds it.
+    pub fn clock(&self) -> Option<Moment>
+        ensures { result ≡ clock_shown V.item_of self.now }
+    {
+        Some(clock_in(self.clock.as_ref()?.item()))
+    }
+
+    /// The catalogue, if the view holds it.
+    pub fn catalogue(&self) -> Option<&Catalogue>
+        ensures { option_copied result ≡ catalogue_shown V.item_of self.now }
+    {
+        catalogue_in(self.catalogue.as_ref()?.item())
+    }
+
+    /// The row of the flight with this key, if the view holds it and it is there.
+    pub fn row(&self, key: &Key) -> Option<&Row>
+        ensures { option_copied result ≡ row_shown V.item_of self.now key.now }
+    {
+        row_in(self.rows.get(key)?.item())
+    }
+
+    /// The list of the regulation with this identifier, if the view holds it and it is there.
+    pub fn list(&self, id: &RegId) -> Option<&SlotList>
+        ensures { option_copied result ≡ list_shown V.item_of self.now id.now }
+    {
+        list_in(self.lists.get(id)?.item())
+    }
+}

@@ -1,0 +1,153 @@
+//! How a change is written: its versions are made, and then they are turned to.
+
+ghost use Rattle.std.specs.Prelude.{◌≡◌, OnOk, IfOk, unwrap_or};
+ghost use Rattle.std.specs.Option.{option_map};
+ghost use Rattle.std.specs.Arc.{arc_value};
+ghost use Rattle.casa_flight.specs.Text.{put};
+ghost use Rattle.casa_flight.specs.Good.{AreInOrder};
+ghost use Rattle.casa_view.specs.Board.{versions, next_versions, says};
+ghost use Rattle.casa_view.specs.Change.{IsApplied};
+ghost use Rattle.casa_view.specs.Versions.{IsInOrder};
+ghost use Rattle.casa_view.specs.Next.{AreAlike, NextOne, NextRow, NextList};
+
+use crate::change::Change;
+use crate::item::Item;
+use crate::items::Items;
+use crate::table::Changes;
+use crate::version::{Kept, Version};
+use casa_flight::{Key, Name, OfFlight, OfRegulation, RegId};
+use std::alloc::{AllocError, Global};
+use std::collections::BTreeMap;
+use std::sync::Arc;
+
+/// The version of an item that comes, if one does.
+fn next_version<K: Kept>(
+    store: &mut K,
+    number: usize,
+    item: &Option<Arc<Item>>,
+) -> Result<Option<K::Version>, AllocError>
+    ensures { IfOk result (NextOne K.Version.item_of K.Version.number number (option_map arc_value item.now)) }
+{
+    match item {
+        Some(item) => Ok(Some(store.put(number, Arc::try_clone(item)?)?)),
+        None => Ok(None),
+    }
+}
+
+/// The version of a row that is there. An absent row has none.
+fn row_version<K: Kept>(
+    store: &mut K,
+    number: usize,
+    item: &Arc<Item>,
+) -> Result<Option<K::Version>, AllocError>
+    ensures { IfOk result (NextRow K.Version.item_of K.Version.number number (arc_value item.now)) }
+{
+    match &**item {
+        Item::Row(_, Some(_)) => Ok(Some(store.put(number, Arc::try_clone(item)?)?)),
+        _ => Ok(None),
+    }
+}
+
+/// The version of a list, or of its absence, which keeps the number of the close.
+fn list_version<K: Kept>(
+    store: &mut K,
+    number: usize,
+    item: &Arc<Item>,
+) -> Result<Option<K::Version>, AllocError>
+    ensures { IfOk result (NextList K.Version.item_of K.Version.number number (arc_value item.now)) }
+{
+    Ok(Some(store.put(number, Arc::try_clone(item)?)?))
+}
+
+/// Puts a version, or that there is none, under a name.
+fn put_version<Kind, V: Drop>(
+    versions: &mut Changes<Kind, V>,
+    name: Name<Kind>,
+    version: Option<V>,
+) -> Result<(), AllocError>
+    ensures put { OnOk result (versions.new.entries ≡ put versions.old.entries name version) }
+    ensures ordered { AreInOrder versions.new.entries }
+{
+    versions.insert(name, version)?;
+    Ok(())
+}
+
+/// The versions of the rows of a change.
+fn row_versions<K: Kept>(
+    alloc: Global,
+    store: &mut K,
+    number: usize,
+    items: &BTreeMap<Key, Arc<Item>>,
+) -> Result<Changes<OfFlight, K::Version>, AllocError>
+    ensures versions { IfOk result (λ versions.
+        AreAlike (λ item version. NextRow K.Version.item_of K.Version.number number (arc_value item) version) items.now.entries versions.entries) }
+    ensures ordered { IfOk result (λ versions. AreInOrder versions.entries) }
+{
+    let mut versions = BTreeMap::new(alloc);
+    for (key, item) in items.iter() {
+        let version = row_version(store, number, item)?;
+        put_version(&mut versions, *key, version)?;
+    }
+    Ok(versions)
+}
+
+/// The versions of the lists of a change.
+fn list_versions<K: Kept>(
+    alloc: Global,
+    store: &mut K,
+    number: usize,
+    items: &BTreeMap<RegId, Arc<Item>>,
+) -> Result<Changes<OfRegulation, K::Version>, AllocError>
+    ensures versions { IfOk result (λ versions.
+        AreAlike (λ item version. NextList K.Version.item_of K.Version.number number (arc_value item) version) items.now.entries versions.entries) }
+    ensures ordered { IfOk result (λ versions. AreInOrder versions.entries) }
+{
+    let mut versions = BTreeMap::new(alloc);
+    for (id, item) in items.iter() {
+        let version = list_version(store, number, item)?;
+        put_version(&mut versions, *id, version)?;
+    }
+    Ok(versions)
+}
+
+/// Puts the next version in place of the present one, if there is a next one.
+fn turn_to<V: Drop>(version: &mut V, next: &mut Option<V>)
+    ensures { version.new ≡ unwrap_or next.old version.old }
+{
+    if let Some(next) = next.take() {
+        *version = next;
+    }
+}
+
+impl<V: Version> Items<V> {
+    /// Turns to the versions that were made ready. It takes no memory, and no longer for many items than for one.
+    pub(crate) fn turn(&mut self)
+        ensures { versions self.new ≡ next_versions self.old }
+    {
+        turn_to(&mut self.clock, &mut self.next_clock);
+        turn_to(&mut self.catalogue, &mut self.next_catalogue);
+        self.rows.turn();
+        self.lists.turn();
+    }
+}
+
+/// Makes ready what a change writes as the entry with this number. `AllocError` where there is no memory for it; the
+/// versions are then as they were.
+pub(crate) fn fit<K: Kept>(
+    alloc: Global,
+    store: &mut K,
+    items: &mut Items<K::Version>,
+    number: usize,
+    change: &Change,
+) -> Result<(), AllocError>
+    requires { IsInOrder (versions items.old) }
+    ensures same { versions items.new ≡ versions items.old }
+    ensures room { OnOk result (IsApplied K.Version.item_of K.Version.number (says change.now) number (versions items.new) (next_versions items.new)) }
+{
+    items.next_clock = next_version(store, number, &change.clock)?;
+    items.next_catalogue = next_version(store, number, &change.catalogue)?;
+    let rows = row_versions(alloc, store, number, &change.rows)?;
+    let lists = list_versions(alloc, store, number, &change.lists)?;
+    items.rows.fit(rows)?;
+    items.lists.fit(lists)
+}
