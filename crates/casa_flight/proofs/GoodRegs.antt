@@ -71,16 +71,16 @@ any-insert {X} p x i xs =
     list_any-append p (take i xs) (x ∷ drop i xs) ∙ regroup (list_any p (take i xs)) (p x) (list_any p (drop i xs))
     ∙ ap (λ b. p x || b) (sym (list_any-append p (take i xs) (drop i xs)) ∙ ap (λ (ys : List X). list_any p ys) (take-append-drop i xs))
 
-any-put_by : {X : Type 0} (precedes : X → X → Bool) (p : X → Bool) (x : X) (xs : List X) → list_any p (put_by precedes x xs) ≡ (p x || list_any p xs)
+pub any-put_by : {X : Type 0} (precedes : X → X → Bool) (p : X → Bool) (x : X) (xs : List X) → list_any p (put_by precedes x xs) ≡ (p x || list_any p xs)
 any-put_by precedes p x xs = any-insert p x (unwrap_or (position (λ y. not (precedes y x)) xs) (length xs)) xs
 
-any-fold : {X : Type 0} (precedes : X → X → Bool) (p : X → Bool) (xs ys : List X) → list_any p (fold (λ ys x. put_by precedes x ys) ys xs) ≡ (list_any p xs || list_any p ys)
+pub any-fold : {X : Type 0} (precedes : X → X → Bool) (p : X → Bool) (xs ys : List X) → list_any p (fold (λ ys x. put_by precedes x ys) ys xs) ≡ (list_any p xs || list_any p ys)
 any-fold precedes p [] ys = refl
 any-fold precedes p (x ∷ xs) ys =
     any-fold precedes p xs (put_by precedes x ys) ∙ ap (λ b. list_any p xs || b) (any-put_by precedes p x ys)
     ∙ regroup (list_any p xs) (p x) (list_any p ys) ∙ or_assoc (p x) (list_any p xs) (list_any p ys)
 
-any-in_order : {X : Type 0} (precedes : X → X → Bool) (p : X → Bool) (xs : List X) → list_any p (in_order precedes xs) ≡ list_any p xs
+pub any-in_order : {X : Type 0} (precedes : X → X → Bool) (p : X → Bool) (xs : List X) → list_any p (in_order precedes xs) ≡ list_any p xs
 any-in_order precedes p xs = any-fold precedes p xs [] ∙ or_none (list_any p xs)
 
 -- a flight over a regulation, by whether it passes a test and its time over there

@@ -2,8 +2,9 @@
 use Rattle.std.proofs.Common.{◌≡◌, arith, List, [], ◌∷◌, true, false, cond, refl, sym, ap, subst, ◌∙◌, Option, None, Some}
 use Rattle.std.specs.declared.cmp.Ordering.TheVariants.{Less, Equal, Greater}
 use Rattle.std.specs.Ordering.{is_eq, match_ordering, ordering_reverse}
-use Rattle.std.specs.Option.{option_map, option_and_then}
-use Rattle.std.specs.List.{AllByRecursion, Contains, cons_option, filter_map}
+use Rattle.std.specs.Option.{option_map, option_and_then, option_or}
+use Rattle.std.specs.BTreeMap.{is_at}
+use Rattle.std.specs.List.{AllByRecursion, Contains, cons_option, filter_map, fold}
 use Rattle.std.specs.List.Sorted.{IsStrictlySortedBy}
 use Rattle.std.specs.Map.{keys_of}
 use Rattle.casa_flight.specs.Text.{Text, at_name, put, without}
@@ -11,7 +12,7 @@ use Rattle.casa_flight.specs.Good.{AreInOrder}
 use Rattle.casa_flight.specs.Listing.{kept}
 use Rattle.std.proofs.lemmas.Cmp.{nat_list_cmp_total, tied_itself}
 use Rattle.std.proofs.lemmas.List.Elements.{Contains-append_right}
-use Rattle.casa_flight.proofs.Entries.{text_cmp, same_name, itself, after_all}
+use Rattle.casa_flight.proofs.Entries.{text_cmp, same_name, itself, after_all, at-put, sorted-put, sorted-remove, at-without_other}
 
 -- the entries with this value under the name, or with none
 abbrev pub set_at : {X : Type 0} → List (Text × X) → Text → Option X → List (Text × X)
@@ -30,9 +31,30 @@ above-behind : {X : Type 0} (k q : Text) (w : Option X) (es : List (Text × X)) 
 above-behind k q None es less h = h
 above-behind k q (Some x) es less h = (less, h)
 
+-- the values that f gives of the entries and their names; `kept` is so, with an f that does not look at names
+abbrev pub kept_by : {X Y : Type 0} → (Text → X → Option Y) → List (Text × X) → List (Text × Y)
+kept_by {X} {Y} f es = filter_map (λ (e : Text × X). option_map (λ (y : Y). (e.0, y)) (f e.0 e.1)) es
+
+pub above-kept_by : {X Y : Type 0} (f : Text → X → Option Y) (k : Text) (es : List (Text × X)) → Above k es → Above k (kept_by f es)
+above-kept_by f k [] h = tt
+above-kept_by f k (e ∷ es) h = above-behind k e.0 (f e.0 e.1) (kept_by f es) h.0 (above-kept_by f k es h.1)
+
 pub above-kept : {X Y : Type 0} (f : X → Option Y) (k : Text) (es : List (Text × X)) → Above k es → Above k (kept f es)
-above-kept f k [] h = tt
-above-kept f k (e ∷ es) h = above-behind k e.0 (f e.1) (kept f es) h.0 (above-kept f k es h.1)
+above-kept {X} f k es h = above-kept_by (λ (q : Text) (x : X). f x) k es h
+
+sorted-behind : {X : Type 0} (k : Text) (w : Option X) (es : List (Text × X)) → Above k es → AreInOrder es → AreInOrder (behind k w es)
+unfolding IsStrictlySortedBy
+sorted-behind k None es above h = h
+sorted-behind k (Some x) es above h = (above, h)
+
+-- what is kept stays in order
+pub sorted-kept_by : {X Y : Type 0} (f : Text → X → Option Y) (es : List (Text × X)) → AreInOrder es → AreInOrder (kept_by f es)
+unfolding IsStrictlySortedBy
+sorted-kept_by f [] h = tt
+sorted-kept_by f (e ∷ es) h = sorted-behind e.0 (f e.0 e.1) (kept_by f es) (above-kept_by f e.0 es h.0) (sorted-kept_by f es h.1)
+
+pub sorted-kept : {X Y : Type 0} (f : X → Option Y) (es : List (Text × X)) → AreInOrder es → AreInOrder (kept f es)
+sorted-kept {X} f es h = sorted-kept_by (λ (q : Text) (x : X). f x) es h
 
 -- before all names, an entry is put in front, and none is removed
 set_above : {X : Type 0} (k : Text) (w : Option X) (es : List (Text × X)) → Above k es → set_at es k w ≡ behind k w es
@@ -98,14 +120,18 @@ at_past k q p None es = refl
 at_past k q p (Some v) es = ap (λ b. cond b (Some v) (at_name es k)) p
 
 -- what is kept under a name is what f gives of the value there
-pub at-kept : {X Y : Type 0} (f : X → Option Y) (k : Text) (es : List (Text × X)) → AreInOrder es → at_name (kept f es) k ≡ option_and_then f (at_name es k)
+pub at-kept_by : {X Y : Type 0} (f : Text → X → Option Y) (k : Text) (es : List (Text × X)) → AreInOrder es → at_name (kept_by f es) k ≡ option_and_then (f k) (at_name es k)
 unfolding IsStrictlySortedBy
-at-kept f k [] h = refl
-at-kept f k (e ∷ es) h =
-    elim (is_eq (text_cmp k e.0)) as (λ b. is_eq (text_cmp k e.0) ≡ b → at_name (kept f (e ∷ es)) k ≡ option_and_then f (cond b (Some e.1) (at_name es k))) [
-      | true ↦ λ p. at_same k e.0 (same_name k e.0 p) (f e.1) (kept f es) (above-kept f e.0 es h.0)
-      | false ↦ λ p. at_past k e.0 p (f e.1) (kept f es) ∙ at-kept f k es h.1
+at-kept_by f k [] h = refl
+at-kept_by f k (e ∷ es) h =
+    elim (is_eq (text_cmp k e.0)) as (λ b. is_eq (text_cmp k e.0) ≡ b → at_name (kept_by f (e ∷ es)) k ≡ option_and_then (f k) (cond b (Some e.1) (at_name es k))) [
+      | true ↦ λ p.
+          at_same k e.0 (same_name k e.0 p) (f e.0 e.1) (kept_by f es) (above-kept_by f e.0 es h.0) ∙ ap (λ (t : Text). f t e.1) (sym (same_name k e.0 p))
+      | false ↦ λ p. at_past k e.0 p (f e.0 e.1) (kept_by f es) ∙ at-kept_by f k es h.1
     ] refl
+
+pub at-kept : {X Y : Type 0} (f : X → Option Y) (k : Text) (es : List (Text × X)) → AreInOrder es → at_name (kept f es) k ≡ option_and_then f (at_name es k)
+at-kept {X} f k es h = at-kept_by (λ (q : Text) (x : X). f x) k es h
 
 -- a name that is not there cannot be removed
 pub without_absent : {X : Type 0} (k : Text) (es : List (Text × X)) → at_name es k ≡ None → without es k ≡ es
@@ -197,3 +223,45 @@ same_entries {X} (e ∷ es) (f ∷ fs) h g found =
           let rest : es ≡ fs = same_entries es fs h.1 g.1 (λ q. same_tails q e.0 f.0 names e.1 f.1 es fs h.0 g.0 (found q)) in
           λ i. (names i, value i) ∷ rest i
     ] refl
+
+-- what is put in place of an entry is put in as well where that was taken out before
+pub put-without : {X : Type 0} (k : Text) (x : X) (es : List (Text × X)) → AreInOrder es → put (without es k) k x ≡ put es k x
+put-without {X} k x es h =
+    same_entries (put (without es k) k x) (put es k x) (sorted-put k x (without es k) (sorted-remove (is_at (text_cmp k)) es h)) (sorted-put k x es h)
+    (λ q. at-put q k x (without es k)
+    ∙ (elim (is_eq (text_cmp q k)) as (λ b. is_eq (text_cmp q k) ≡ b → cond b (Some x) (at_name (without es k) q) ≡ cond b (Some x) (at_name es q)) [
+      | true ↦ λ t. refl
+      | false ↦ λ t. at-without_other q k es t
+    ] refl)
+    ∙ sym (at-put q k x es))
+
+-- an entry that is put in again as it is
+pub put_same : {X : Type 0} (k : Text) (x : X) (es : List (Text × X)) → AreInOrder es → at_name es k ≡ Some x → put es k x ≡ es
+put_same {X} k x es h found =
+    same_entries (put es k x) es (sorted-put k x es h) h
+    (λ q. at-put q k x es
+    ∙ (elim (is_eq (text_cmp q k)) as (λ b. is_eq (text_cmp q k) ≡ b → cond b (Some x) (at_name es q) ≡ at_name es q) [
+      | true ↦ λ t. sym (subst (λ p. at_name es p ≡ Some x) (sym (same_name q k t)) found)
+      | false ↦ λ t. refl
+    ] refl))
+
+-- a name that is set to what it has already
+pub set_at_same : {X : Type 0} (k : Text) (w : Option X) (es : List (Text × X)) → AreInOrder es → at_name es k ≡ w → set_at es k w ≡ es
+set_at_same k None es h found = without_absent k es found
+set_at_same k (Some x) es h found = put_same k x es h found
+
+-- the entries with others put in one by one
+abbrev pub put_all : {X : Type 0} → List (Text × X) → List (Text × X) → List (Text × X)
+put_all {X} es fs = fold (λ (a : List (Text × X)) (e : Text × X). put a e.0 e.1) es fs
+
+-- a look-up among these
+pub at-put_all : {X : Type 0} (es fs : List (Text × X)) (q : Text) → AreInOrder fs → at_name (put_all es fs) q ≡ option_or (at_name fs q) (at_name es q)
+unfolding IsStrictlySortedBy
+at-put_all es [] q h = refl
+at-put_all {X} es (e ∷ fs) q h =
+    at-put_all (put es e.0 e.1) fs q h.1
+    ∙ ap (option_or (at_name fs q)) (at-put q e.0 e.1 es)
+    ∙ (elim (is_eq (text_cmp q e.0)) as (λ b. is_eq (text_cmp q e.0) ≡ b → option_or (at_name fs q) (cond b (Some e.1) (at_name es q)) ≡ option_or (cond b (Some e.1) (at_name fs q)) (at_name es q)) [
+      | true ↦ λ t. ap (λ (w : Option X). option_or w (Some e.1)) (subst (λ k. at_name fs k ≡ None) (sym (same_name q e.0 t)) (at_above e.0 fs h.0))
+      | false ↦ λ t. refl
+    ] refl)

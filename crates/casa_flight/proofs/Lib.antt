@@ -23,6 +23,7 @@ pub mod CallMessages
 pub mod RegMessages
 pub mod InOrder
 pub mod Sorting
+pub mod Offers
 pub mod Planning
 pub mod Chosen
 pub mod Planned

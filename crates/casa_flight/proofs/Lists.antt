@@ -1,15 +1,17 @@
 -- the lists of a state, once a row is written or removed
-use Rattle.std.proofs.Common.{◌≡◌, sym, ap, ◌∙◌, Option, None, Some}
+use Rattle.std.proofs.Common.{◌≡◌, ℕ, sym, ap, ◌∙◌, Option, None, Some}
 use Rattle.std.specs.Option.{option_map, option_and_then}
 use Rattle.casa_flight.specs.declared.regulation.Measure.{Measure}
 use Rattle.casa_flight.specs.declared.row.Row.{Row}
 use Rattle.casa_flight.specs.declared.row.Stance.{Stance}
+use Rattle.casa_flight.specs.declared.row.Stance.TheVariants.{Competing}
 use Rattle.casa_flight.specs.declared.state.State.{State}
 use Rattle.casa_flight.specs.Text.{Text, put, without}
 use Rattle.casa_flight.specs.State.{row_of, measure_of, with_row}
-use Rattle.casa_flight.specs.Listing.{Listing, listing, list_of, stance_in, stance_of}
+use Rattle.casa_flight.specs.Listing.{Listing, listing, list_of, stance_in, stance_of, place_of}
+use Rattle.casa_flight.specs.Entry.{with_competitor}
 use Rattle.casa_flight.specs.Good.{AreInOrder}
-use Rattle.casa_flight.proofs.Kept.{set_at, kept-put, kept-without, at-kept, without_absent}
+use Rattle.casa_flight.proofs.Kept.{set_at, kept-put, kept-without, at-kept, without_absent, set_at_same}
 
 -- the list of an open regulation
 list_is : (m : State) (id : Text) (measure : Measure) (l : Listing) → measure_of m id ≡ Some measure → list_of m id ≡ Some l → listing m.rows id measure ≡ l
@@ -48,3 +50,12 @@ stance_is m key id measure l w sorted opened is found =
     ap (λ (k : Listing). stance_of k key) (sym (list_is m id measure l opened is))
     ∙ at-kept (stance_in id measure) key m.rows sorted
     ∙ ap (option_and_then (stance_in id measure)) found
+
+-- a flight set to stand as it stands already
+pub with_same : (l : Listing) (key : Text) (w : Option Stance) → AreInOrder l.flights → stance_of l key ≡ w → record l { flights = set_at l.flights key w } ≡ l
+with_same l key w sorted stands = ap (λ fs. record l { flights = fs }) (set_at_same key w l.flights sorted stands)
+
+-- as a competitor it would have the place that it has
+pub place_kept : (l : Listing) (key : Text) (eto : ℕ) → AreInOrder l.flights → stance_of l key ≡ Some (Competing eto) → place_of (with_competitor l key eto) key ≡ place_of l key
+place_kept l key eto sorted stands =
+    ap (λ (k : Listing). place_of k key) (with_same l key (Some (Competing eto)) sorted stands)

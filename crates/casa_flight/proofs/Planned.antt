@@ -1,8 +1,7 @@
 -- the competitors of a list, the flights over a regulation and the rows of a list: who is there, and in which order
 use Rattle.std.proofs.Common.{◌≡◌, ◌↔◌, ℕ, List, [], ◌∷◌, map, Bool, true, false, refl, sym, ap, subst, ◌∙◌, Option, None, Some}
 use Rattle.std.specs.Option.{option_map, option_map_or}
-use Rattle.std.specs.List.{AllPairs, Contains, cons_option, filter_map}
-use Rattle.std.specs.List.Sorted.{IsStrictlySortedBy}
+use Rattle.std.specs.List.{AllPairs, Contains, filter_map}
 use Rattle.casa_flight.specs.declared.comp.Comp.{Comp}
 use Rattle.casa_flight.specs.declared.regulation.Measure.{Measure}
 use Rattle.casa_flight.specs.declared.regulation.Regulation.{Regulation}
@@ -13,23 +12,13 @@ use Rattle.casa_flight.specs.declared.row.Stance.TheVariants.{Competing, Issued,
 use Rattle.casa_flight.specs.declared.state.State.{State}
 use Rattle.casa_flight.specs.Text.{Text, at_name}
 use Rattle.casa_flight.specs.State.{measure_of, subject}
-use Rattle.casa_flight.specs.Listing.{Listing, stance_in, kept, listing, list_of, in_order, is_before, competitor, competitors, stance_of}
+use Rattle.casa_flight.specs.Listing.{Listing, stance_in, listing, list_of, in_order, is_before, competitor, competitors, stance_of}
 use Rattle.casa_flight.specs.Replies.{row_in, is_row_before, list_rows}
 use Rattle.casa_flight.specs.Steps.{flights_over}
 use Rattle.casa_flight.specs.Good.{AreInOrder}
-use Rattle.casa_flight.proofs.Kept.{above-kept}
+use Rattle.casa_flight.proofs.Kept.{sorted-kept}
 use Rattle.casa_flight.proofs.GoodRegs.{comp_if, comp_if-key}
 use Rattle.casa_flight.proofs.InOrder.{HasName, PairsByRecursion, pairs_from_recursion, contains-planned, turn-planned}
-
--- what is kept of a map is in the order of its names
-pub sorted-kept : {X Y : Type 0} (f : X → Option Y) (es : List (Text × X)) → AreInOrder es → AreInOrder (kept f es)
-unfolding IsStrictlySortedBy
-sorted-kept f [] h = tt
-sorted-kept {X} {Y} f (e ∷ es) h =
-    elim (f e.1) as (λ (o : Option Y). AreInOrder (cons_option (option_map (λ (y : Y). (e.0, y)) o) (kept f es))) [
-      | None ↦ sorted-kept f es h.1
-      | Some y ↦ (above-kept f e.0 es h.0, sorted-kept f es h.1)
-    ]
 
 pub list_sorted : (m : State) (id : Text) (l : Listing) → AreInOrder m.rows → list_of m id ≡ Some l → AreInOrder l.flights
 list_sorted m id l sorted =

@@ -50,6 +50,11 @@ abbrev pub most_penalising : List Offer → Option Offer
 most_penalising [] = None
 most_penalising (o ∷ os) = Some (best_of (λ (x best : Offer). nat_lt best.delay x.delay) o os)
 
+-- the more penalising of an offer, if there is one so far, and the next: the earlier one where both delay as much
+abbrev pub more_penalising : Option Offer → Offer → Offer
+more_penalising None o = o
+more_penalising (Some best) o = if nat_lt best.delay o.delay then o else best
+
 abbrev pub choice : Situation → Text → FlightPlan → Option Offer
 choice s key plan = most_penalising (offers s key plan)
 

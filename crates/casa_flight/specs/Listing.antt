@@ -12,6 +12,7 @@ use Rattle.casa_grid.specs.TimeOver.{cto}
 use Rattle.casa_flight.specs.declared.comp.Comp.{Comp}
 use Rattle.casa_flight.specs.declared.comp.Assigned.{Assigned}
 use Rattle.casa_flight.specs.declared.regulation.Measure.{Measure}
+use Rattle.casa_flight.specs.declared.regulation.Regulation.{Regulation}
 use Rattle.casa_flight.specs.declared.row.Row.{Row}
 use Rattle.casa_flight.specs.declared.row.Stance.{Stance}
 use Rattle.casa_flight.specs.declared.row.Stance.TheVariants.{Competing, Issued, Forced}
@@ -37,6 +38,10 @@ stance false issued eto = Forced eto
 abbrev pub stance_in : Text → Measure → Row → Option Stance
 stance_in id measure row =
     option_map (stance (is_governed_by id row) row.issued) (subject row.plan (regulation id measure))
+
+-- the same, by the regulation as the catalogue has it
+abbrev pub stance_over : Regulation → Row → Option Stance
+stance_over r row = option_map (stance (is_governed_by r.id row) row.issued) (subject row.plan r)
 
 -- the values that f gives of the entries, under their names
 abbrev pub kept : {X Y : Type 0} → (X → Option Y) → List (Text × X) → List (Text × Y)

@@ -13,6 +13,7 @@ use Rattle.casa_flight.specs.declared.regulation.Regulation.{Regulation}
 use Rattle.casa_flight.specs.declared.reply.Answer.{Answer}
 use Rattle.casa_flight.specs.declared.reply.Answer.TheVariants.{Done, Flight, List as ListAnswer}
 use Rattle.casa_flight.specs.declared.reply.FlightReply.{FlightReply}
+use Rattle.casa_flight.specs.declared.reply.Kind.{Kind}
 use Rattle.casa_flight.specs.declared.reply.Kind.TheVariants.{Pre, Issued as IssuedKind, Forced as ForcedKind}
 use Rattle.casa_flight.specs.declared.reply.ListReply.{ListReply}
 use Rattle.casa_flight.specs.declared.reply.ListRow.{ListRow}
@@ -30,18 +31,22 @@ use Rattle.casa_flight.specs.State.{row_of, measure_of, regulation, is_exempt}
 use Rattle.casa_flight.specs.Listing.{Listing, listing, in_order, cto_as, place_of, delay_of, ctot_of}
 use Rattle.casa_flight.specs.Steps.{Step, refused, leads, step}
 
--- a flight as it is answered
-abbrev pub flight_reply : State → Text → Row → FlightReply
-flight_reply m key row = record {
+-- a flight as it is answered, with this delay
+abbrev pub flight_with : Text → Row → ℕ → FlightReply
+flight_with key row delay = record {
   key = key;
   eobt = row.plan.eobt;
   etot = etot row.plan;
-  ctot = ctot_of m key row;
-  delay = delay_of m key row;
+  ctot = etot row.plan + delay;
+  delay = delay;
   exempt = is_exempt row;
   issued = is_some row.issued;
   reg = row.governing;
 }
+
+-- with the delay that it has
+abbrev pub flight_reply : State → Text → Row → FlightReply
+flight_reply m key row = flight_with key row (delay_of m key row)
 
 abbrev pub flight_answer : State → Text → Answer
 flight_answer m key = option_map_or (λ (row : Row). Flight (flight_reply m key row)) (row_of m key) Done
@@ -49,6 +54,12 @@ flight_answer m key = option_map_or (λ (row : Row). Flight (flight_reply m key 
 abbrev pub slot_number : Place → Option ℕ
 slot_number (Slot k) = Some k
 slot_number Over = None
+
+-- what a list says of how a flight stands
+abbrev pub kind_of : Stance → Kind
+kind_of (Competing eto) = Pre
+kind_of (Issued eto cto) = IssuedKind
+kind_of (Forced eto) = ForcedKind
 
 -- a forced flight passes with the delay that it has at its governing regulation
 abbrev pub forced_time : State → Text → ℕ → ℕ

@@ -9,6 +9,7 @@ mod comp;
 mod equality;
 mod laws;
 mod name;
+mod offer;
 mod order;
 mod plan;
 mod regulation;
@@ -29,10 +30,13 @@ pub use laws::{
     valid_plan_has_no_fault, written_row_changes_its_entries,
 };
 pub use name::{Key, Loc, Name, OfFlight, OfLocation, OfRegulation, RegId};
+pub use offer::{Offer, more_penalising, most_penalising};
 pub use order::{put_in_order, sort_comps, sort_rows};
 pub use plan::{Crossing, Plan, PlanFault, Sts};
-pub use regulation::{Measure, Regulation};
-pub use reply::{Answer, FlightReply, Kind, ListReply, ListRow, Message, Messages, Reply, Rows};
-pub use row::{Row, Stance, subject};
+pub use regulation::{MAX_REGULATIONS, Measure, Regulation, has_span};
+pub use reply::{
+    Answer, FlightReply, Kind, ListReply, ListRow, Message, Messages, Reply, Rows, slot_number,
+};
+pub use row::{Row, Stance, is_issued, subject};
 pub use shared::SharedSlice;
 pub use state::State;

@@ -20,7 +20,7 @@ const MAX_LEN: usize = 10;
 #[derive(Clone, Copy, Debug)]
 pub struct Name<Kind> {
     bytes: [u8; MAX_LEN],
-    len: usize,
+    len: u8,
     kind: PhantomData<Kind>,
 }
 
@@ -95,7 +95,7 @@ impl<Kind> Name<Kind> {
         front.copy_from_slice(text);
         Some(Name {
             bytes,
-            len: text.len(),
+            len: text.len() as u8,
             kind: PhantomData,
         })
     }
@@ -104,7 +104,7 @@ impl<Kind> Name<Kind> {
     pub fn as_bytes(&self) -> &[u8]
         ensures { result.now ≡ self.now }
     {
-        &self.bytes[..self.len]
+        &self.bytes[..self.len as usize]
     }
 }
 

@@ -3,12 +3,12 @@ ghost use Rattle.std.specs.List.{list_any};
 ghost use Rattle.casa_time.specs.Moment.{last_moment};
 ghost use Rattle.casa_flight.specs.declared.plan.Crossing.{Crossing};
 ghost use Rattle.casa_flight.specs.Text.{same_text};
-ghost use Rattle.casa_flight.specs.FlightPlan.{FlightPlan, etot};
+ghost use Rattle.casa_flight.specs.FlightPlan.{FlightPlan, etot, is_exempting};
 ghost use Rattle.casa_flight.specs.PlanFaults.{plan_fault, name_of, has_twice, has_early};
 
 use crate::name::{Key, Loc, is_name};
 use crate::regulation::Regulation;
-use casa_time::Moment;
+use casa_time::{Moment, due};
 use std::alloc::{AllocError, Global};
 use std::marker::Model;
 use std::sync::ArcSlice;
@@ -23,6 +23,18 @@ pub enum Sts {
     Medevac,
     Ffr,
     Atfmx,
+}
+
+impl Sts {
+    /// Whether this status exempts a flight.
+    pub fn is_exempting(self) -> bool
+        ensures { result ≡ is_exempting self }
+    {
+        match self {
+            Sts::Plain => false,
+            _ => true,
+        }
+    }
 }
 
 /// A location that a flight crosses, with the estimated time over it.
@@ -202,7 +214,22 @@ impl Plan {
 }
 
 impl Plan {
-    ghost use Rattle.casa_flight.specs.State.{subject};
+    ghost use Rattle.casa_flight.specs.State.{is_due, is_gone, subject};
+
+    /// Whether a flight with this plan is due by the clock: its slot is to be issued, as its estimated off-block time
+    /// is at most two hours ahead.
+    pub fn is_due(&self, clock: Moment) -> bool
+        ensures { result ≡ is_due clock self.now }
+    {
+        due(clock, self.eobt)
+    }
+
+    /// Whether a flight with this plan is gone by the clock: its estimated take-off is before that.
+    pub fn is_gone(&self, clock: Moment) -> bool
+        ensures { result ≡ is_gone clock self.now }
+    {
+        self.etot() < clock.secs()
+    }
 
     /// The estimated time over the regulation's location, where a flight with this plan is subject to the regulation;
     /// `None` where it is not.

@@ -1,9 +1,14 @@
 ghost use Rattle.std.specs.Prelude.{◌≡◌, IfOk};
+ghost use Rattle.casa_flight.specs.State.{regulation};
+ghost use Rattle.casa_flight.specs.Steps.{has_span};
 
 use crate::name::{Loc, RegId};
 use casa_grid::Profile;
 use casa_time::Moment;
 use std::alloc::AllocError;
+
+/// How many regulations may be open.
+pub const MAX_REGULATIONS: usize = 256;
 
 /// An open regulation as the catalogue has it: the location that it protects, and its span from `start` to
 /// before `end`.
@@ -20,6 +25,30 @@ pub struct Regulation {
 pub struct Measure {
     pub loc: Loc,
     pub profile: Profile,
+}
+
+impl Regulation {
+    /// The regulation with this identifier and measure: its span is that of the measure's profile.
+    pub fn of(id: RegId, measure: &Measure) -> Regulation
+        ensures { result ≡ regulation id measure.now }
+    {
+        let (start, end) = measure.profile.span();
+        Regulation {
+            id,
+            loc: measure.loc,
+            start,
+            end,
+        }
+    }
+}
+
+/// Whether the first profile has the span of the other: it starts and ends as that does.
+pub fn has_span(profile: &Profile, other: &Profile) -> bool
+    ensures { result ≡ has_span profile.now other.now }
+{
+    let (start, end) = profile.span();
+    let (other_start, other_end) = other.span();
+    start == other_start && end == other_end
 }
 
 impl Clone for Measure {

@@ -1,8 +1,12 @@
-ghost use Rattle.std.specs.Prelude.{◌≡◌, IfOk};
+ghost use Rattle.std.specs.Prelude.{◌≡◌, ◌≤◌, IfOk};
+ghost use Rattle.casa_time.specs.Moment.{last_moment};
+ghost use Rattle.casa_flight.specs.Replies.{flight_with, message_of, slot_number};
 
 use crate::call::Refusal;
 use crate::name::{Key, Loc, RegId};
+use crate::row::Row;
 use crate::shared::SharedSlice;
+use casa_grid::Place;
 use casa_time::Moment;
 use std::alloc::AllocError;
 
@@ -90,6 +94,62 @@ pub type Rows = SharedSlice<ListRow>;
 
 /// The messages of a call, in the order of the keys.
 pub type Messages = SharedSlice<Message>;
+
+impl FlightReply {
+    /// The flight filed under a key as it is answered, with this delay in seconds. The delay is at most as long as the
+    /// engine's day.
+    pub fn of(key: Key, row: &Row, delay: u32) -> FlightReply
+        requires { delay ≤ last_moment }
+        ensures { result ≡ flight_with key row.now delay }
+    {
+        let etot = row.plan.etot();
+        FlightReply {
+            key,
+            eobt: row.plan.eobt(),
+            etot,
+            ctot: etot + delay,
+            delay,
+            exempt: row.is_exempt(),
+            issued: row.issued.is_some(),
+            reg: row.governing,
+        }
+    }
+}
+
+/// The number of the slot at a place; `None` where that is over.
+pub fn slot_number(place: Place) -> Option<usize>
+    ensures { result ≡ slot_number place }
+{
+    match place {
+        Place::Slot(k) => Some(k),
+        Place::Over => None,
+    }
+}
+
+impl Message {
+    /// The message to the operator of a flight: by its governing regulation now, whether it was issued before and is
+    /// now, and its calculated take-off times before and now, in seconds from midnight UTC. `None` where there is
+    /// nothing to tell.
+    pub fn of(
+        key: Key,
+        reg: Option<RegId>,
+        was_issued: bool,
+        is_issued: bool,
+        ctot_before: u32,
+        ctot: u32,
+    ) -> Option<Message>
+        ensures { result ≡ message_of key reg was_issued is_issued ctot_before ctot }
+    {
+        if !is_issued {
+            return was_issued.then_some(Message::Slc(key));
+        }
+        let reg = reg?;
+        if !was_issued {
+            return Some(Message::Sam(key, ctot, reg));
+        }
+        (ctot_before != ctot).then_some(Message::Srm(key, ctot, reg))
+    }
+}
 
 impl ListReply {
     /// The same list; rows and messages are shared, so that it takes no memory of its own. `AllocError` where they are

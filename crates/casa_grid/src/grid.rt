@@ -1,10 +1,11 @@
 ghost use Rattle.std.specs.Prelude.{◌≡◌, ◌≤◌, ◌<◌, ◌++◌, IfOk, OnOk, length};
-ghost use Rattle.casa_grid.specs.Profile.{highest_rate, IsProfile};
+ghost use Rattle.casa_grid.specs.Profile.{highest_rate, IsProfile, end_of};
 ghost use Rattle.casa_grid.specs.Slots.{slots, slots_of_period, slot_count, window_at, begin_at, wanted, window_of};
+ghost use Rattle.casa_grid.specs.TimeOver.{cto};
 
 use crate::period::Period;
 use crate::profile::Profile;
-use crate::slot::Window;
+use crate::slot::{Place, Window};
 use casa_time::Moment;
 use std::alloc::{AllocError, Global};
 use std::marker::Model;
@@ -87,6 +88,29 @@ impl Grid {
     {
         let slot = self.wanted(at)?;
         (self.windows[slot].begin <= at).then_some(slot)
+    }
+
+    /// The calculated time over of a flight with this estimated time over at a place: the later of that and the slot's
+    /// begin, and the end of the profile for a flight that is over. A slot that the grid does not have counts as one
+    /// that begins at midnight, so that the flight keeps its own time.
+    pub fn cto(&self, eto: Moment, place: Place) -> Moment
+        ensures { result ≡ cto (slots self.now) (end_of self.now) eto place }
+    {
+        let (_start, end) = self.profile.span();
+        match place {
+            Place::Slot(slot) => eto.max(end.min(self.begin_or_midnight(slot))),
+            Place::Over => end,
+        }
+    }
+
+    /// Where slot `k` begins; midnight where there is no such slot.
+    fn begin_or_midnight(&self, k: usize) -> Moment
+        ensures { result ≡ begin_at (slots self.now) k }
+    {
+        if k < self.len() {
+            return self.begin(k);
+        }
+        Moment::new(0).unwrap()
     }
 }
 

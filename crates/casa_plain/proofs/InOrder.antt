@@ -1,9 +1,8 @@
 -- entries in order of their names, put into an empty map one by one, are the map's entries
-use Rattle.std.proofs.Common.{◌≡◌, List, [], ◌∷◌, ◌++◌, refl, ap, ◌∙◌, sym, subst, Option, None, Some, map, append_assoc, append-nil}
+use Rattle.std.proofs.Common.{◌≡◌, List, [], ◌∷◌, ◌++◌, refl, ap, ◌∙◌, sym, subst, Option, map, append_assoc, append-nil}
 use Rattle.std.specs.declared.cmp.Ordering.TheVariants.{Less, Greater}
-use Rattle.std.specs.Option.{option_map}
 use Rattle.std.specs.Ordering.{ordering_reverse}
-use Rattle.std.specs.List.{AllByRecursion, fold, cons_option}
+use Rattle.std.specs.List.{AllByRecursion}
 use Rattle.std.specs.List.Sorted.{IsStrictlySortedBy}
 use Rattle.std.specs.Map.{keys_of}
 use Rattle.std.proofs.lemmas.Cmp.{nat_list_cmp_total}
@@ -11,9 +10,7 @@ use Rattle.casa_flight.specs.Text.{Text, put}
 use Rattle.casa_flight.specs.Listing.{kept}
 use Rattle.casa_flight.specs.Good.{AreInOrder}
 use Rattle.casa_flight.proofs.Entries.{text_cmp}
-
-abbrev pub put_all : {X : Type 0} → List (Text × X) → List (Text × X) → List (Text × X)
-put_all {X} es fs = fold (λ (a : List (Text × X)) (e : Text × X). put a e.0 e.1) es fs
+use Rattle.casa_flight.proofs.Kept.{put_all, sorted-kept}
 
 -- every name of the entries comes before this one
 abbrev AreBelow : {X : Type 0} → List (Text × X) → Text → Type 0
@@ -43,26 +40,8 @@ put_all-append {X} es (e ∷ fs) h =
 pub put_all-none : {X : Type 0} (es : List (Text × X)) → AreInOrder es → put_all [] es ≡ es
 put_all-none es h = put_all-append [] es h
 
-all-kept : {X Y : Type 0} (P : Text → Type 0) (f : X → Option Y) (es : List (Text × X)) → AllByRecursion P (keys_of es) → AllByRecursion P (keys_of (kept f es))
-all-kept P f [] h = tt
-all-kept {X} {Y} P f (e ∷ es) h =
-    elim (f e.1) as (λ (o : Option Y). AllByRecursion P (keys_of (cons_option (option_map (λ (y : Y). (e.0, y)) o) (kept f es)))) [
-      | None ↦ all-kept P f es h.1
-      | Some y ↦ (h.0, all-kept P f es h.1)
-    ]
-
--- the entries that are kept of such stay in order
-in_order-kept : {X Y : Type 0} (f : X → Option Y) (es : List (Text × X)) → AreInOrder es → AreInOrder (kept f es)
-unfolding IsStrictlySortedBy
-in_order-kept f [] h = tt
-in_order-kept {X} {Y} f (e ∷ es) h =
-    elim (f e.1) as (λ (o : Option Y). AreInOrder (cons_option (option_map (λ (y : Y). (e.0, y)) o) (kept f es))) [
-      | None ↦ in_order-kept f es h.1
-      | Some y ↦ (all-kept (λ (q : Text). text_cmp e.0 q ≡ Less) f es h.0, in_order-kept f es h.1)
-    ]
-
 pub put_all-kept : {X Y : Type 0} (f : X → Option Y) (es : List (Text × X)) → AreInOrder es → put_all [] (kept f es) ≡ kept f es
-put_all-kept f es h = put_all-none (kept f es) (in_order-kept f es h)
+put_all-kept f es h = put_all-none (kept f es) (sorted-kept f es h)
 
 keys_of-each : {X Y : Type 0} (g : Text × X → Y) (es : List (Text × X)) → keys_of (map (λ (e : Text × X). (e.0, g e)) es) ≡ keys_of es
 keys_of-each g [] = refl

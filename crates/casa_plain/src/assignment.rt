@@ -3,9 +3,7 @@
 ghost use Rattle.std.specs.Prelude.{◌≡◌, ℕ, false, IfOk, length, option_copied};
 ghost use Rattle.std.specs.List.{find, range_with_len, slice_get};
 ghost use Rattle.std.specs.Option.{option_map_or};
-ghost use Rattle.casa_grid.specs.Profile.{end_of};
-ghost use Rattle.casa_grid.specs.Slots.{slots, wanted, is_within, begin_at};
-ghost use Rattle.casa_grid.specs.TimeOver.{cto};
+ghost use Rattle.casa_grid.specs.Slots.{slots, wanted, is_within};
 ghost use Rattle.casa_flight.specs.declared.comp.Assigned.{Assigned};
 ghost use Rattle.casa_flight.specs.Assignment.{assignment, is_blocked, is_free, is_from, is_open, is_taken};
 ghost use Rattle.casa_flight.specs.Assignment.{place_after, place_from};
@@ -131,26 +129,5 @@ pub fn place_among(all: &[Assigned], key: Key) -> Place
     match assigned_to(all, key) {
         Some(assigned) => assigned.place,
         None => Place::Over,
-    }
-}
-
-/// Where slot `k` begins; midnight where there is no such slot.
-fn begin_at(grid: &Grid, k: usize) -> Moment
-    ensures { result ≡ begin_at (slots grid.now) k }
-{
-    if k < grid.len() {
-        return grid.begin(k);
-    }
-    Moment::new(0).unwrap()
-}
-
-/// The calculated time over of a flight at a place.
-pub fn cto(grid: &Grid, eto: Moment, place: Place) -> Moment
-    ensures { result ≡ cto (slots grid.now) (end_of grid.now) eto place }
-{
-    let (_start, end) = grid.profile().span();
-    match place {
-        Place::Slot(k) => eto.max(end.min(begin_at(grid, k))),
-        Place::Over => end,
     }
 }

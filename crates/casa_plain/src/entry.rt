@@ -5,35 +5,17 @@ ghost use Rattle.std.specs.Option.{option_map};
 ghost use Rattle.std.specs.List.{filter_map};
 ghost use Rattle.casa_flight.specs.State.{row_of};
 ghost use Rattle.casa_flight.specs.Listing.{listing, list_of, governing_list};
-ghost use Rattle.casa_flight.specs.Entry.{situation, offer_in, offer, offers, most_penalising, choice, governed};
+ghost use Rattle.casa_flight.specs.Entry.{situation, offer_in, offer, offers, choice};
 ghost use Rattle.casa_flight.specs.Entry.{entered, enter, reenter, enter_all};
 
 use crate::plain::Plain;
 use crate::plain_list::PlainList;
-use crate::standing::{is_due, is_exempt, is_gone, ungoverned};
-use casa_flight::{Comp, Key, Measure, RegId, Regulation, Row, Stance, subject};
+use casa_flight::{
+    Comp, Key, Measure, Offer, RegId, Regulation, Row, Stance, most_penalising, subject,
+};
 use casa_time::Moment;
 use std::alloc::{AllocError, Global};
 use std::collections::BTreeMap;
-use std::marker::Model;
-
-/// What a regulation offers a flight.
-#[derive(Clone, Copy)]
-pub struct Offer {
-    id: RegId,
-    cto: Moment,
-    delay: u32,
-}
-
-impl Model for Offer {
-    ghost use Rattle.casa_flight.specs.Entry.{Offer};
-
-    ghost Value = { Offer };
-
-    ghost view = { λ o. record { id = o.id; cto = o.cto; delay = o.delay } };
-
-    ghost inverse = { λ o. record { id = o.id; cto = o.cto; delay = o.delay } };
-}
 
 /// The list of the regulation with this measure, if it is open.
 fn list_with(
@@ -68,41 +50,7 @@ fn offer_in(
     };
     list.add_competitor(key, eto)?;
     let cto = list.cto_as(alloc, key, &Stance::Competing { eto })?;
-    let delay = cto.secs().saturating_sub(eto.secs());
-    Ok(Some(Offer { id, cto, delay }))
-}
-
-/// The first of the offers with the greatest delay.
-fn most_penalising(offers: &[Offer]) -> Option<Offer>
-    ensures { result ≡ most_penalising offers.now }
-{
-    let [first, rest @ ..] = offers else {
-        return None;
-    };
-    let mut best = *first;
-    for offer in rest {
-        if best.delay < offer.delay {
-            best = *offer;
-        }
-    }
-    Some(best)
-}
-
-/// The flight governed as offered, and issued at once if it is due.
-fn governed(clock: Moment, row: Row, offer: Offer) -> Row
-    ensures { result ≡ governed clock row offer }
-{
-    let issued = if is_due(clock, &row.plan) {
-        Some(offer.cto)
-    } else {
-        None
-    };
-    Row {
-        plan: row.plan,
-        marked: row.marked,
-        governing: Some(offer.id),
-        issued,
-    }
+    Ok(Some(Offer::of(id, eto, cto)))
 }
 
 impl Plain {
@@ -181,11 +129,11 @@ impl Plain {
     pub(crate) fn entered(&self, alloc: Global, key: Key, row: Row) -> Result<Row, AllocError>
         ensures { IfOk result (λ new. new ≡ entered (situation self.now) key row) }
     {
-        if is_exempt(&row) || is_gone(self.clock(), &row.plan) {
+        if row.is_exempt() || row.plan.is_gone(self.clock()) {
             return Ok(row);
         }
         match self.choice(alloc, key, &row)? {
-            Some(offer) => Ok(governed(self.clock(), row, offer)),
+            Some(offer) => Ok(row.governed(self.clock(), offer)),
             None => Ok(row),
         }
     }
@@ -205,7 +153,7 @@ impl Plain {
         let Some(row) = self.row(key) else {
             return Ok(());
         };
-        let row = ungoverned(row)?;
+        let row = row.ungoverned()?;
         self.enter(alloc, key, row)
     }
 

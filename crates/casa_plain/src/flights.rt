@@ -9,7 +9,6 @@ ghost use Rattle.casa_flight.specs.State.{is_governed_by, regulation};
 ghost use Rattle.casa_flight.specs.Steps.{flights_over, freed, may_compete};
 ghost use Rattle.casa_plain.specs.Flights.{flight_if};
 
-use crate::standing::{is_exempt, is_gone, is_governed_by, regulation, ungoverned};
 use casa_flight::{Comp, Key, Measure, RegId, Regulation, Row, sort_comps, subject};
 use casa_time::Moment;
 use std::alloc::{AllocError, Global};
@@ -23,15 +22,8 @@ pub fn catalogue(
     ensures { IfOk result (λ all. all.items ≡ map (λ (e : Text × Measure). regulation e.0 e.1) regs.now.entries) }
 {
     regs.iter()
-        .map(|(id, measure)| regulation(*id, measure))
+        .map(|(id, measure)| Regulation::of(*id, measure))
         .collect(alloc)
-}
-
-/// Whether a flight that nothing governs may compete.
-fn may_compete(clock: Moment, row: &Row) -> bool
-    ensures { result ≡ may_compete clock row.now }
-{
-    !is_exempt(row) && !is_gone(clock, &row.plan) && !row.governing.is_some()
 }
 
 /// The flight over a regulation, if it is meant and subject to that.
@@ -56,7 +48,7 @@ fn found_newcomers(
         filter_map (λ (e : Text × Row). flight_if (may_compete clock e.1) regulation.now e.0 e.1) rows.now.entries) }
 {
     rows.iter()
-        .filter_map(|(key, row)| flight_if(may_compete(clock, row), regulation, *key, row))
+        .filter_map(|(key, row)| flight_if(row.may_compete(clock), regulation, *key, row))
         .collect(alloc)
 }
 
@@ -87,7 +79,7 @@ fn found_governed(
 {
     let id = regulation.id;
     rows.iter()
-        .filter_map(|(key, row)| flight_if(is_governed_by(id, row), regulation, *key, row))
+        .filter_map(|(key, row)| flight_if(row.is_governed_by(id), regulation, *key, row))
         .collect(alloc)
 }
 
@@ -110,7 +102,7 @@ fn freed(is_freed: bool, row: &Row) -> Result<Row, AllocError>
     ensures { IfOk result (λ free. free ≡ freed is_freed row.now) }
 {
     if is_freed {
-        return ungoverned(row);
+        return row.ungoverned();
     }
     row.clone()
 }
@@ -126,7 +118,7 @@ pub fn freed_rows(
 {
     let mut all = BTreeMap::new(alloc);
     for (key, row) in rows.iter() {
-        all.insert(*key, freed(is_governed_by(id, row), row)?)?;
+        all.insert(*key, freed(row.is_governed_by(id), row)?)?;
     }
     Ok(all)
 }

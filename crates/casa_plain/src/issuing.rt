@@ -10,7 +10,6 @@ ghost use Rattle.casa_flight.specs.Entry.{is_to_issue, issued_in, issue_if, issu
 
 use crate::plain::Plain;
 use crate::plain_list::PlainList;
-use crate::standing::is_due;
 use casa_flight::{Key, Row};
 use casa_time::Moment;
 use std::alloc::{AllocError, Global};
@@ -35,13 +34,6 @@ fn cto_at(alloc: Global, list: Option<PlainList>, key: Key) -> Result<Option<Mom
         Some(list) => list.cto_of(alloc, key),
         None => Ok(None),
     }
-}
-
-/// Whether the flight is governed, due and not issued yet.
-fn is_to_issue(clock: Moment, row: &Row) -> bool
-    ensures { result ≡ is_to_issue clock row.now }
-{
-    row.governing.is_some() && !row.issued.is_some() && is_due(clock, &row.plan)
 }
 
 impl Plain {
@@ -104,7 +96,7 @@ impl Plain {
     {
         let mut all = BTreeMap::new(alloc);
         for (key, row) in rows.iter() {
-            let is_issued = is_to_issue(self.clock(), row);
+            let is_issued = row.is_to_issue(self.clock());
             all.insert(*key, self.issue_if(alloc, is_issued, *key, row)?)?;
         }
         Ok(all)

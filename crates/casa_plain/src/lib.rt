@@ -12,7 +12,6 @@ mod issuing;
 mod plain;
 mod plain_list;
 mod replies;
-mod standing;
 mod steps;
 
 pub use plain::Plain;

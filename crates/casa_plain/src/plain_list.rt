@@ -12,8 +12,7 @@ ghost use Rattle.casa_flight.specs.Listing.{listing, kept, stance_in, competitor
 ghost use Rattle.casa_flight.specs.Listing.{places, place_of, stance_of, cto_as, cto_of, eto_as, delay_in};
 ghost use Rattle.casa_flight.specs.Entry.{with_competitor};
 
-use crate::assignment::{assignment, cto, place_among};
-use crate::standing::{eto_as, issued_cto, stance_in};
+use crate::assignment::{assignment, place_among};
 use casa_flight::{Assigned, Comp, Key, Measure, RegId, Row, Stance, sort_comps};
 use casa_grid::{Grid, Place};
 use casa_time::Moment;
@@ -49,7 +48,7 @@ fn stances(
 {
     let mut flights = BTreeMap::new(alloc);
     for (key, row) in rows.iter() {
-        if let Some(stance) = stance_in(id, measure, row) {
+        if let Some(stance) = row.stance_in(id, measure) {
             flights.insert(*key, stance)?;
         }
     }
@@ -84,7 +83,7 @@ fn issued_times(alloc: Global, flights: &BTreeMap<Key, Stance>) -> Result<Vec<Mo
 {
     flights
         .iter()
-        .filter_map(|(_, stance)| issued_cto(stance))
+        .filter_map(|(_, stance)| stance.issued_cto())
         .collect(alloc)
 }
 
@@ -171,7 +170,7 @@ impl PlainList {
     fn cto_at(&self, eto: Moment, place: Place) -> Moment
         ensures { result ≡ time_over (slots self.now.profile) (end_of self.now.profile) eto place }
     {
-        cto(&self.grid, eto, place)
+        self.grid.cto(eto, place)
     }
 
     /// The calculated time over of the flight where it stands so.
@@ -200,7 +199,7 @@ impl PlainList {
         ensures value { IfOk result (λ delay. delay ≡ cto_as self.now key stance.now - eto_as stance.now) }
         ensures in_range { IfOk result (λ delay. delay ≤ last_moment) }
     {
-        let eto = eto_as(stance);
+        let eto = stance.eto();
         let cto = self.cto_as(alloc, key, stance)?;
         Ok(cto.secs().saturating_sub(eto.secs()))
     }

@@ -1,42 +1,23 @@
 //! What the allocator replies: the answer to a call, and the messages of a change.
 
-ghost use Rattle.std.specs.Prelude.{◌≡◌, IfOk, OnOk, OnErr, map, option_copied};
+ghost use Rattle.std.specs.Prelude.{◌≡◌, IfOk, OnOk, OnErr, map};
 ghost use Rattle.casa_flight.specs.declared.row.Stance.{Stance};
 ghost use Rattle.casa_flight.specs.Text.{Text};
 ghost use Rattle.casa_flight.specs.Steps.{next, step};
-ghost use Rattle.casa_flight.specs.Replies.{flight_reply, flight_answer, slot_number, forced_time, row_in};
-ghost use Rattle.casa_flight.specs.Replies.{list_rows, list_reply, list_answer, answer, is_issued};
+ghost use Rattle.casa_flight.specs.Replies.{flight_reply, flight_answer, forced_time, row_in};
+ghost use Rattle.casa_flight.specs.Replies.{list_rows, list_reply, list_answer, answer};
 ghost use Rattle.casa_flight.specs.Replies.{ctot_before, message, messages, reply};
 ghost use Rattle.casa_plain.specs.Outcome.{step_of};
 
 use crate::plain::Plain;
 use crate::plain_list::PlainList;
-use crate::standing::{is_exempt, regulation};
 use crate::steps::Outcome;
 use casa_flight::{
-    Answer, Call, FlightReply, Key, Kind, ListReply, ListRow, Message, Messages, RegId, Regulation,
-    Reply, Row, Rows, Stance, sort_rows,
+    Answer, Call, FlightReply, Key, ListReply, ListRow, Message, Messages, RegId, Regulation,
+    Reply, Row, Rows, Stance, is_issued, slot_number, sort_rows,
 };
-use casa_grid::Place;
 use casa_time::Moment;
 use std::alloc::{AllocError, Global};
-
-/// The number of the slot at a place, if it is one.
-fn slot_number(place: Place) -> Option<usize>
-    ensures { result ≡ slot_number place }
-{
-    match place {
-        Place::Slot(k) => Some(k),
-        Place::Over => None,
-    }
-}
-
-/// Whether there is a flight and it is issued.
-fn is_issued(row: Option<&Row>) -> bool
-    ensures { result ≡ is_issued (option_copied row.entry) }
-{
-    row.is_some_and(|row| row.issued.is_some())
-}
 
 /// The message to the operator of a flight that is now filed under a key, if its slot is issued, revised or taken back.
 fn message(
@@ -49,18 +30,18 @@ fn message(
     ensures { IfOk result (λ m. m ≡ message old.now new.now key row.now) }
 {
     let was_issued = is_issued(old.row(key));
-    if !row.issued.is_some() {
-        return Ok(was_issued.then_some(Message::Slc(key)));
-    }
-    let Some(reg) = row.governing else {
-        return Ok(None);
+    let is_issued = row.issued.is_some();
+    let before = if was_issued && is_issued {
+        old.ctot_before(alloc, key)?
+    } else {
+        0
     };
-    let ctot = new.ctot_of(alloc, key, row)?;
-    if !was_issued {
-        return Ok(Some(Message::Sam(key, ctot, reg)));
-    }
-    let before = old.ctot_before(alloc, key)?;
-    Ok((before != ctot).then_some(Message::Srm(key, ctot, reg)))
+    let ctot = if is_issued {
+        new.ctot_of(alloc, key, row)?
+    } else {
+        0
+    };
+    Ok(Message::of(key, row.governing, was_issued, is_issued, before, ctot))
 }
 
 /// The messages of a change from one state to another.
@@ -92,16 +73,7 @@ impl Plain {
         ensures { IfOk result (λ r. r ≡ flight_reply self.now key row.now) }
     {
         let delay = self.delay_of(alloc, key, row)?;
-        Ok(FlightReply {
-            key,
-            eobt: row.plan.eobt(),
-            etot: row.plan.etot(),
-            ctot: row.plan.etot() + delay,
-            delay,
-            exempt: is_exempt(row),
-            issued: row.issued.is_some(),
-            reg: row.governing,
-        })
+        Ok(FlightReply::of(key, row, delay))
     }
 
     /// The answer with the flight under a key.
@@ -135,29 +107,21 @@ impl Plain {
     ) -> Result<ListRow, AllocError>
         ensures { IfOk result (λ row. row ≡ row_in self.now list.now key stance) }
     {
-        match stance {
-            Stance::Competing { eto } => Ok(ListRow {
-                key,
-                eto,
-                cto: list.cto_as(alloc, key, &stance)?.secs(),
-                kind: Kind::Pre,
-                slot: slot_number(list.place_of(alloc, key)?),
-            }),
-            Stance::Issued { eto, cto } => Ok(ListRow {
-                key,
-                eto,
-                cto: cto.secs(),
-                kind: Kind::Issued,
-                slot: list.window_of(cto),
-            }),
-            Stance::Forced { eto } => Ok(ListRow {
-                key,
-                eto,
-                cto: self.forced_time(alloc, key, eto)?,
-                kind: Kind::Forced,
-                slot: None,
-            }),
-        }
+        let (cto, slot) = match stance {
+            Stance::Competing { .. } => {
+                let cto = list.cto_as(alloc, key, &stance)?;
+                (cto.secs(), slot_number(list.place_of(alloc, key)?))
+            }
+            Stance::Issued { cto, .. } => (cto.secs(), list.window_of(cto)),
+            Stance::Forced { eto } => (self.forced_time(alloc, key, eto)?, None),
+        };
+        Ok(ListRow {
+            key,
+            eto: stance.eto(),
+            cto,
+            kind: stance.kind(),
+            slot,
+        })
     }
 
     /// The flights of a list as it shows them, by key.
@@ -208,7 +172,7 @@ impl Plain {
             return Ok(Answer::Done);
         };
         let list = PlainList::of(alloc, self.rows(), id, measure)?;
-        Ok(Answer::List(self.list_reply(alloc, &regulation(id, measure), &list)?))
+        Ok(Answer::List(self.list_reply(alloc, &Regulation::of(id, measure), &list)?))
     }
 
     /// The answer to an accepted call, in the state that it led to.

@@ -1,74 +1,27 @@
 //! What each call does to the state, and what it leads to.
 
 ghost use Rattle.std.specs.Prelude.{◌≡◌, true, IfOk, length, nat_le, nat_lt};
-ghost use Rattle.casa_flight.specs.State.{measure_of, row_of, ungoverned, with_row};
+ghost use Rattle.casa_flight.specs.State.{measure_of, row_of, with_row};
 ghost use Rattle.casa_flight.specs.Listing.{ctot_of};
-ghost use Rattle.casa_flight.specs.Steps.{amend, cancel, close_regulation, exempt, file, has_span, list};
-ghost use Rattle.casa_flight.specs.Steps.{most_regulations, new_row, open_regulation, rates, revise, revise_to};
+ghost use Rattle.casa_flight.specs.Steps.{amend, cancel, close_regulation, exempt, file, list};
+ghost use Rattle.casa_flight.specs.Steps.{most_regulations, open_regulation, rates, revise, revise_to};
 ghost use Rattle.casa_flight.specs.Steps.{is_revised, show, step, tick, closed};
 ghost use Rattle.casa_plain.specs.Outcome.{step_of};
 
 use crate::flights::{freed_rows, governed_flights, newcomers};
 use crate::plain::Plain;
-use crate::standing::{is_exempt, is_gone, regulation, ungoverned};
-use casa_flight::{Call, Key, Loc, Measure, Plan, Refusal, RegId, Row};
+use casa_flight::{
+    Call, Key, Loc, MAX_REGULATIONS, Measure, Plan, Refusal, RegId, Regulation, Row, has_span,
+};
 use casa_grid::Profile;
 use casa_time::Moment;
 use std::alloc::{AllocError, Global};
-
-/// How many regulations may be open.
-const MAX_REGULATIONS: usize = 256;
 
 /// What comes of a call: it is refused, or it leads to a state.
 #[derive(Drop)]
 pub enum Outcome {
     Refused(Refusal),
     Leads(Plain),
-}
-
-/// A filed flight before it enters.
-fn new_row(plan: &Plan) -> Result<Row, AllocError>
-    ensures { IfOk result (λ row. row ≡ new_row plan.now) }
-{
-    Ok(Row {
-        plan: plan.clone()?,
-        marked: false,
-        governing: None,
-        issued: None,
-    })
-}
-
-/// A flight with a new plan before it enters.
-fn amended_row(row: &Row, plan: &Plan) -> Result<Row, AllocError>
-    ensures { IfOk result (λ new. new ≡ record (ungoverned row.now) { plan = plan.now }) }
-{
-    Ok(Row {
-        plan: plan.clone()?,
-        marked: row.marked,
-        governing: None,
-        issued: None,
-    })
-}
-
-/// A flight that a desk exempts.
-fn exempted_row(row: &Row) -> Result<Row, AllocError>
-    ensures { IfOk result (λ new. new ≡ record (ungoverned row.now) { marked = true }) }
-{
-    Ok(Row {
-        plan: row.plan.clone()?,
-        marked: true,
-        governing: None,
-        issued: None,
-    })
-}
-
-/// Whether two profiles start and end alike.
-fn has_span(profile: &Profile, other: &Profile) -> bool
-    ensures { result ≡ has_span profile.now other.now }
-{
-    let (start, end) = profile.span();
-    let (other_start, other_end) = other.span();
-    start == other_start && end == other_end
 }
 
 impl Plain {
@@ -84,7 +37,7 @@ impl Plain {
             return Ok(Outcome::Refused(Refusal::Late));
         }
         let mut new = self.copied()?;
-        new.enter(alloc, plan.key(), new_row(plan)?)?;
+        new.enter(alloc, plan.key(), Row::filed(plan)?)?;
         Ok(Outcome::Leads(new))
     }
 
@@ -99,7 +52,7 @@ impl Plain {
         if plan.eobt() < self.clock() {
             return Ok(Outcome::Refused(Refusal::Late));
         }
-        let row = amended_row(row, plan)?;
+        let row = row.amended(plan)?;
         let mut new = self.copied()?;
         new.enter(alloc, plan.key(), row)?;
         Ok(Outcome::Leads(new))
@@ -133,7 +86,7 @@ impl Plain {
         if !row.issued.is_some() {
             return Ok(true);
         }
-        if is_gone(self.clock(), &row.plan) {
+        if row.plan.is_gone(self.clock()) {
             return Ok(false);
         }
         let then = self.ctot_with(alloc, key, new)?;
@@ -160,7 +113,7 @@ impl Plain {
         let Some(row) = self.row(key) else {
             return Ok(Outcome::Refused(Refusal::NoFlight));
         };
-        let new = self.entered(alloc, key, ungoverned(row)?)?;
+        let new = self.entered(alloc, key, row.ungoverned()?)?;
         Ok(Outcome::Leads(self.revise_to(alloc, key, row, new)?))
     }
 
@@ -171,10 +124,10 @@ impl Plain {
         let Some(row) = self.row(key) else {
             return Ok(Outcome::Refused(Refusal::NoFlight));
         };
-        if is_exempt(row) {
+        if row.is_exempt() {
             return Ok(Outcome::Refused(Refusal::AlreadyExempt));
         }
-        let row = exempted_row(row)?;
+        let row = row.exempted()?;
         let mut new = self.copied()?;
         new.put_row(key, row)?;
         Ok(Outcome::Leads(new))
@@ -202,7 +155,12 @@ impl Plain {
             loc,
             profile: profile.clone()?,
         };
-        let comps = newcomers(alloc, self.rows(), self.clock(), &regulation(id, &measure))?;
+        let comps = newcomers(
+            alloc,
+            self.rows(),
+            self.clock(),
+            &Regulation::of(id, &measure),
+        )?;
         let mut new = self.copied()?;
         new.put_measure(id, measure)?;
         new.enter_all(alloc, comps.as_slice())?;
@@ -227,7 +185,7 @@ impl Plain {
         let Some(measure) = self.measure(id) else {
             return Ok(Outcome::Refused(Refusal::NoRegulation));
         };
-        let comps = governed_flights(alloc, self.rows(), &regulation(id, measure))?;
+        let comps = governed_flights(alloc, self.rows(), &Regulation::of(id, measure))?;
         let mut new = self.closed(alloc, id)?;
         new.enter_all(alloc, comps.as_slice())?;
         Ok(Outcome::Leads(new))

@@ -1,7 +1,7 @@
 //! Profiles and slots.
 
 use crate::parts::period;
-use casa_grid::{Grid, Period, Profile, ProfileFault};
+use casa_grid::{Grid, Period, Place, Profile, ProfileFault};
 use casa_time::Moment;
 use std::alloc::{AllocError, Global};
 use std::test::Fail;
@@ -52,6 +52,24 @@ fn the_slot_of_a_moment_has_it_in_its_window(rt: HostRuntime) -> Result<(), Fail
         (43200, None),
     ] {
         assert_eq!(rt; grid.window_of(Moment::new(at)?), slot, "held at {at}");
+    }
+    Ok(())
+}
+
+#[test]
+fn a_place_gives_the_later_time(rt: HostRuntime) -> Result<(), Fail> {
+    let grid = two_hours(rt.alloc())?;
+    for (eto, place, cto) in [
+        (36100, Place::Slot(1), 36128),
+        (36200, Place::Slot(1), 36200),
+        (36100, Place::Slot(56), 36100),
+        (36100, Place::Over, 43200),
+    ] {
+        assert_eq!(rt;
+            grid.cto(Moment::new(eto)?, place).secs(),
+            cto,
+            "from {eto}"
+        );
     }
     Ok(())
 }

@@ -14,4 +14,6 @@ mod parts;
 #[cfg(test)]
 mod plain;
 #[cfg(test)]
+mod row;
+#[cfg(test)]
 mod time;

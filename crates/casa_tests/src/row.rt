@@ -1,0 +1,195 @@
+//! One flight's row, stances, offers, reply and messages.
+
+use crate::parts::{key, loc, over, period, profile, reg};
+use casa_flight::{
+    FlightReply, Kind, MAX_REGULATIONS, Measure, Message, Offer, Plan, Regulation, Row, Stance,
+    Sts, has_span, is_issued, more_penalising, most_penalising, slot_number,
+};
+use casa_grid::Place;
+use casa_time::Moment;
+use std::alloc::Global;
+use std::test::Fail;
+
+/// The plan of flight A: off-block at 30000, ten minutes of taxi, and over LA at 36010.
+fn plan(alloc: Global, sts: Sts) -> Result<Plan, Fail> {
+    let via = [over(b"LA", 36_010)?];
+    Ok(Plan::new(alloc, b"A", Moment::new(30_000)?, 600, &via, sts)?)
+}
+
+/// What the regulation with this identifier offers flight A at this second.
+fn offer(id: &[u8], cto: u32) -> Result<Offer, Fail> {
+    Ok(Offer::of(reg(id)?, Moment::new(36_010)?, Moment::new(cto)?))
+}
+
+/// The measure at this location from 36000 to 37200, at 30 flights per hour.
+fn measure(alloc: Global, name: &[u8]) -> Result<Measure, Fail> {
+    Ok(Measure {
+        loc: loc(name)?,
+        profile: profile(alloc, &[period(36_000, 37_200, 30)?])?,
+    })
+}
+
+#[test]
+fn a_plan_is_due_two_hours_before_and_gone_after_the_take_off(rt: HostRuntime) -> Result<(), Fail> {
+    let plan = plan(rt.alloc(), Sts::Plain)?;
+    for (clock, is_due, is_gone) in [
+        (22_799, false, false),
+        (22_800, true, false),
+        (30_600, true, false),
+        (30_601, true, true),
+    ] {
+        let clock_at = Moment::new(clock)?;
+        assert_eq!(rt;
+            (plan.is_due(clock_at), plan.is_gone(clock_at)),
+            (is_due, is_gone),
+            "at {clock}"
+        );
+    }
+    assert!(rt; Sts::Head.is_exempting() && !Sts::Plain.is_exempting());
+    Ok(())
+}
+
+#[test]
+fn a_row_is_filed_exempted_and_amended(rt: HostRuntime) -> Result<(), Fail> {
+    let alloc = rt.alloc();
+    let at = Moment::new(22_800)?;
+    let filed = Row::filed(&plan(alloc, Sts::Plain)?)?;
+    assert!(rt; !filed.is_exempt() && filed.may_compete(at) && !filed.is_to_issue(at));
+    assert!(rt; !filed.may_compete(Moment::new(30_601)?));
+    let exempted = filed.exempted()?;
+    assert!(rt; exempted.is_exempt() && !exempted.may_compete(at));
+    let amended = exempted.amended(&plan(alloc, Sts::Head)?)?;
+    assert!(rt; amended.marked && amended.plan.sts() == Sts::Head);
+    assert!(rt; Row::filed(&amended.plan)?.is_exempt());
+    Ok(())
+}
+
+#[test]
+fn a_governed_row_is_issued_once_it_is_due(rt: HostRuntime) -> Result<(), Fail> {
+    let (early, due) = (Moment::new(22_799)?, Moment::new(22_800)?);
+    let (r1, r2) = (reg(b"R1")?, reg(b"R2")?);
+    let filed = Row::filed(&plan(rt.alloc(), Sts::Plain)?)?;
+    let waiting = filed.clone()?.governed(early, offer(b"R1", 36_120)?);
+    assert!(rt; waiting.is_governed_by(r1) && !waiting.is_governed_by(r2));
+    assert!(rt; !waiting.is_to_issue(early) && waiting.is_to_issue(due));
+    assert!(rt; !waiting.may_compete(early) && !is_issued(Some(&waiting)));
+    let issued = filed.clone()?.governed(due, offer(b"R1", 36_120)?);
+    assert_eq!(rt; issued.issued.map(|cto| cto.secs()), Some(36_120));
+    assert!(rt; is_issued(Some(&issued)) && !issued.is_to_issue(due) && !is_issued(None));
+    assert!(rt; issued.ungoverned()? == filed);
+    Ok(())
+}
+
+#[test]
+fn a_row_stands_in_the_lists_that_it_crosses(rt: HostRuntime) -> Result<(), Fail> {
+    let alloc = rt.alloc();
+    let (eto, cto) = (Moment::new(36_010)?, Moment::new(36_120)?);
+    let (id, here, elsewhere) = (reg(b"R1")?, measure(alloc, b"LA")?, measure(alloc, b"LB")?);
+    let regulation = Regulation::of(id, &here);
+    assert!(rt; regulation.id == id && regulation.loc == here.loc);
+    assert_eq!(rt;
+        (regulation.start.secs(), regulation.end.secs()),
+        (36_000, 37_200)
+    );
+    let forced = Row::filed(&plan(alloc, Sts::Plain)?)?;
+    let competing = forced
+        .clone()?
+        .governed(Moment::new(0)?, offer(b"R1", 36_120)?);
+    let issued = forced
+        .clone()?
+        .governed(Moment::new(22_800)?, offer(b"R1", 36_120)?);
+    for (row, stance, kind) in [
+        (&forced, Stance::Forced { eto }, Kind::Forced),
+        (&competing, Stance::Competing { eto }, Kind::Pre),
+        (&issued, Stance::Issued { eto, cto }, Kind::Issued),
+    ] {
+        assert_eq!(rt; row.stance_over(&regulation), Some(stance));
+        assert_eq!(rt; row.stance_in(id, &here), Some(stance));
+        assert_eq!(rt; row.stance_in(id, &elsewhere), None);
+        assert_eq!(rt; (stance.eto(), stance.kind()), (eto, kind));
+    }
+    assert_eq!(rt; Stance::of(true, Some(cto), eto).issued_cto(), Some(cto));
+    assert_eq!(rt; Stance::of(true, None, eto).issued_cto(), None);
+    assert_eq!(rt; Stance::of(false, Some(cto), eto), Stance::Forced { eto });
+    Ok(())
+}
+
+#[test]
+fn the_first_of_the_greatest_delays_is_most_penalising(rt: HostRuntime) -> Result<(), Fail> {
+    let (one, two, three) = (
+        offer(b"R1", 36_120)?,
+        offer(b"R2", 36_240)?,
+        offer(b"R3", 36_240)?,
+    );
+    assert!(rt; one.id() == reg(b"R1")?);
+    assert_eq!(rt; (one.cto().secs(), one.delay()), (36_120, 110));
+    assert_eq!(rt; offer(b"R1", 36_000)?.delay(), 0);
+    assert!(rt; more_penalising(None, one).id() == one.id());
+    assert!(rt; more_penalising(Some(two), three).id() == two.id());
+    let best = most_penalising(&[one, two, three]);
+    assert!(rt; best.is_some_and(|best| best.id() == two.id()));
+    assert!(rt; most_penalising(&[]).is_none());
+    Ok(())
+}
+
+#[test]
+fn a_flight_is_answered_with_its_delay(rt: HostRuntime) -> Result<(), Fail> {
+    let row = Row::filed(&plan(rt.alloc(), Sts::Plain)?)?;
+    let row = row.governed(Moment::new(0)?, offer(b"R1", 36_120)?);
+    let reply = FlightReply {
+        key: key(b"A")?,
+        eobt: Moment::new(30_000)?,
+        etot: 30_600,
+        ctot: 30_710,
+        delay: 110,
+        exempt: false,
+        issued: false,
+        reg: Some(reg(b"R1")?),
+    };
+    assert_eq!(rt; FlightReply::of(key(b"A")?, &row, 110), reply);
+    assert_eq!(rt; slot_number(Place::Slot(3)), Some(3));
+    assert_eq!(rt; slot_number(Place::Over), None);
+    Ok(())
+}
+
+#[test]
+fn a_message_tells_what_changed(rt: HostRuntime) -> Result<(), Fail> {
+    let (key, id) = (key(b"A")?, reg(b"R1")?);
+    for (reg, was_issued, is_issued, before, message) in [
+        (Some(id), false, false, 0, None),
+        (None, true, false, 30_710, Some(Message::Slc(key))),
+        (None, true, true, 30_710, None),
+        (
+            Some(id),
+            false,
+            true,
+            0,
+            Some(Message::Sam(key, 30_600, id)),
+        ),
+        (Some(id), true, true, 30_600, None),
+        (
+            Some(id),
+            true,
+            true,
+            30_710,
+            Some(Message::Srm(key, 30_600, id)),
+        ),
+    ] {
+        let told = Message::of(key, reg, was_issued, is_issued, before, 30_600);
+        assert_eq!(rt; told, message);
+    }
+    Ok(())
+}
+
+#[test]
+fn spans_are_compared_at_both_ends(rt: HostRuntime) -> Result<(), Fail> {
+    let alloc = rt.alloc();
+    let whole = profile(alloc, &[period(36_000, 37_200, 30)?])?;
+    let halves = [period(36_000, 36_600, 20)?, period(36_600, 37_200, 10)?];
+    let shorter = profile(alloc, &[period(36_000, 36_600, 30)?])?;
+    let later = profile(alloc, &[period(36_600, 37_200, 30)?])?;
+    assert!(rt; has_span(&profile(alloc, &halves)?, &whole));
+    assert!(rt; !has_span(&shorter, &whole) && !has_span(&later, &whole));
+    assert_eq!(rt; MAX_REGULATIONS, 256);
+    Ok(())
+}
