@@ -108,8 +108,8 @@ impl Both {
     fn file(&mut self, alloc: Global, i: u8) -> Result<(), Fail> {
         let (comp, eobt) = flight(i)?;
         self.plain.step(alloc, &file(alloc, self.loc, comp, eobt)?)?;
-        if self.list.stance_of(&comp.key).is_some() {
-            return Err(Fail::from("a key that is in the list"));
+        if self.list.place_of(&comp.key).is_some() {
+            return Err(Fail::from("a flight that is governed"));
         }
         self.list.enter(comp)?;
         if i % 4 == 0 {

@@ -11,6 +11,7 @@ pub mod Flights
 pub mod Entering
 pub mod Holding
 pub mod Forcing
+pub mod Freeing
 pub mod Issuing
 pub mod Regridding
 pub mod Reading

@@ -208,7 +208,7 @@ walked_changed ws bs ds (Some k) xs cs h is =
     ∙ ap (walked ws ds 0) (take-drop_comps n cs)
 
 -- no place is beyond the last slot
-within_asked : (bs : List ℕ) (low : ℕ) (asked : Option ℕ) → IsWithin (length bs) (place_asked bs low asked)
+pub within_asked : (bs : List ℕ) (low : ℕ) (asked : Option ℕ) → IsWithin (length bs) (place_asked bs low asked)
 within_asked bs low None = tt
 within_asked bs low (Some asked) =
     elim (clear_from bs (max asked low)) as (λ (o : Option ℕ). clear_from bs (max asked low) ≡ o → IsWithin (length bs) (place_from o)) [

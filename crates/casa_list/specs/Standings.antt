@@ -1,6 +1,6 @@
 use Rattle.std.specs.Prelude.{ℕ, ◌+◌, List, ◌++◌, map, length, Bool, not, unwrap_or, is_some, Option, None, Some}
 use Rattle.std.specs.Option.{option_map, option_and_then}
-use Rattle.std.specs.List.{filter_map, position}
+use Rattle.std.specs.List.{filter_map, position, remove}
 use Rattle.casa_grid.specs.declared.slot.Place.{Place}
 use Rattle.casa_grid.specs.Slots.{slots, window_of}
 use Rattle.casa_flight.specs.declared.comp.Comp.{Comp}
@@ -102,3 +102,8 @@ is_forced l key = is_some (forced_eto l key)
 -- where a flight stands among these, which are in their order, or where it goes
 abbrev pub index_in : List (Comp × Standing) → Comp → ℕ
 index_in flights comp = unwrap_or (position (λ (f : Comp × Standing). not (is_before f.0 comp)) flights) (length flights)
+
+-- the forced flights without the one that has this key, if it has an estimated time over there
+abbrev pub freed : List (Comp × Standing) → Text → Option ℕ → List (Comp × Standing)
+freed forced key None = forced
+freed forced key (Some eto) = remove forced (index_in forced (record { eto = eto; key = key }))

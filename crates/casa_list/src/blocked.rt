@@ -8,18 +8,17 @@ ghost use Rattle.casa_list.specs.Blocked.{raised, lowered, counts, time_of, time
 ghost use Rattle.std.specs.Option.{option_and_then};
 ghost use Rattle.casa_list.specs.declared.standing.Standing.{Standing};
 
+use crate::grid::SharedGrid;
 use crate::standing::{Entry, Standing};
-use casa_grid::Grid;
 use casa_time::Moment;
 use std::alloc::{AllocError, Global};
 
 /// The slot whose window holds this moment, in a grid of a valid profile.
-pub fn slot_of(grid: &Grid, at: Moment) -> Option<usize>
+pub fn slot_of(grid: &SharedGrid, at: Moment) -> Option<usize>
     ensures value { result ≡ window_of (slots grid.now) at }
     ensures valid { IsProfile grid.now }
 {
-    let _periods = grid.profile().periods();
-    grid.window_of(at)
+    grid.get().window_of(at)
 }
 
 /// Counts one more flight in a slot.
@@ -46,7 +45,7 @@ fn lower(blocked: &mut [usize], slot: Option<usize>)
 }
 
 /// Counts one more flight in the slot whose window holds this moment, and gives that slot.
-pub fn block(grid: &Grid, blocked: &mut Vec<usize>, at: Moment) -> Option<usize>
+pub fn block(grid: &SharedGrid, blocked: &mut Vec<usize>, at: Moment) -> Option<usize>
     requires { AllByRecursion (λ n. n < usize.MAX) blocked.old.items }
     ensures slot { result ≡ window_of (slots grid.now) at }
     ensures items { blocked.new.items ≡ raised blocked.old.items (window_of (slots grid.now) at) }
@@ -58,7 +57,7 @@ pub fn block(grid: &Grid, blocked: &mut Vec<usize>, at: Moment) -> Option<usize>
 }
 
 /// Counts one flight less in the slot whose window holds this moment, and gives that slot.
-pub fn unblock(grid: &Grid, blocked: &mut Vec<usize>, at: Moment) -> Option<usize>
+pub fn unblock(grid: &SharedGrid, blocked: &mut Vec<usize>, at: Moment) -> Option<usize>
     ensures slot { result ≡ window_of (slots grid.now) at }
     ensures items { blocked.new.items ≡ lowered blocked.old.items (window_of (slots grid.now) at) }
     ensures valid { IsProfile grid.now }
@@ -88,10 +87,11 @@ fn time_of(standing: &Standing) -> Option<Moment>
 }
 
 /// The slot that a flight blocks which stands so, in a grid of a valid profile.
-fn slot_taken(grid: &Grid, standing: &Standing) -> Option<usize>
+fn slot_taken(grid: &SharedGrid, standing: &Standing) -> Option<usize>
     ensures value { result ≡ option_and_then (window_of (slots grid.now)) (time_of standing.now) }
     ensures valid { IsProfile grid.now }
 {
+    let grid = grid.get();
     let _periods = grid.profile().periods();
     match time_of(standing) {
         Some(cto) => grid.window_of(cto),
@@ -100,7 +100,7 @@ fn slot_taken(grid: &Grid, standing: &Standing) -> Option<usize>
 }
 
 /// Counts these flights in their slots, which nothing blocks yet.
-fn raise_all(grid: &Grid, blocked: &mut [usize], flights: &[Entry])
+fn raise_all(grid: &SharedGrid, blocked: &mut [usize], flights: &[Entry])
     requires { blocked.old ≡ replicate (length (slots grid.now)) 0 }
     ensures { blocked.new ≡ counts (slots grid.now) (times_in flights.now) }
 {
@@ -111,7 +111,7 @@ fn raise_all(grid: &Grid, blocked: &mut [usize], flights: &[Entry])
 }
 
 /// As `raise_all`.
-fn raise_in(grid: &Grid, blocked: &mut Vec<usize>, flights: &[Entry])
+fn raise_in(grid: &SharedGrid, blocked: &mut Vec<usize>, flights: &[Entry])
     requires { blocked.old.items ≡ replicate (length (slots grid.now)) 0 }
     ensures { blocked.new.items ≡ counts (slots grid.now) (times_in flights.now) }
 {
@@ -119,10 +119,14 @@ fn raise_in(grid: &Grid, blocked: &mut Vec<usize>, flights: &[Entry])
 }
 
 /// How many of these flights block each slot.
-pub fn counted(alloc: Global, grid: &Grid, flights: &[Entry]) -> Result<Vec<usize>, AllocError>
+pub fn counted(
+    alloc: Global,
+    grid: &SharedGrid,
+    flights: &[Entry],
+) -> Result<Vec<usize>, AllocError>
     ensures { IfOk result (λ blocked. blocked.items ≡ counts (slots grid.now) (times_in flights.now)) }
 {
-    let mut blocked = none_blocked(alloc, grid.len())?;
+    let mut blocked = none_blocked(alloc, grid.get().len())?;
     raise_in(grid, &mut blocked, flights);
     Ok(blocked)
 }

@@ -9,9 +9,11 @@
 
 mod blocked;
 mod fresh;
+mod grid;
 mod laws;
 mod list;
 mod order;
+mod shared;
 mod standing;
 mod walk;
 
@@ -19,4 +21,5 @@ pub use casa_flight::Comp;
 pub use casa_grid::Place;
 pub use laws::{list_equality, places_are_right, standings_name_each_flight_once};
 pub use list::SlotList;
+pub use shared::SharedList;
 pub use standing::Standing;

@@ -1,12 +1,12 @@
 //! The list.
 
-ghost use Rattle.std.specs.Prelude.{◌≡◌, [], Option, Some, None, IfOk, OnOk, OnErr, IfSome, is_some, false, length, if◌then◌else◌};
+ghost use Rattle.std.specs.Prelude.{◌≡◌, [], Option, Some, None, IfOk, OnOk, OnErr, IfSome, is_some, true, false, length, if◌then◌else◌};
 ghost use Rattle.std.specs.List.{slice_get};
 ghost use Rattle.casa_grid.specs.Slots.{slots, window_of};
 ghost use Rattle.casa_flight.specs.declared.row.Stance.{Stance};
 ghost use Rattle.casa_flight.specs.Text.{Text, at_name, put, without, same_text};
 ghost use Rattle.casa_flight.specs.Assignment.{place_from};
-ghost use Rattle.casa_flight.specs.Listing.{place_of, cto_of, cto_as, stance_of};
+ghost use Rattle.casa_flight.specs.Listing.{place_of, cto_of, cto_as, stance, stance_of};
 ghost use Rattle.casa_flight.specs.Entry.{with_competitor};
 ghost use Rattle.casa_flight.specs.Good.{AreInOrder};
 ghost use Rattle.casa_list.specs.Walk.{IsWithin};
@@ -15,7 +15,8 @@ ghost use Rattle.casa_list.specs.Standings.{standings, count_governed, governed_
 
 use crate::blocked::{block, counted, slot_of, unblock};
 use crate::fresh::{competitors_of, forced_of, issued_of};
-use crate::order::{entry_at, index_of, put_flight, take_flight};
+use crate::grid::SharedGrid;
+use crate::order::{entry_at, free_flight, index_of, put_flight, take_flight};
 use crate::standing::{Entry, Standing};
 use crate::walk::{
     cto_at, place_behind, place_from, put_competitor, take_competitor, walk_all, walk_from_slot,
@@ -37,7 +38,7 @@ use std::marker::Model;
 /// `governed` and `nth` say so, since the law `standings_name_each_flight_once` asks for it.
 #[derive(Drop)]
 pub struct SlotList {
-    grid: Grid,
+    grid: SharedGrid,
     flights: BTreeMap<Key, Stance>,
     competitors: Vec<Assigned>,
     issued: Vec<Entry>,
@@ -74,7 +75,7 @@ impl PartialEq for SlotList {
     ghost laws = { partial_equiv_from_equiv list_eq_laws };
 
     fn eq(&self, other: &SlotList) -> bool {
-        self.grid.profile() == other.grid.profile() && self.flights == other.flights
+        self.grid.get().profile() == other.grid.get().profile() && self.flights == other.flights
     }
 }
 
@@ -88,7 +89,7 @@ impl fmt::Debug for SlotList {
     /// Shows what contracts see.
     fn fmt<W: fmt::Write>(&self, f: &mut fmt::Formatter<W>) -> fmt::Result {
         f.debug_struct("SlotList")
-            .field("profile", self.grid.profile())
+            .field("profile", self.grid.get().profile())
             .field("flights", &self.flights)
             .finish_non_exhaustive()
     }
@@ -99,6 +100,7 @@ impl SlotList {
     pub fn new(alloc: Global, grid: Grid) -> Result<SlotList, AllocError>
         ensures { IfOk result (λ list. list ≡ record { profile = grid; flights = [] }) }
     {
+        let grid = SharedGrid::new(alloc, grid)?;
         let blocked = counted(alloc, &grid, &[])?;
         Ok(SlotList {
             grid,
@@ -120,6 +122,7 @@ impl SlotList {
     ) -> Result<SlotList, AllocError>
         ensures { IfOk result (λ list. list ≡ record { profile = grid; flights = flights.entries }) }
     {
+        let grid = SharedGrid::new(alloc, grid)?;
         let mut competitors = competitors_of(alloc, &flights)?;
         let mut issued = issued_of(alloc, &flights)?;
         let forced = forced_of(alloc, &flights)?;
@@ -141,7 +144,7 @@ impl SlotList {
         ensures profile { result.now ≡ self.now.profile }
         ensures keys { AreInOrder self.now.flights }
     {
-        &self.grid
+        self.grid.get()
     }
 
     /// How the flight with this key stands; `None` where it is not in the list.
@@ -177,28 +180,32 @@ impl SlotList {
     /// Puts a competitor in and gives its place: the slot that it asks for or the first later one that is free
     /// or pre-allocated to a competitor behind it, which then looks on from there.
     ///
-    /// Competitors are ordered by estimated time over and, among equal times, by key. The key must not be in the
-    /// list. `AllocError` where there is no memory for the flight; the list is then as it was.
+    /// Competitors are ordered by estimated time over and, among equal times, by key. The regulation must not govern
+    /// the flight; where it is forced, it is so no more. `AllocError` where there is no memory for the flight; the list
+    /// is then as it was.
     pub fn enter(&mut self, comp: Comp) -> Result<Place, AllocError>
-        requires { stance_of self.old comp.key ≡ None }
+        requires { governed_place self.old comp.key ≡ None }
         ensures entered { OnOk result (self.new ≡ with_competitor self.old comp.key comp.eto) }
         ensures place { IfOk result (λ place. place ≡ place_of self.new comp.key) }
         ensures unchanged { OnErr result (self.new ≡ self.old) }
     {
+        let was = self.forced_at(&comp.key);
         self.competitors.reserve(1)?;
         self.issued.reserve(self.competitors.len() + 1)?;
         self.flights
             .insert(comp.key, Stance::Competing { eto: comp.eto })?;
+        free_flight(&mut self.forced, comp.key, was);
         let at = index_of(self.competitors.as_slice(), &comp);
         let blocked = self.blocked.as_slice();
         let competitors = &mut self.competitors;
         Ok(put_competitor(&self.grid, blocked, competitors, at, comp))
     }
 
-    /// The place that `enter` would give. The key must not be in the list.
+    /// The place that `enter` would give. The regulation must not govern the flight, which may be forced.
     pub fn would_get(&self, comp: &Comp) -> Place
-        requires { stance_of self.now comp.now.key ≡ None }
-        ensures { result ≡ place_of (with_competitor self.now comp.now.key comp.now.eto) comp.now.key }
+        requires { governed_place self.now comp.now.key ≡ None }
+        ensures place { result ≡ place_of (with_competitor self.now comp.now.key comp.now.eto) comp.now.key }
+        ensures within { IsWithin (length (slots self.now.profile)) result }
     {
         let competitors = self.competitors.as_slice();
         let at = index_of(competitors, comp);
@@ -206,20 +213,52 @@ impl SlotList {
         place_behind(&self.grid, blocked, &competitors[..at], comp.eto)
     }
 
+    /// The calculated time over of the place that `enter` would give. The regulation must not govern the flight, which
+    /// may be forced.
+    pub fn would_pass(&self, comp: &Comp) -> Moment
+        requires { governed_place self.now comp.now.key ≡ None }
+        ensures { result ≡
+            cto_as (with_competitor self.now comp.now.key comp.now.eto) comp.now.key (Stance.Competing comp.now.eto) }
+    {
+        cto_at(&self.grid, comp.eto, self.would_get(comp))
+    }
+
+    /// Puts a flight in that the regulation governs from now on: issued at this calculated time over, or as a competitor
+    /// without one. It must not govern the flight yet; where that is forced, it is so no more.
+    ///
+    /// `AllocError` where there is no memory for the flight; the list is then as it was.
+    pub fn admit(&mut self, comp: Comp, issued: Option<Moment>) -> Result<(), AllocError>
+        requires { governed_place self.old comp.key ≡ None }
+        ensures admitted { OnOk result (self.new ≡ record self.old {
+          flights = put self.old.flights comp.key (stance true issued comp.eto);
+        }) }
+        ensures unchanged { OnErr result (self.new ≡ self.old) }
+    {
+        match issued {
+            Some(cto) => self.hold(comp, cto)?,
+            None => {
+                self.enter(comp)?;
+            }
+        }
+        Ok(())
+    }
+
     /// Puts an issued flight in, with this calculated time over. The competitor that has its slot looks on from
-    /// there. The key must not be in the list.
+    /// there. The regulation must not govern the flight yet; where it is forced, it is so no more.
     ///
     /// `AllocError` where there is no memory for the flight; the list is then as it was.
     pub fn hold(&mut self, comp: Comp, cto: Moment) -> Result<(), AllocError>
-        requires { stance_of self.old comp.key ≡ None }
+        requires { governed_place self.old comp.key ≡ None }
         ensures held { OnOk result (self.new ≡ record self.old {
           flights = put self.old.flights comp.key (Stance.Issued comp.eto cto);
         }) }
         ensures unchanged { OnErr result (self.new ≡ self.old) }
     {
+        let was = self.forced_at(&comp.key);
         self.issued.reserve(self.competitors.len() + 1)?;
         let stance = Stance::Issued { eto: comp.eto, cto };
         self.flights.insert(comp.key, stance)?;
+        free_flight(&mut self.forced, comp.key, was);
         put_flight(&mut self.issued, comp, Standing::Issued(cto));
         let slot = block(&self.grid, &mut self.blocked, cto);
         walk_from_slot(
@@ -414,6 +453,7 @@ impl SlotList {
         ensures unchanged { OnErr result (self.new ≡ self.old) }
     {
         let alloc = *self.blocked.allocator();
+        let grid = SharedGrid::new(alloc, grid)?;
         let blocked = counted(alloc, &grid, self.issued.as_slice())?;
         self.grid = grid;
         self.blocked = blocked;
@@ -421,14 +461,14 @@ impl SlotList {
         Ok(())
     }
 
-    /// The same list in memory of its own, or `AllocError` where there is no memory for it.
+    /// The same list, of which only the slots are shared, or `AllocError` where there is no memory for it.
     pub fn try_clone(&self) -> Result<SlotList, AllocError>
         ensures { IfOk result (λ list. list ≡ self.now) }
     {
         let mut issued = self.issued.clone()?;
         issued.reserve(self.competitors.len())?;
         Ok(SlotList {
-            grid: self.grid.clone()?,
+            grid: self.grid.share()?,
             flights: self.flights.clone()?,
             competitors: self.competitors.clone()?,
             issued,

@@ -6,11 +6,12 @@ ghost use Rattle.std.specs.List.Sorted.{IsSortedBy};
 ghost use Rattle.casa_flight.specs.declared.comp.Assigned.{Assigned};
 ghost use Rattle.casa_flight.specs.declared.comp.Comp.{Comp};
 ghost use Rattle.casa_flight.specs.Listing.{is_before, put_by};
-ghost use Rattle.casa_list.specs.Standings.{is_flight_before, index_in};
+ghost use Rattle.casa_list.specs.Standings.{is_flight_before, index_in, freed};
 ghost use Rattle.casa_list.specs.declared.standing.Standing.{Standing};
 
 use crate::standing::{Entry, Standing};
-use casa_flight::{Assigned, Comp};
+use casa_flight::{Assigned, Comp, Key};
+use casa_time::Moment;
 
 /// Whether the one flight comes before the other: by time over, and by key among equal times.
 fn is_before(a: &Comp, b: &Comp) -> bool
@@ -74,6 +75,16 @@ pub fn take_flight(flights: &mut Vec<Entry>, comp: &Comp)
 {
     let at = index_of_flight(flights.as_slice(), comp);
     flights.remove(at);
+}
+
+/// Takes the flight with this key out of the forced ones, if it has an estimated time over there.
+pub fn free_flight(forced: &mut Vec<Entry>, key: Key, eto: Option<Moment>)
+    requires { IfSome eto (λ at. index_in forced.old.items (record { eto = at; key = key }) < length forced.old.items) }
+    ensures { forced.new.items ≡ freed forced.old.items key eto }
+{
+    if let Some(eto) = eto {
+        take_flight(forced, &Comp { eto, key });
+    }
 }
 
 /// Flight number `n` of these.

@@ -10,8 +10,9 @@ ghost use Rattle.casa_list.specs.Walk.{is_clear, clear_from, place_low, low_afte
 ghost use Rattle.casa_grid.specs.Profile.{end_of};
 ghost use Rattle.casa_grid.specs.TimeOver.{cto};
 
+use crate::grid::SharedGrid;
 use casa_flight::{Assigned, Comp};
-use casa_grid::{Grid, Place};
+use casa_grid::Place;
 use casa_time::Moment;
 
 /// Whether no issued flight blocks slot `k`.
@@ -42,10 +43,10 @@ pub fn place_from(slot: Option<usize>) -> Place
 }
 
 /// The place of a flight with this time over where the slots below `low` are gone.
-pub fn place_low(grid: &Grid, blocked: &[usize], low: usize, eto: Moment) -> Place
+pub fn place_low(grid: &SharedGrid, blocked: &[usize], low: usize, eto: Moment) -> Place
     ensures { result ≡ place_low (slots grid.now) blocked.now low eto }
 {
-    match grid.wanted(eto) {
+    match grid.get().wanted(eto) {
         Some(asked) => place_from(clear_from(blocked, asked.max(low))),
         None => Place::Over,
     }
@@ -72,7 +73,12 @@ fn low_behind(slots: usize, competitors: &[Assigned]) -> usize
 }
 
 /// The place of a flight with this time over behind these competitors.
-pub fn place_behind(grid: &Grid, blocked: &[usize], competitors: &[Assigned], eto: Moment) -> Place
+pub fn place_behind(
+    grid: &SharedGrid,
+    blocked: &[usize],
+    competitors: &[Assigned],
+    eto: Moment,
+) -> Place
     ensures { result ≡ place_low (slots grid.now) blocked.now (low_behind (length blocked.now) 0 competitors.now) eto }
 {
     place_low(grid, blocked, low_behind(blocked.len(), competitors), eto)
@@ -80,7 +86,7 @@ pub fn place_behind(grid: &Grid, blocked: &[usize], competitors: &[Assigned], et
 
 /// Moves the competitors from number `from` on to their places behind the earlier ones, up to the first whose
 /// place stays.
-fn walk_from(grid: &Grid, blocked: &[usize], competitors: &mut [Assigned], from: usize)
+fn walk_from(grid: &SharedGrid, blocked: &[usize], competitors: &mut [Assigned], from: usize)
     requires within { from ≤ length competitors.old }
     requires follow { FollowFirst (slots grid.now) blocked.now (drop from competitors.old) }
     ensures { competitors.new ≡
@@ -99,7 +105,7 @@ fn walk_from(grid: &Grid, blocked: &[usize], competitors: &mut [Assigned], from:
 }
 
 /// As `walk_from`.
-pub fn walk_on(grid: &Grid, blocked: &[usize], competitors: &mut Vec<Assigned>, from: usize)
+pub fn walk_on(grid: &SharedGrid, blocked: &[usize], competitors: &mut Vec<Assigned>, from: usize)
     requires within { from ≤ length competitors.old.items }
     requires follow { FollowFirst (slots grid.now) blocked.now (drop from competitors.old.items) }
     ensures items { competitors.new.items ≡ followed (slots grid.now) blocked.now
@@ -110,7 +116,7 @@ pub fn walk_on(grid: &Grid, blocked: &[usize], competitors: &mut Vec<Assigned>, 
 }
 
 /// Moves each competitor to its place.
-fn walk_each(grid: &Grid, blocked: &[usize], competitors: &mut [Assigned])
+fn walk_each(grid: &SharedGrid, blocked: &[usize], competitors: &mut [Assigned])
     ensures { competitors.new ≡ walked (slots grid.now) blocked.now 0 (comps_in competitors.old) }
 {
     let mut low = 0;
@@ -123,7 +129,7 @@ fn walk_each(grid: &Grid, blocked: &[usize], competitors: &mut [Assigned])
 }
 
 /// As `walk_each`.
-pub fn walk_all(grid: &Grid, blocked: &[usize], competitors: &mut Vec<Assigned>)
+pub fn walk_all(grid: &SharedGrid, blocked: &[usize], competitors: &mut Vec<Assigned>)
     ensures items { competitors.new.items ≡ walked (slots grid.now) blocked.now 0 (comps_in competitors.old.items) }
     ensures len { vec_len competitors.new ≡ vec_len competitors.old }
 {
@@ -132,7 +138,7 @@ pub fn walk_all(grid: &Grid, blocked: &[usize], competitors: &mut Vec<Assigned>)
 
 /// Puts a competitor at number `at` among the others, which it may displace, and gives its place.
 pub fn put_competitor(
-    grid: &Grid,
+    grid: &SharedGrid,
     blocked: &[usize],
     competitors: &mut Vec<Assigned>,
     at: usize,
@@ -155,7 +161,7 @@ pub fn put_competitor(
 
 /// Takes the competitor at number `at` out, and those behind it move up; gives the place that it had.
 pub fn take_competitor(
-    grid: &Grid,
+    grid: &SharedGrid,
     blocked: &[usize],
     competitors: &mut Vec<Assigned>,
     at: usize,
@@ -203,7 +209,7 @@ pub fn count_below(competitors: &[Assigned], k: usize) -> usize
 /// Moves the competitors to their places after the number of issued flights in this slot changed: only those
 /// with places from it on can move.
 pub fn walk_from_slot(
-    grid: &Grid,
+    grid: &SharedGrid,
     blocked: &[usize],
     competitors: &mut Vec<Assigned>,
     slot: Option<usize>,
@@ -219,10 +225,11 @@ pub fn walk_from_slot(
 }
 
 /// The calculated time over of a flight with this time over at a place.
-pub fn cto_at(grid: &Grid, eto: Moment, place: Place) -> Moment
+pub fn cto_at(grid: &SharedGrid, eto: Moment, place: Place) -> Moment
     requires { IsWithin (length (slots grid.now)) place }
     ensures { result ≡ cto (slots grid.now) (end_of grid.now) eto place }
 {
+    let grid = grid.get();
     let (_start, end) = grid.profile().span();
     match place {
         Place::Slot(k) => eto.max(end.min(grid.begin(k))),

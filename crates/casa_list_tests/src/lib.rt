@@ -7,3 +7,5 @@
 mod list;
 #[cfg(test)]
 mod parts;
+#[cfg(test)]
+mod shared;

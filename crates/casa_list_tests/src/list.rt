@@ -31,10 +31,10 @@ fn ten_slots(alloc: Global) -> Result<SlotList, Fail> {
     list(alloc, &[period(36_000, 37_200, 30)?])
 }
 
-/// Enters a flight that is not in the list; again where memory was refused, which has changed nothing.
+/// Enters a flight that is not governed; again where memory was refused, which has changed nothing.
 fn enter(list: &mut SlotList, comp: Comp) -> Result<Place, Fail> {
-    if list.stance_of(&comp.key).is_some() {
-        return Err("the flight is there".into());
+    if list.place_of(&comp.key).is_some() {
+        return Err("the flight is governed".into());
     }
     match list.enter(comp) {
         Ok(place) => Ok(place),
@@ -42,19 +42,40 @@ fn enter(list: &mut SlotList, comp: Comp) -> Result<Place, Fail> {
     }
 }
 
-/// The place that a flight would get that is not in the list.
+/// The place that a flight would get that is not governed.
 fn would_get(list: &SlotList, comp: &Comp) -> Result<Place, Fail> {
-    if list.stance_of(&comp.key).is_some() {
-        return Err("the flight is there".into());
+    if list.place_of(&comp.key).is_some() {
+        return Err("the flight is governed".into());
     }
     Ok(list.would_get(comp))
+}
+
+/// Its calculated time over there, as seconds.
+fn would_pass(list: &SlotList, comp: &Comp) -> Result<u32, Fail> {
+    if list.place_of(&comp.key).is_some() {
+        return Err("the flight is governed".into());
+    }
+    Ok(list.would_pass(comp).secs())
+}
+
+/// Admits a flight that is not governed, issued at this time if there is one; again where memory was refused.
+fn admit(list: &mut SlotList, comp: Comp, issued: Option<Moment>) -> Result<(), Fail> {
+    if list.place_of(&comp.key).is_some() {
+        return Err("the flight is governed".into());
+    }
+    let was = list.stance_of(&comp.key);
+    match list.admit(comp, issued) {
+        Ok(()) => Ok(()),
+        Err(AllocError) if list.stance_of(&comp.key) == was => Ok(list.admit(comp, issued)?),
+        Err(AllocError) => Err("a refused growth changed the list".into()),
+    }
 }
 
 /// Holds an issued flight likewise.
 fn hold(list: &mut SlotList, comp: Comp, cto: u32) -> Result<(), Fail> {
     let cto = Moment::new(cto)?;
-    if list.stance_of(&comp.key).is_some() {
-        return Err("the flight is there".into());
+    if list.place_of(&comp.key).is_some() {
+        return Err("the flight is governed".into());
     }
     match list.hold(comp, cto) {
         Ok(()) => Ok(()),
@@ -100,7 +121,7 @@ fn cto_of(list: &SlotList, text: &[u8]) -> Result<Option<u32>, Fail> {
 }
 
 /// Ten slots with the competitor B, C issued at 36015 and the forced flight D.
-fn three_flights(alloc: Global) -> Result<SlotList, Fail> {
+pub fn three_flights(alloc: Global) -> Result<SlotList, Fail> {
     let mut list = ten_slots(alloc)?;
     enter(&mut list, comp(b"B", 36_005)?)?;
     hold(&mut list, comp(b"C", 36_005)?, 36_015)?;
@@ -171,6 +192,34 @@ fn forced_flights_take_no_slot(rt: HostRuntime) -> Result<(), Fail> {
     assert_eq!(rt; list.governed(), 2);
     assert!(rt; list.unforce(&key(b"D")?));
     assert_eq!(rt; list.nth(2), None);
+    Ok(())
+}
+
+/// B competes for the second slot behind the issued C. A forced flight gets what it would get if it were not there, and
+/// is forced no more.
+#[test]
+fn a_forced_flight_is_admitted(rt: HostRuntime) -> Result<(), Fail> {
+    let mut list = three_flights(rt.alloc())?;
+    let d = comp(b"D", 36_000)?;
+    assert_eq!(rt; would_get(&list, &d)?, Place::Slot(1));
+    assert_eq!(rt; would_pass(&list, &d)?, 36_120);
+    admit(&mut list, d, None)?;
+    assert_eq!(rt; cto_of(&list, b"D")?, Some(36_120));
+    assert_eq!(rt; cto_of(&list, b"B")?, Some(36_240));
+    assert_eq!(rt; (list.governed(), list.nth(3)), (3, None));
+    Ok(())
+}
+
+/// The same flight admitted as issued, in B's slot, and one that was not there.
+#[test]
+fn an_issued_flight_is_admitted(rt: HostRuntime) -> Result<(), Fail> {
+    let mut list = three_flights(rt.alloc())?;
+    admit(&mut list, comp(b"D", 36_000)?, Some(Moment::new(36_130)?))?;
+    assert_eq!(rt; cto_of(&list, b"D")?, Some(36_130));
+    assert_eq!(rt; cto_of(&list, b"B")?, Some(36_240));
+    admit(&mut list, comp(b"A", 36_250)?, None)?;
+    assert_eq!(rt; cto_of(&list, b"A")?, Some(36_360));
+    assert_eq!(rt; list.governed(), 4);
     Ok(())
 }
 
@@ -278,6 +327,19 @@ fn a_refused_growth_leaves_the_flight_out(rt: HostRuntime) -> Result<(), Fail> {
 fn a_refused_growth_copies_nothing(rt: HostRuntime) -> Result<(), Fail> {
     let list = three_flights(rt.alloc())?;
     assert!(rt; copy(&list)? == list);
+    Ok(())
+}
+
+/// Likewise: a flight that stands forced stays so.
+#[test]
+fn a_refused_growth_admits_nobody(rt: HostRuntime) -> Result<(), Fail> {
+    let mut list = three_flights(rt.alloc())?;
+    admit(&mut list, comp(b"D", 36_000)?, None)?;
+    admit(&mut list, comp(b"E", 36_500)?, None)?;
+    admit(&mut list, comp(b"F", 36_700)?, Some(Moment::new(36_740)?))?;
+    assert_eq!(rt; cto_of(&list, b"B")?, Some(36_240));
+    assert_eq!(rt; cto_of(&list, b"E")?, Some(36_500));
+    assert_eq!(rt; list.governed(), 5);
     Ok(())
 }
 

@@ -1,11 +1,11 @@
-use Rattle.std.proofs.Common.{◌≡◌, ◌∙◌, ◌+◌, ◌≤◌, ◌∷◌, None, ap, sym, take, drop, length, vec_capacity, rules}
+use Rattle.std.proofs.Common.{◌≡◌, ◌∙◌, ◌+◌, ◌≤◌, ◌∷◌, ap, sym, take, drop, length, vec_capacity, rules}
 use Rattle.casa_grid.specs.Slots.{slots}
 use Rattle.casa_flight.specs.declared.row.Stance.TheVariants.{Competing}
 use Rattle.casa_flight.specs.Text.{put}
 use Rattle.casa_flight.specs.Listing.{Listing, places, place_of}
 use Rattle.casa_list.specs.Walk.{place_low, low_behind, followed, comps_in}
-use Rattle.casa_list.proofs.Keeping.{index_of, kept_follow, stands}
-use Rattle.casa_list.proofs.Entering.{kept_entered, entered_place}
+use Rattle.casa_list.proofs.Keeping.{index_of, kept_follow}
+use Rattle.casa_list.proofs.Freeing.{free_within, free_place, kept_free_entered}
 use Rattle.casa_list.proofs.Searched.{sorted_places}
 use Rattle.casa_list.proofs.list.SlotList.enter.Goals as goal
 
@@ -14,10 +14,12 @@ put_competitor-requires-clause-follow c =
     let at = c.index_of-at.result in
     rw (c.as_slice-blocked.ensures.value, c.reserve.ensures.items) (kept_follow at c.self.invariant)
 
+pub free_flight-requires : goal.free_flight-requires
+free_flight-requires c = free_within _ _ _ c.self.invariant c.self.view_is c.requires c.forced_at-was.ensures.value
+
 pub invariant_of-self-2 : goal.invariant_of-self-2
 invariant_of-self-2 c =
     let comp = c.args.comp in
-    let absent = stands _ _ comp.key None c.self.view_is c.requires in
     let written : c.insert.new.self.entries ≡ put c.self.inside.flights.entries comp.key (Competing comp.eto) = search rules in
     let xs = c.self.inside.competitors.items in
     let ys = c.put_competitor.new.competitors.items in
@@ -25,17 +27,16 @@ invariant_of-self-2 c =
     let is : ys ≡ followed (slots c.self.inside.grid) c.self.inside.blocked.items (take (index_of xs comp) xs) (comp ∷ comps_in (drop (index_of xs comp) xs)) =
     c.put_competitor.ensures.items ∙ (λ j. followed (slots c.self.inside.grid) (c.as_slice-blocked.ensures.value j) (take (at j) (c.reserve.ensures.items j)) (comp ∷ comps_in (drop (at j) (c.reserve.ensures.items j)))) in
     let enough : length ys + length c.self.inside.issued.items ≤ vec_capacity c.reserve-2.new.self = search rules in
-    rw (written, c.reserve-2.ensures.items) (kept_entered comp ys _ c.self.invariant absent is enough)
+    rw (written, c.reserve-2.ensures.items) (kept_free_entered _ comp _ ys _ _ c.self.invariant c.self.view_is c.requires c.forced_at-was.ensures.value c.free_flight.ensures is enough)
 
 pub returns-clause-place : goal.returns-clause-place
 returns-clause-place c =
     let comp = c.args.comp in
-    let absent = stands _ _ comp.key None c.self.view_is c.requires in
     let written : c.insert.new.self.entries ≡ put c.self.inside.flights.entries comp.key (Competing comp.eto) = search rules in
     let at : c.index_of-at.result ≡ index_of c.self.inside.competitors.items comp = rw (← c.reserve.ensures.items, ← c.as_slice.ensures.value) c.index_of-at.ensures.value in
     c.put_competitor.ensures.place
     ∙ (λ j. place_low (slots c.self.inside.grid) (c.as_slice-blocked.ensures.value j) (low_behind (length (c.as_slice-blocked.ensures.value j)) 0 (take (at j) (c.reserve.ensures.items j))) comp.eto)
-    ∙ sym (entered_place comp c.self.invariant absent)
+    ∙ sym (free_place _ comp c.self.invariant c.self.view_is c.requires)
     ∙ ap (λ es. place_of (record { profile = c.self.inside.grid; flights = es }) comp.key) (sym written)
 
 pub index_of-at-requires : goal.index_of-at-requires

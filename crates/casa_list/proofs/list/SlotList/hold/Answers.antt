@@ -1,4 +1,4 @@
-use Rattle.std.proofs.Common.{◌≡◌, ◌∙◌, ◌+◌, ◌<◌, ◌≤◌, None, ap, length, vec_capacity, rules}
+use Rattle.std.proofs.Common.{◌≡◌, ◌∙◌, ◌+◌, ◌<◌, ◌≤◌, ap, length, vec_capacity, rules}
 use Rattle.std.below.core.specs.declared.int.usize.TheConstants.{MAX}
 use Rattle.casa_grid.specs.Slots.{slots, window_of}
 use Rattle.casa_flight.specs.declared.row.Stance.TheVariants.{Issued}
@@ -7,9 +7,13 @@ use Rattle.casa_flight.specs.Listing.{put_by}
 use Rattle.casa_list.specs.declared.standing.Standing.TheVariants.{Issued as IssuedAt}
 use Rattle.casa_list.specs.Standings.{is_flight_before}
 use Rattle.casa_list.specs.Walk.{walked_from_slot}
-use Rattle.casa_list.proofs.Keeping.{kept_few, stands}
-use Rattle.casa_list.proofs.Holding.{kept_held, kept_follow_raised}
+use Rattle.casa_list.proofs.Keeping.{kept_few}
+use Rattle.casa_list.proofs.Holding.{kept_follow_raised}
+use Rattle.casa_list.proofs.Freeing.{free_within, kept_free_held}
 use Rattle.casa_list.proofs.list.SlotList.hold.Goals as goal
+
+pub free_flight-requires : goal.free_flight-requires
+free_flight-requires c = free_within _ _ _ c.self.invariant c.self.view_is c.requires c.forced_at-was.ensures.value
 
 pub block-slot-requires : goal.block-slot-requires
 block-slot-requires c =
@@ -24,7 +28,6 @@ walk_from_slot-requires c =
 pub invariant_of-self-2 : goal.invariant_of-self-2
 invariant_of-self-2 c =
     let comp = c.args.comp in
-    let absent = stands _ _ comp.key None c.self.view_is c.requires in
     let written : c.insert.new.self.entries ≡ put c.self.inside.flights.entries comp.key (Issued comp.eto c.args.cto) = search rules in
     let xs = c.self.inside.competitors.items in
     let ys = c.walk_from_slot.new.competitors.items in
@@ -33,4 +36,5 @@ invariant_of-self-2 c =
     let is : ys ≡ walked_from_slot (slots c.self.inside.grid) c.block-slot.new.blocked.items xs (window_of (slots c.self.inside.grid) c.args.cto) =
     c.walk_from_slot.ensures.items ∙ (λ j. walked_from_slot (slots c.self.inside.grid) (c.as_slice.ensures.value j) xs (c.block-slot.ensures.slot j)) in
     let enough : length ys + length c.put_flight.new.flights.items ≤ vec_capacity c.put_flight.new.flights = search rules in
-    rw written (kept_held comp c.args.cto ys _ _ _ c.self.invariant c.block-slot.ensures.valid absent put_is c.block-slot.ensures.items is enough)
+    rw written
+    (kept_free_held _ comp c.args.cto _ ys _ _ _ _ c.self.invariant c.block-slot.ensures.valid c.self.view_is c.requires c.forced_at-was.ensures.value c.free_flight.ensures put_is c.block-slot.ensures.items is enough)

@@ -6,5 +6,5 @@ use Rattle.casa_list.proofs.list.SlotList.new.Goals as goal
 
 pub invariant_of-result : goal.invariant_of-result
 invariant_of-result c =
-    let counted_is : c.in_ok-blocked.blocked.items ≡ counts (slots c.args.grid) [] = search rules in
-    kept_none c.args.grid _ _ (search rules) (search rules) (search rules) (search rules) counted_is
+    let counted_is : c.in_ok-blocked.blocked.items ≡ counts (slots c.in_ok-grid.grid) [] = search rules in
+    kept_none c.in_ok-grid.grid _ _ (search rules) (search rules) (search rules) (search rules) counted_is

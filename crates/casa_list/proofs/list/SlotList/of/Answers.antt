@@ -10,7 +10,7 @@ use Rattle.casa_list.proofs.list.SlotList.of.Goals as goal
 
 pub invariant_of-result : goal.invariant_of-result
 invariant_of-result c =
-    let l : Listing = record { profile = c.args.grid; flights = c.args.flights.entries } in
+    let l : Listing = record { profile = c.in_ok-grid.grid; flights = c.args.flights.entries } in
     let xs = c.in_ok-competitors.competitors.items in
     let ys = c.walk_all.new.competitors.items in
     let bs = c.in_ok-blocked.blocked.items in
@@ -19,7 +19,7 @@ invariant_of-result c =
     let comps_are : comps_in xs ≡ competitors l = search rules in
     let issued_are : issued ≡ issued_flights l = search rules in
     let forced_are : c.in_ok-forced.forced.items ≡ forced_flights l = search rules in
-    let counted_is : bs ≡ counts (slots c.args.grid) (times_in issued) = search rules in
-    let is : ys ≡ walked (slots c.args.grid) bs 0 (comps_in xs) = search rules in
+    let counted_is : bs ≡ counts (slots c.in_ok-grid.grid) (times_in issued) = search rules in
+    let is : ys ≡ walked (slots c.in_ok-grid.grid) bs 0 (comps_in xs) = search rules in
     let enough : length ys + length issued ≤ vec_capacity c.reserve.new.self = search rules in
     kept_of l _ (comps_in xs) keys comps_are issued_are forced_are counted_is is enough
