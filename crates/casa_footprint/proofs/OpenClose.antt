@@ -29,7 +29,7 @@ use Rattle.casa_footprint.proofs.EnterAll.{IsOrdered, list-enter_all}
 use Rattle.casa_footprint.proofs.Forms.{Spares}
 
 -- a flight that may compete is subject to nothing
-subject_to_none : (m : State) (key : Text) (row : Row) (id : Text) → IsGood m → row_of m key ≡ Some row → may_compete m.clock row ≡ true → is_subject m row.plan id ≡ false
+pub subject_to_none : (m : State) (key : Text) (row : Row) (id : Text) → IsGood m → row_of m key ≡ Some row → may_compete m.clock row ≡ true → is_subject m row.plan id ≡ false
 subject_to_none m key row id good found h =
     let parts = competes (is_exempt row) (is_gone m.clock row.plan) row.governing h in
     let here : IsGoodRow m.clock m.regs key row = all_at (λ (e : Text × Row). IsGoodRow m.clock m.regs e.0 e.1) key row m.rows good.rows found in

@@ -45,7 +45,7 @@ put_over {X} {Y} f k new old same (x ∷ es) h e =
     ] refl
 
 -- the state with these rates
-abbrev rated : State → Text → Measure → List Period → State
+abbrev pub rated : State → Text → Measure → List Period → State
 rated m id measure profile = record m { regs = put m.regs id (record measure { profile = profile }) }
 
 regulation_rated : (id : Text) (measure : Measure) (profile : List Period) → has_span profile measure.profile ≡ true → regulation id (record measure { profile = profile }) ≡ regulation id measure
@@ -60,12 +60,12 @@ catalogue_rated : (m : State) (id : Text) (measure : Measure) (profile : List Pe
 catalogue_rated m id measure profile good e h =
     put_over (λ (e : Text × Measure). regulation e.0 e.1) id (record measure { profile = profile }) measure (λ q. regulation_rated q measure profile h) m.regs good.regs_in_order e
 
-rates_messages : (m : State) (id : Text) (measure : Measure) (profile : List Period) → IsGood m → measure_of m id ≡ Some measure → has_span profile measure.profile ≡ true → messages m (rated m id measure profile) ≡ []
+pub rates_messages : (m : State) (id : Text) (measure : Measure) (profile : List Period) → IsGood m → measure_of m id ≡ Some measure → has_span profile measure.profile ≡ true → messages m (rated m id measure profile) ≡ []
 rates_messages m id measure profile good e h =
     messages_none m (rated m id measure profile) good good.rows_in_order (sym (catalogue_rated m id measure profile good e h)) (λ key row found. found)
 
 -- the list with its new profile keeps its flights
-list_rated : (m : State) (id : Text) (measure : Measure) (profile : List Period) → has_span profile measure.profile ≡ true → list_of (rated m id measure profile) id ≡ Some (record (listing m.rows id measure) { profile = profile })
+pub list_rated : (m : State) (id : Text) (measure : Measure) (profile : List Period) → has_span profile measure.profile ≡ true → list_of (rated m id measure profile) id ≡ Some (record (listing m.rows id measure) { profile = profile })
 list_rated m id measure profile h =
     ap (option_map (listing m.rows id)) (at-put_same id (record measure { profile = profile }) m.regs)
     ∙ ap (λ (r : Regulation). let l : Listing = record { profile = profile; flights = kept (λ (row : Row). option_map (stance (is_governed_by id row) row.issued) (subject row.plan r)) m.rows } in Some l) (regulation_rated id measure profile h)

@@ -30,7 +30,7 @@ use Rattle.casa_footprint.proofs.Messages.{messages_self}
 use Rattle.casa_footprint.proofs.OneFlight.{answer_same}
 use Rattle.casa_footprint.proofs.Forms.{Decides, DecidesWrites, DecidesReads, Spares}
 
-governs_own : (m : State) (key : Text) (row : Row) (id : Text) → row_of m key ≡ Some row → row.governing ≡ Some id → governs m id key ≡ true
+pub governs_own : (m : State) (key : Text) (row : Row) (id : Text) → row_of m key ≡ Some row → row.governing ≡ Some id → governs m id key ≡ true
 governs_own m key row id e g =
     ap (λ (w : Option Row). option_map_or (is_governed_by id) w false) e ∙ ap (λ (w : Option Text). option_map_or (same_text id) w false) g ∙ text_itself id
 
@@ -75,18 +75,18 @@ show_spares key m good i h = by (row_of m key)
     by (Some row) = refl
 
 -- a test that an element of a list passes is passed in the list
-abbrev IsIn : {X : Type 0} → List X → X → Type 0
+abbrev pub IsIn : {X : Type 0} → List X → X → Type 0
 IsIn {X} xs y = (p : X → Bool) → p y ≡ true → list_any p xs ≡ true
 
 in_longer : {X : Type 0} (x : X) (ys xs : List X) → AllByRecursion (IsIn xs) ys → AllByRecursion (IsIn (x ∷ xs)) ys
 in_longer x [] xs h = tt
 in_longer x (y ∷ ys) xs h = (λ p e. or_right (p x) (list_any p xs) (h.0 p e), in_longer x ys xs h.1)
 
-each_in : {X : Type 0} (xs : List X) → AllByRecursion (IsIn xs) xs
+pub each_in : {X : Type 0} (xs : List X) → AllByRecursion (IsIn xs) xs
 each_in [] = tt
 each_in (x ∷ xs) = (λ p e. or_left (p x) (list_any p xs) e, in_longer x xs xs (each_in xs))
 
-map-each : {X Y : Type 0} (f g : X → Y) (xs : List X) → AllByRecursion (λ (x : X). f x ≡ g x) xs → map f xs ≡ map g xs
+pub map-each : {X Y : Type 0} (f g : X → Y) (xs : List X) → AllByRecursion (λ (x : X). f x ≡ g x) xs → map f xs ≡ map g xs
 map-each f g [] h = refl
 map-each f g (x ∷ xs) h = λ i. h.0 i ∷ map-each f g xs h.1 i
 
@@ -113,7 +113,7 @@ same_at id m n l s e = record {
 }
 
 -- a test that a flight of the list passes
-some_flight : (m : State) (id : Text) (l : Listing) (test : Text → Stance → Bool) → list_of m id ≡ Some l → list_any (λ (e : Text × Stance). test e.0 e.1) l.flights ≡ true → has_flight m id test ≡ true
+pub some_flight : (m : State) (id : Text) (l : Listing) (test : Text → Stance → Bool) → list_of m id ≡ Some l → list_any (λ (e : Text × Stance). test e.0 e.1) l.flights ≡ true → has_flight m id test ≡ true
 some_flight m id l test e h = ap (λ (w : Option Listing). option_map_or (λ (l : Listing). list_any (λ (e : Text × Stance). test e.0 e.1) l.flights) w false) e ∙ h
 
 forced_row : (m n : State) (id : Text) (l : Listing) → Same m n id l → (key : Text) (eto : ℕ) → IsIn l.flights (key, Forced eto) → row_of m key ≡ row_of n key
@@ -142,7 +142,7 @@ rows_same : (m n : State) (id : Text) (l : Listing) → Same m n id l → map (�
 rows_same m n id l s =
     map-each _ _ l.flights (all-each (IsIn l.flights) (λ (e : Text × Stance). listed m l e.0 e.1 ≡ listed n l e.0 e.1) (λ e is. listed_same m n id l s e.0 e.1 is) l.flights (each_in l.flights))
 
-answer_at : (m : State) (id : Text) (measure : Measure) (l : Listing) → measure_of m id ≡ Some measure → list_of m id ≡ Some l → list_answer m id ≡ ListAnswer (list_reply m (regulation id measure) l)
+pub answer_at : (m : State) (id : Text) (measure : Measure) (l : Listing) → measure_of m id ≡ Some measure → list_of m id ≡ Some l → list_answer m id ≡ ListAnswer (list_reply m (regulation id measure) l)
 answer_at m id measure l p e =
     let is : Some (listing m.rows id measure) ≡ Some l = sym (ap (option_map (listing m.rows id)) p) ∙ e in
     ap (λ (w : Option Measure). option_map_or (λ (y : Measure). ListAnswer (list_reply m (regulation id y) (listing m.rows id y))) w Done) p

@@ -1,3 +1,5 @@
 pub mod Items
 pub mod Footprint
 pub mod Stamps
+pub mod Change
+pub mod Finding

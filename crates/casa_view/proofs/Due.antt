@@ -1,10 +1,11 @@
--- the flights to issue are all found among the departures up to the first that is not due
-use Rattle.std.proofs.Common.{◌≡◌, ℕ, List, [], ◌∷◌, ◌≤◌, Bool, true, false, ◌||◌, ◌&&◌, ◌==◌, not, refl, sym, ap, ◌∙◌, Option, None, Some, is_some, subst, arith, if◌then◌else◌}
+-- the flights to issue are all found among the departures that are due
+use Rattle.std.proofs.Common.{◌≡◌, ℕ, List, [], ◌∷◌, map, ◌≤◌, Bool, cond, true, false, ◌||◌, ◌&&◌, ◌==◌, not, refl}
+use Rattle.std.proofs.Common.{sym, ap, ◌∙◌, Option, None, Some, is_some, subst, arith, if◌then◌else◌}
 use Rattle.std.specs.declared.cmp.Ordering.TheVariants.{Less, Equal, Greater}
 use Rattle.std.specs.Ordering.{is_eq, nat_cmp, ordering_then}
 use Rattle.std.specs.Option.{option_and_then, option_map, option_map_or}
 use Rattle.std.specs.BTreeMap.{is_at}
-use Rattle.std.specs.List.{cons_option}
+use Rattle.std.specs.List.{AllByRecursion, cons_option, filter}
 use Rattle.std.specs.List.Sorted.{IsStrictlySortedBy}
 use Rattle.std.specs.Map.{keys_of}
 use Rattle.casa_time.specs.Due as due
@@ -16,9 +17,11 @@ use Rattle.casa_flight.proofs.Entries.{text_cmp, same_name, itself, named}
 use Rattle.casa_view.specs.declared.flights.Departure.{Departure}
 use Rattle.casa_view.specs.contracts.flights.DepartureOrd.TheImpl.{ghosts as departures}
 use Rattle.casa_view.specs.Laid.{where_put}
-use Rattle.casa_view.specs.Waiting.{due_keys, due_row, is_waiting, is_waiting_at, has_departure, departure, HaveWaiting, AreSorted, due_names}
-use Rattle.casa_view.proofs.Gathered.{named_in}
-use Rattle.casa_view.proofs.Sorted.{IsExact, found_above}
+use Rattle.casa_footprint.specs.Finding.{due_keys}
+use Rattle.casa_view.specs.Waiting.{due_row, is_waiting, is_waiting_at, has_departure, departure, HaveWaiting}
+use Rattle.casa_view.specs.Waiting.{due_names}
+use Rattle.casa_view.specs.Gathered.{is_named}
+use Rattle.casa_view.proofs.Exact.{IsExact}
 
 -- departures that compare Equal are the same
 pub exact : IsExact departures.cmp
@@ -36,9 +39,14 @@ exact d e h =
     same_number : (a b : ℕ) → nat_cmp a b ≡ Equal → a ≡ b
     same_number a b p = grind (arith, p)
 
--- an earlier departure has no later off-block time
-no_later : (d e : Departure) → departures.cmp d e ≡ Less → d.eobt ≤ e.eobt
-no_later d e h =
+-- the keys of the departures up to the first that is not due
+abbrev pub first_due : ℕ → List Departure → List Text
+first_due at [] = []
+first_due at (d ∷ ds) = if due.is_due at d.eobt then d.key ∷ first_due at ds else []
+
+-- a later departure has no earlier off-block time, so none that follows is due
+no_earlier : (d e : Departure) → departures.cmp d e ≡ Less → d.eobt ≤ e.eobt
+no_earlier d e h =
     elim (nat_cmp d.eobt e.eobt) as (λ r. nat_cmp d.eobt e.eobt ≡ r → ordering_then r (text_cmp d.key e.key) ≡ Less
     → d.eobt ≤ e.eobt) [
       | Less ↦ λ p _. grind (arith, p)
@@ -46,36 +54,64 @@ no_later d e h =
       | Greater ↦ λ _ t. cc
     ] refl h
 
-due_before : (at : ℕ) (d e : Departure) → departures.cmp d e ≡ Less → due.is_due at e.eobt ≡ true
-    → due.is_due at d.eobt ≡ true
-due_before at d e less h =
-    let early : d.eobt ≤ e.eobt = no_later d e less in
-    grind (arith, early, h)
+nor_due : (at : ℕ) (d e : Departure) → departures.cmp d e ≡ Less → due.is_due at d.eobt ≡ false
+    → due.is_due at e.eobt ≡ false
+nor_due at d e less h =
+    let late : d.eobt ≤ e.eobt = no_earlier d e less in
+    grind (arith, late, h)
+
+none_due : (at : ℕ) (d : Departure) (ds : List Departure) → due.is_due at d.eobt ≡ false
+    → AllByRecursion (λ (e : Departure). departures.cmp d e ≡ Less) ds → [] ≡ due_names at ds
+none_due at d [] h above = refl
+none_due at d (e ∷ ds) h above =
+    none_due at d ds h above.1
+    ∙ ap (λ b. map (λ (x : Departure). x.key) (cond b (e ∷ filter (λ (x : Departure). due.is_due at x.eobt) ds)
+    (filter (λ (x : Departure). due.is_due at x.eobt) ds))) (sym (nor_due at d e above.0 h))
+
+-- departures in their order, each once
+abbrev pub AreSorted : List Departure → Type 0
+AreSorted ds = IsStrictlySortedBy departures.cmp ds
+
+-- departures in their order are due up to the first that is not
+pub first_are_all : (at : ℕ) (ds : List Departure) → AreSorted ds → first_due at ds ≡ due_names at ds
+unfolding IsStrictlySortedBy
+first_are_all at [] sorted = refl
+first_are_all at (d ∷ ds) sorted =
+    elim (due.is_due at d.eobt) as (λ b. due.is_due at d.eobt ≡ b → (if b then d.key ∷ first_due at ds else [])
+    ≡ map (λ (x : Departure). x.key) (cond b (d ∷ filter (λ (x : Departure). due.is_due at x.eobt) ds)
+    (filter (λ (x : Departure). due.is_due at x.eobt) ds))) [
+      | true ↦ λ _. ap (λ ks. d.key ∷ ks) (first_are_all at ds sorted.1)
+      | false ↦ λ t. none_due at d ds t sorted.0
+    ] refl
 
 or_true : (b : Bool) → (b || true) ≡ true
 or_true true = refl
 or_true false = refl
 
--- a departure that is due stands before the first that is not
-due_named : (at : ℕ) (e : Departure) (ds : List Departure) → AreSorted ds → has_departure ds e ≡ true
-    → due.is_due at e.eobt ≡ true
-    → named_in (due_names at ds) e.key ≡ true
-unfolding IsStrictlySortedBy
-due_named at e [] sorted h is_due = cc
-due_named at e (d ∷ ds) sorted h is_due =
+-- a departure that is due is named
+due_named : (at : ℕ) (e : Departure) (ds : List Departure) → has_departure ds e ≡ true → due.is_due at e.eobt ≡ true
+    → is_named (due_names at ds) e.key ≡ true
+due_named at e [] h is_due = cc
+due_named at e (d ∷ ds) h is_due =
     elim (is_eq (departures.cmp e d)) as (λ b. is_eq (departures.cmp e d) ≡ b → (b || has_departure ds e) ≡ true
-    → named_in (due_names at (d ∷ ds)) e.key ≡ true) [
+    → is_named (due_names at (d ∷ ds)) e.key ≡ true) [
       | true ↦ λ t _.
           let same : e ≡ d = exact e d t in
-          let first : due.is_due at d.eobt ≡ true = subst (λ (x : Departure). due.is_due at x.eobt ≡ true) same is_due in
-          ap (λ b. named_in (if b then d.key ∷ due_names at ds else []) e.key) first
-          ∙ ap (λ b. b || named_in (due_names at ds) e.key) (subst (λ (x : Departure). is_eq (text_cmp e.key x.key) ≡ true) same (itself e.key))
-      | false ↦ λ _ g.
-          let first : due.is_due at d.eobt ≡ true = due_before at d e (found_above departures.cmp exact d e ds sorted.0 g) is_due in
-          ap (λ b. named_in (if b then d.key ∷ due_names at ds else []) e.key) first
-          ∙ ap (λ b. is_eq (text_cmp e.key d.key) || b) (due_named at e ds sorted.1 g is_due)
-          ∙ or_true (is_eq (text_cmp e.key d.key))
+          let first : due.is_due at d.eobt ≡ true =
+          subst (λ (x : Departure). due.is_due at x.eobt ≡ true) same is_due in
+          ap (λ b. is_named (names b) e.key) first
+          ∙ ap (λ b. b || is_named (due_names at ds) e.key)
+          (subst (λ (x : Departure). is_eq (text_cmp e.key x.key) ≡ true) same (itself e.key))
+      | false ↦ λ _ g. later (due.is_due at d.eobt) (due_named at e ds g is_due)
     ] refl h
+  where
+    names : Bool → List Text
+    names b = map (λ (x : Departure). x.key) (cond b (d ∷ filter (λ (x : Departure). due.is_due at x.eobt) ds)
+        (filter (λ (x : Departure). due.is_due at x.eobt) ds))
+
+    later : (b : Bool) → is_named (due_names at ds) e.key ≡ true → is_named (names b) e.key ≡ true
+    later true k = ap (λ b. is_eq (text_cmp e.key d.key) || b) k ∙ or_true (is_eq (text_cmp e.key d.key))
+    later false k = k
 
 -- a flight that is to be issued waits and is due
 record IsDueRow (at : ℕ) (row : Row) : Type 0 where
@@ -94,21 +130,22 @@ due_row_is at row t h =
     by true false false p q r e = cc
     by true false true p q r e = record { waits = rw (p, q) refl; is_due = r }
 
-pub row_due : (at : ℕ) (row_at : Text → Option Row) (ds : List Departure) → AreSorted ds → HaveWaiting row_at ds
-    → (q : Text) (t : ℕ) → option_and_then (due_row at) (row_at q) ≡ Some t → named_in (due_names at ds) q ≡ true
-row_due at row_at ds sorted have q t h = by (row_at q) refl h
+pub row_due : (at : ℕ) (row_at : Text → Option Row) (ds : List Departure) → HaveWaiting row_at ds
+    → (q : Text) (t : ℕ) → option_and_then (due_row at) (row_at q) ≡ Some t → is_named (due_names at ds) q ≡ true
+row_due at row_at ds have q t h = by (row_at q) refl h
   where
-    by : (o : Option Row) → row_at q ≡ o → option_and_then (due_row at) o ≡ Some t → named_in (due_names at ds) q ≡ true
+    by : (o : Option Row) → row_at q ≡ o → option_and_then (due_row at) o ≡ Some t → is_named (due_names at ds) q ≡ true
     by None found h = cc
     by (Some row) found h =
         let is_row : IsDueRow at row = due_row_is at row t h in
-        due_named at (departure q row) ds sorted (have q row found is_row.waits) is_row.is_due
+        due_named at (departure q row) ds (have q row found is_row.waits) is_row.is_due
 
 pub keys_due : (at : ℕ) (rows : List (Text × Row)) → keys_of (kept (due_row at) rows) ≡ due_keys at rows
 keys_due at [] = refl
 keys_due at (e ∷ es) =
     elim (is_to_issue at e.1) as (λ b.
-    keys_of (cons_option (option_map (λ (t : ℕ). (e.0, t)) (if b then Some e.1.plan.eobt else None)) (kept (due_row at) es)) ≡ cons_option (if b then Some e.0 else None) (due_keys at es)) [
+    keys_of (cons_option (option_map (λ (t : ℕ). (e.0, t)) (if b then Some e.1.plan.eobt else None))
+    (kept (due_row at) es)) ≡ cons_option (if b then Some e.0 else None) (due_keys at es)) [
       | true ↦ ap (λ ks. e.0 ∷ ks) (keys_due at es)
       | false ↦ keys_due at es
     ]
@@ -152,7 +189,8 @@ added_departure key row at ds es more new have q x found waits = by (same_text k
     by true t f =
         let value : row ≡ x = cc in
         subst (λ (k : Text). has_departure es (departure k x) ≡ true) (named key q t)
-        (subst (λ (r : Row). has_departure es (departure key r) ≡ true) value (new (subst (λ (r : Row). is_waiting r ≡ true) (sym value) waits)))
+        (subst (λ (r : Row). has_departure es (departure key r) ≡ true) value
+        (new (subst (λ (r : Row). is_waiting r ≡ true) (sym value) waits)))
 
 pub more_departures : (at : Text → Option Row) (ds es : List Departure)
     → ((d : Departure) → has_departure ds d ≡ true → has_departure es d ≡ true) → HaveWaiting at ds → HaveWaiting at es

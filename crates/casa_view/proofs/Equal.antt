@@ -26,7 +26,8 @@ regulation_same a b h =
     let end_is : a.end ≡ b.end = eqb-true _ _ r.1 in
     λ i. record { id = id_is i; loc = loc_is i; start = start_is i; end = end_is i }
 
-option_same : {X : Type 0} (E : X → X → Bool) → ((x y : X) → E x y ≡ true → x ≡ y) → (a b : Option X) → option_eq E a b ≡ true → a ≡ b
+option_same : {X : Type 0} (E : X → X → Bool) → ((x y : X) → E x y ≡ true → x ≡ y) → (a b : Option X)
+    → option_eq E a b ≡ true → a ≡ b
 option_same E same None None h = refl
 option_same E same (Some a) (Some b) h = ap Some (same a b h)
 option_same E same None (Some b) h = cc

@@ -1,84 +1,124 @@
--- what is noted of some names is all that is kept, if no name that gives something is left out
-use Rattle.std.proofs.Common.{◌≡◌, List, [], ◌∷◌, ◌++◌, Bool, true, false, ◌||◌, cond, refl, sym, ap, ◌∙◌, Option, None, Some}
+-- what is gathered of some names is all that is kept, if no name that gives something is left out
+use Rattle.std.proofs.Common.{◌≡◌, List, [], ◌∷◌, ◌++◌, Bool, true, false, ◌||◌, cond, refl, sym, ap, ◌∙◌, Option, None}
+use Rattle.std.proofs.Common.{Some, subst, if◌then◌else◌}
 use Rattle.std.specs.Ordering.{is_eq}
-use Rattle.std.specs.Option.{option_and_then}
-use Rattle.std.specs.List.{list_any}
+use Rattle.std.specs.Option.{option_and_then, option_or}
 use Rattle.std.specs.List.Sorted.{IsStrictlySortedBy}
+use Rattle.std.proofs.lemmas.List.Folds.{list_any-append}
 use Rattle.casa_flight.specs.Text.{Text, at_name}
 use Rattle.casa_flight.specs.Good.{AreInOrder}
 use Rattle.casa_flight.specs.Listing.{kept}
 use Rattle.casa_flight.proofs.Entries.{text_cmp, same_name, at-put, sorted-put}
-use Rattle.casa_flight.proofs.Planned.{sorted-kept}
-use Rattle.casa_flight.proofs.Kept.{at-kept, same_entries}
-use Rattle.casa_view.specs.Gathered.{noted, gathered}
+use Rattle.casa_flight.proofs.Kept.{at-kept, same_entries, sorted-kept}
+use Rattle.casa_view.specs.Gathered.{noted, is_named, HasGathered}
 
--- what is gathered under names, and then under others
-pub gathered-append : {X Y : Type 0} (f : X → Option Y) (es : List (Text × X)) (ks ls : List Text) (found : List (Text × Y))
-    → gathered f es found (ks ++ ls) ≡ gathered f es (gathered f es found ks) ls
-gathered-append f es [] ls found = refl
-gathered-append f es (k ∷ ks) ls found = gathered-append f es ks ls (noted found k (option_and_then f (at_name es k)))
+-- what f gives of the values under these names, noted one by one
+abbrev pub gathered : {X Y : Type 0} → (X → Option Y) → List (Text × X) → List (Text × Y) → List Text → List (Text × Y)
+gathered f es found [] = found
+gathered f es found (k ∷ ks) = gathered f es (noted found k (option_and_then f (at_name es k))) ks
 
--- the name is one of these
-abbrev pub named_in : List Text → Text → Bool
-named_in ks q = list_any (λ (k : Text). is_eq (text_cmp q k)) ks
-
-pub at-noted : {Y : Type 0} (found : List (Text × Y)) (k : Text) (o w : Option Y) (q : Text) (b : Bool)
-    → at_name found q ≡ cond b w None → (q ≡ k → o ≡ w) → at_name (noted found k o) q ≡ cond (b || is_eq (text_cmp q k)) w None
-at-noted {Y} found k o w q b before same =
-    elim (is_eq (text_cmp q k)) as (λ t. is_eq (text_cmp q k) ≡ t → at_name (noted found k o) q ≡ cond (b || t) w None) [
-      | true ↦ λ t. here o (same (same_name q k t)) t b before
-      | false ↦ λ t. there o t b before
-    ] refl
+pub at-noted : {Y : Type 0} (found : List (Text × Y)) (k : Text) (o : Option Y) (q : Text)
+    → at_name (noted found k o) q ≡ option_or (if is_eq (text_cmp q k) then o else None) (at_name found q)
+at-noted {Y} found k None q = by (is_eq (text_cmp q k))
   where
-    here : (o : Option Y) → o ≡ w → is_eq (text_cmp q k) ≡ true → (b : Bool) → at_name found q ≡ cond b w None → at_name (noted found k o) q ≡ cond (b || true) w None
-    here None e t true h = h
-    here None e t false h = h ∙ e
-    here (Some y) e t true h = at-put q k y found ∙ ap (λ c. cond c (Some y) (at_name found q)) t ∙ e
-    here (Some y) e t false h = at-put q k y found ∙ ap (λ c. cond c (Some y) (at_name found q)) t ∙ e
+    by : (b : Bool) → at_name found q ≡ option_or (if b then None else None) (at_name found q)
+    by true = refl
+    by false = refl
+at-noted {Y} found k (Some y) q = at-put q k y found ∙ by (is_eq (text_cmp q k))
+  where
+    by : (b : Bool) → cond b (Some y) (at_name found q) ≡ option_or (if b then Some y else None) (at_name found q)
+    by true = refl
+    by false = refl
 
-    there : (o : Option Y) → is_eq (text_cmp q k) ≡ false → (b : Bool) → at_name found q ≡ cond b w None → at_name (noted found k o) q ≡ cond (b || false) w None
-    there None t true h = h
-    there None t false h = h
-    there (Some y) t true h = at-put q k y found ∙ ap (λ c. cond c (Some y) (at_name found q)) t ∙ h
-    there (Some y) t false h = at-put q k y found ∙ ap (λ c. cond c (Some y) (at_name found q)) t ∙ h
+-- the same is found under a name twice, or once
+twice : {Y : Type 0} (a b : Bool) (o w : Option Y)
+    → option_or (if a then o else None) (option_or (if b then o else None) w) ≡ option_or (if b || a then o else None) w
+twice true true None w = refl
+twice true true (Some y) w = refl
+twice true false o w = refl
+twice false true o w = refl
+twice false false o w = refl
 
-or_assoc : (a b c : Bool) → ((a || b) || c) ≡ (a || (b || c))
-or_assoc true b c = refl
-or_assoc false b c = refl
+at-gathered : {X Y : Type 0} (f : X → Option Y) (es : List (Text × X)) (q : Text) (ks : List Text)
+    (found : List (Text × Y))
+    → at_name (gathered f es found ks) q
+    ≡ option_or (if is_named ks q then option_and_then f (at_name es q) else None) (at_name found q)
+at-gathered f es q [] found = refl
+at-gathered {X} {Y} f es q (k ∷ ks) found =
+    at-gathered f es q ks (noted found k (option_and_then f (at_name es k)))
+    ∙ ap (option_or (if is_named ks q then given else None))
+    (at-noted found k (option_and_then f (at_name es k)) q ∙ same (is_eq (text_cmp q k)) refl)
+    ∙ twice (is_named ks q) (is_eq (text_cmp q k)) given (at_name found q)
+  where
+    given : Option Y
+    given = option_and_then f (at_name es q)
 
-or_false : (b : Bool) → (b || false) ≡ b
-or_false true = refl
-or_false false = refl
+    same : (b : Bool) → is_eq (text_cmp q k) ≡ b
+        → option_or (if b then option_and_then f (at_name es k) else None) (at_name found q)
+        ≡ option_or (if b then given else None) (at_name found q)
+    same true t =
+        ap (λ (p : Text). option_or (option_and_then f (at_name es p)) (at_name found q)) (sym (same_name q k t))
+    same false t = refl
 
-pub at-gathered : {X Y : Type 0} (f : X → Option Y) (es : List (Text × X)) (q : Text) (ks : List Text) (found : List (Text × Y)) (b : Bool)
-    → at_name found q ≡ cond b (option_and_then f (at_name es q)) None
-    → at_name (gathered f es found ks) q ≡ cond (b || named_in ks q) (option_and_then f (at_name es q)) None
-at-gathered {X} {Y} f es q [] found b h = h ∙ ap (λ c. cond c (option_and_then f (at_name es q)) None) (sym (or_false b))
-at-gathered {X} {Y} f es q (k ∷ ks) found b h =
-    let one = at-noted found k (option_and_then f (at_name es k)) (option_and_then f (at_name es q)) q b h (λ e. ap (λ (p : Text). option_and_then f (at_name es p)) (sym e)) in
-    at-gathered f es q ks (noted found k (option_and_then f (at_name es k))) (b || is_eq (text_cmp q k)) one
-    ∙ ap (λ c. cond c (option_and_then f (at_name es q)) None) (or_assoc b (is_eq (text_cmp q k)) (named_in ks q))
-
-pub sorted-noted : {Y : Type 0} (found : List (Text × Y)) (k : Text) (o : Option Y) → AreInOrder found → AreInOrder (noted found k o)
+pub sorted-noted : {Y : Type 0} (found : List (Text × Y)) (k : Text) (o : Option Y) → AreInOrder found
+    → AreInOrder (noted found k o)
 sorted-noted found k None h = h
 sorted-noted found k (Some y) h = sorted-put k y found h
 
-pub sorted-gathered : {X Y : Type 0} (f : X → Option Y) (es : List (Text × X)) (ks : List Text) (found : List (Text × Y)) → AreInOrder found → AreInOrder (gathered f es found ks)
+sorted-gathered : {X Y : Type 0} (f : X → Option Y) (es : List (Text × X)) (ks : List Text) (found : List (Text × Y))
+    → AreInOrder found → AreInOrder (gathered f es found ks)
 sorted-gathered f es [] found h = h
-sorted-gathered f es (k ∷ ks) found h = sorted-gathered f es ks (noted found k (option_and_then f (at_name es k))) (sorted-noted found k (option_and_then f (at_name es k)) h)
+sorted-gathered f es (k ∷ ks) found h =
+    sorted-gathered f es ks (noted found k (option_and_then f (at_name es k)))
+    (sorted-noted found k (option_and_then f (at_name es k)) h)
 
-all_or_none : {Y : Type 0} (o : Option Y) (b : Bool) → ((y : Y) → o ≡ Some y → b ≡ true) → cond b o None ≡ o
+-- what is noted one by one is gathered
+pub has_gathered : {X Y : Type 0} (f : X → Option Y) (es : List (Text × X)) (ks : List Text)
+    (before now : List (Text × Y))
+    → now ≡ gathered f es before ks → HasGathered f es ks before now
+has_gathered f es ks before now is = record {
+  in_order = λ h. subst AreInOrder (sym is) (sorted-gathered f es ks before h);
+  found = λ q. ap (λ fs. at_name fs q) is ∙ at-gathered f es q ks before;
+}
+
+pub all_noted : {X Y : Type 0} (f : X → Option Y) (es : List (Text × X)) (rest ks : List Text)
+    (before now : List (Text × Y))
+    → rest ≡ [] → gathered f es now rest ≡ gathered f es before ks → HasGathered f es ks before now
+all_noted f es rest ks before now none same = has_gathered f es ks before now (ap (gathered f es now) (sym none) ∙ same)
+
+pub none_gathered : {X Y : Type 0} (f : X → Option Y) (es : List (Text × X)) (now : List (Text × Y))
+    → HasGathered f es [] now now
+none_gathered f es now = has_gathered f es [] now now refl
+
+-- what is gathered under names, and then under others
+pub gathered_both : {X Y : Type 0} (f : X → Option Y) (es : List (Text × X)) (ks ls : List Text)
+    (a b c : List (Text × Y))
+    → HasGathered f es ks a b → HasGathered f es ls b c → HasGathered f es (ks ++ ls) a c
+gathered_both f es ks ls a b c first second = record {
+  in_order = λ h. second.in_order (first.in_order h);
+  found = λ q.
+      let given = option_and_then f (at_name es q) in
+      second.found q ∙ ap (option_or (if is_named ls q then given else None)) (first.found q)
+      ∙ twice (is_named ls q) (is_named ks q) given (at_name a q)
+      ∙ ap (λ t. option_or (if t then given else None) (at_name a q))
+      (sym (list_any-append (λ (k : Text). is_eq (text_cmp q k)) ks ls));
+}
+
+-- no name that gives something is left out
+abbrev pub AreFound : {X Y : Type 0} → (X → Option Y) → List (Text × X) → List Text → Type 0
+AreFound {X} {Y} f es ks = (q : Text) (y : Y) → option_and_then f (at_name es q) ≡ Some y → is_named ks q ≡ true
+
+all_or_none : {Y : Type 0} (o : Option Y) (b : Bool) → ((y : Y) → o ≡ Some y → b ≡ true)
+    → option_or (if b then o else None) None ≡ o
 all_or_none None true h = refl
 all_or_none None false h = refl
 all_or_none (Some y) true h = refl
 all_or_none {Y} (Some y) false h = let no : false ≡ true = h y refl in cc
 
--- no name that gives something is left out
-abbrev pub AreFound : {X Y : Type 0} → (X → Option Y) → List (Text × X) → List Text → Type 0
-AreFound {X} {Y} f es ks = (q : Text) (y : Y) → option_and_then f (at_name es q) ≡ Some y → named_in ks q ≡ true
-
-pub gathered_is : {X Y : Type 0} (f : X → Option Y) (es : List (Text × X)) (ks : List Text) → AreInOrder es → AreFound f es ks → gathered f es [] ks ≡ kept f es
+pub gathered_is : {X Y : Type 0} (f : X → Option Y) (es : List (Text × X)) (ks : List Text) (now : List (Text × Y))
+    → AreInOrder es → AreFound f es ks → HasGathered f es ks [] now → now ≡ kept f es
 unfolding IsStrictlySortedBy
-gathered_is {X} {Y} f es ks sorted found =
-    same_entries (gathered f es [] ks) (kept f es) (sorted-gathered f es ks [] tt) (sorted-kept f es sorted)
-    (λ q. at-gathered f es q ks [] false refl ∙ all_or_none (option_and_then f (at_name es q)) (named_in ks q) (found q) ∙ sym (at-kept f q es sorted))
+gathered_is {X} {Y} f es ks now sorted found has =
+    same_entries now (kept f es) (has.in_order tt) (sorted-kept f es sorted)
+    (λ q. has.found q ∙ all_or_none (option_and_then f (at_name es q)) (is_named ks q) (found q)
+    ∙ sym (at-kept f q es sorted))

@@ -9,13 +9,14 @@ pub mod Viewed
 pub mod Said
 pub mod Opening
 pub mod Gathered
+pub mod InTurn
 pub mod Crossed
 pub mod Listed
 pub mod Reading
 pub mod Noted
 pub mod Taken
 pub mod WhatIsRead
-pub mod Sorted
+pub mod Exact
 pub mod Due
 pub mod Over
 pub mod NotedFlights

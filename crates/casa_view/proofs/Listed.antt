@@ -1,5 +1,7 @@
 -- listed regulations with one more, without one, and a search among them
-use Rattle.std.proofs.Common.{◌≡◌, ℕ, zero, suc, arith, get_or, ◌⊎◌, inl, inr, ◌+◌, ◌≤◌, ◌<◌, List, [], ◌∷◌, ◌++◌, length, Bool, true, false, not, ◌||◌, ◌&&◌, cond, refl, sym, ap, subst, ◌∙◌, Option, None, Some, is_some}
+use Rattle.std.proofs.Common.{◌≡◌, ℕ, zero, suc, arith, get_or, ◌⊎◌, inl, inr, ◌+◌, ◌≤◌, ◌<◌, List, [], ◌∷◌, ◌++◌}
+use Rattle.std.proofs.Common.{length, Bool, true, false, not, ◌||◌, ◌&&◌, cond, refl, sym, ap, subst, ◌∙◌, Option, None}
+use Rattle.std.proofs.Common.{Some, is_some}
 use Rattle.std.specs.declared.cmp.Ordering.{Ordering}
 use Rattle.std.specs.declared.cmp.Ordering.TheVariants.{Less, Equal, Greater}
 use Rattle.std.specs.Ordering.{is_eq, is_lt, match_ordering, ordering_index, ordering_reverse}
@@ -16,7 +18,9 @@ use Rattle.casa_flight.specs.State.{subject}
 use Rattle.casa_flight.specs.Text.{Text, same_text, at_name, put, without}
 use Rattle.casa_flight.proofs.Entries.{text_cmp, same_name, after_all, other_way, sorted-put, sorted-remove}
 use Rattle.casa_flight.proofs.Kept.{Above}
-use Rattle.casa_view.specs.Crossed.{by_id, before, after, others, crossed, meets, AreListed}
+use Rattle.casa_footprint.specs.Finding.{crossed}
+use Rattle.casa_footprint.specs.Finding.{by_id}
+use Rattle.casa_view.specs.Crossed.{before, after, others, meets, AreListed}
 use Rattle.casa_view.proofs.Crossed.{all_open}
 use Rattle.casa_view.proofs.Layers.{same_test}
 

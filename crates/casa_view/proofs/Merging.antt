@@ -1,5 +1,6 @@
 -- changes over values, gone through in the order of the names
-use Rattle.std.proofs.Common.{◌≡◌, List, [], ◌∷◌, drop, is_some, true, refl, sym, ap, ◌∙◌, subst, Option, None, Some, Bor}
+use Rattle.std.proofs.Common.{◌≡◌, List, [], ◌∷◌, drop, is_some, true, refl, sym, ap, ◌∙◌, subst, Option, None, Some}
+use Rattle.std.proofs.Common.{Bor}
 use Rattle.std.specs.declared.cmp.Ordering.{Ordering}
 use Rattle.std.specs.declared.cmp.Ordering.TheVariants.{Less, Equal, Greater}
 use Rattle.std.specs.Ordering.{is_eq, match_ordering, ordering_reverse}
@@ -19,7 +20,8 @@ pub passed-in-order : {X : Type 0} (first : Option (Bor Text × Bor X)) (others 
     → is_some first ≡ true → rest ≡ others → AreInOrder (ahead (option_map deref_pair first) others) → AreInOrder rest
 unfolding IsStrictlySortedBy
 passed-in-order None others rest there same order = cc
-passed-in-order {X} (Some e) others rest there same order = subst (λ (es : List (Text × X)). AreInOrder es) (sym same) order.1
+passed-in-order {X} (Some e) others rest there same order =
+    subst (λ (es : List (Text × X)). AreInOrder es) (sym same) order.1
 
 pub none-in-order : IsStrictlySortedBy text_cmp []
 unfolding IsStrictlySortedBy
@@ -46,7 +48,8 @@ module _ {X : Type 0} (n o : Text) (v : X) (w : Option X) (vs : List (Text × X)
   before : text_cmp n o ≡ Less → AreInOrder ((o, w) ∷ ws)
       → overlaid ((o, w) ∷ ws) (present ((n, v) ∷ vs)) ≡ (n, Some v) ∷ overlaid ((o, w) ∷ ws) (present vs)
   unfolding IsStrictlySortedBy
-  before less order = overlaid-first n (Some v) ((o, w) ∷ ws) (present vs) (less, after_all n o less (keys_of ws) order.0)
+  before less order =
+      overlaid-first n (Some v) ((o, w) ∷ ws) (present vs) (less, after_all n o less (keys_of ws) order.0)
 
   tied-first : text_cmp n o ≡ Equal → AreInOrder ((o, w) ∷ ws)
       → overlaid ((o, w) ∷ ws) (present ((n, v) ∷ vs)) ≡ (n, w) ∷ overlaid ws (present vs)
@@ -55,7 +58,8 @@ module _ {X : Type 0} (n o : Text) (v : X) (w : Option X) (vs : List (Text × X)
       let back : text_cmp o n ≡ Equal = nat_list_cmp_total.antisymm o n ∙ ap ordering_reverse tied in
       ap (λ (r : Ordering). overlaid ws (match_ordering r
       ((o, w) ∷ present ((n, v) ∷ vs)) ((n, w) ∷ present vs) ((n, Some v) ∷ put (present vs) o w))) back
-      ∙ overlaid-first n w ws (present vs) (subst (λ (q : Text). Above q ws) (sym (same_name n o (ap is_eq tied))) order.0)
+      ∙ overlaid-first n w ws (present vs)
+      (subst (λ (q : Text). Above q ws) (sym (same_name n o (ap is_eq tied))) order.0)
 
   after : text_cmp n o ≡ Greater → AreInOrder ((o, w) ∷ ws)
       → overlaid ((o, w) ∷ ws) (present ((n, v) ∷ vs)) ≡ (o, w) ∷ overlaid ws (present ((n, v) ∷ vs))

@@ -1,5 +1,6 @@
 -- what is noted of entries
-use Rattle.std.proofs.Common.{◌≡◌, List, [], ◌∷◌, ◌++◌, map, Bool, true, false, cond, ◌||◌, is_some, refl, sym, ap, ◌∙◌, Option, None, Some}
+use Rattle.std.proofs.Common.{◌≡◌, List, [], ◌∷◌, ◌++◌, map, Bool, true, false, cond, ◌||◌, is_some, refl, sym, ap, ◌∙◌}
+use Rattle.std.proofs.Common.{Option, None, Some}
 use Rattle.std.proofs.Math.Bool.{or-false, or-true}
 use Rattle.std.specs.Prelude.{if◌then◌else◌}
 use Rattle.std.specs.List.{list_any}
@@ -49,7 +50,8 @@ some-push {X} {Y} f [] x q b =
 some-push {X} {Y} f (y ∷ xs) x q b = more (is_eq (text_cmp q (f y).0)) (some-push f xs x q b)
   where
     more : (t : Bool) →
-        (same_text (f x).0 q || (is_some (at_name (map f xs) q) || b)) ≡ (is_some (at_name (map f (xs ++ x ∷ [])) q) || b) →
+        (same_text (f x).0 q || (is_some (at_name (map f xs) q) || b))
+        ≡ (is_some (at_name (map f (xs ++ x ∷ [])) q) || b) →
         (same_text (f x).0 q || (is_some (cond t (Some (f y).1) (at_name (map f xs) q)) || b))
         ≡ (is_some (cond t (Some (f y).1) (at_name (map f (xs ++ x ∷ [])) q)) || b)
     more true h = or-true (same_text (f x).0 q)

@@ -7,12 +7,13 @@ use Rattle.casa_view.specs.Versions.{Versions, measures, moment_of, regulations_
 use Rattle.casa_view.specs.Standing.{standing, opening}
 
 module _ {V : Type 0} (item_of : V → Item) (number : V → ℕ) (vs : Versions V) (clock_is : item_of vs.clock ≡ Clock 0)
-    (catalogue_is : item_of vs.catalogue ≡ Catalogue []) (clock_number : number vs.clock ≡ 0) (catalogue_number : number vs.catalogue ≡ 0)
+    (catalogue_is : item_of vs.catalogue ≡ Catalogue []) (clock_number : number vs.clock ≡ 0)
+    (catalogue_number : number vs.catalogue ≡ 0)
     (rows : vs.rows ≡ []) (lists : vs.lists ≡ []) where
   abbrev bare : Versions V
   bare = record { clock = vs.clock; catalogue = vs.catalogue; rows = []; lists = [] }
 
-  no_stamp : (i : ItemName) → stamp_at item_of number bare i ≡ 0
+  no_stamp : (i : ItemName) → stamp_at number bare i ≡ 0
   no_stamp the_clock = clock_number
   no_stamp the_catalogue = catalogue_number
   no_stamp (a_row key) = refl
@@ -26,8 +27,10 @@ module _ {V : Type 0} (item_of : V → Item) (number : V → ℕ) (vs : Versions
     stamp = λ i. no_stamp i j;
   }
     where
-      regs : (shown_state item_of number bare).regs ≡ []
-      regs = ap (λ (item : Item). measures (regulations_of item) (list_at item_of number bare)) catalogue_is
+      regs : (shown_state item_of bare).regs ≡ []
+      regs = ap (λ (item : Item). measures (regulations_of item) (list_at item_of bare)) catalogue_is
 
   pub opened : standing item_of number vs ≡ opening
-  opened = (λ j. standing item_of number (record { clock = vs.clock; catalogue = vs.catalogue; rows = rows j; lists = lists j })) ∙ bare_opens
+  opened =
+      (λ j. standing item_of number
+      (record { clock = vs.clock; catalogue = vs.catalogue; rows = rows j; lists = lists j })) ∙ bare_opens

@@ -1,5 +1,6 @@
 -- the flights that are subject to a regulation are all found among those that pass its location in its span
-use Rattle.std.proofs.Common.{◌≡◌, ℕ, ◌≤◌, ◌<◌, nat_le, nat_lt, List, [], ◌∷◌, Bool, true, false, ◌||◌, ◌&&◌, not, cond, refl, sym, ap, ◌∙◌, Option, None, Some, subst, arith, if◌then◌else◌}
+use Rattle.std.proofs.Common.{◌≡◌, ℕ, ◌≤◌, ◌<◌, nat_le, nat_lt, List, [], ◌∷◌, Bool, true, false, ◌||◌, ◌&&◌, not, cond}
+use Rattle.std.proofs.Common.{refl, sym, ap, ◌∙◌, Option, None, Some, subst, arith, if◌then◌else◌}
 use Rattle.std.specs.declared.cmp.Ordering.{Ordering}
 use Rattle.std.specs.declared.cmp.Ordering.TheVariants.{Less, Equal, Greater}
 use Rattle.std.specs.declared.ops.Bound.TheVariants.{Included, Excluded}
@@ -20,9 +21,10 @@ use Rattle.casa_flight.proofs.Entries.{text_cmp, same_name, itself, named}
 use Rattle.casa_view.specs.declared.flights.Passing.{Passing}
 use Rattle.casa_view.specs.contracts.flights.PassingOrd.TheImpl.{ghosts as passings}
 use Rattle.casa_view.specs.Laid.{where_put}
-use Rattle.casa_view.specs.Passing.{over_row, has_passing, passing, HaveVia, HavePassings, at_start, at_end, in_span, names}
-use Rattle.casa_view.proofs.Gathered.{named_in}
-use Rattle.casa_view.proofs.Sorted.{IsExact}
+use Rattle.casa_view.specs.Passing.{over_row, has_passing, passing, HaveVia, HavePassings, at_start, at_end, in_span}
+use Rattle.casa_view.specs.Passing.{names}
+use Rattle.casa_view.specs.Gathered.{is_named}
+use Rattle.casa_view.proofs.Exact.{IsExact}
 
 -- passings that compare Equal are the same
 pub exact : IsExact passings.cmp
@@ -81,7 +83,8 @@ there r c h =
     by false b d p q s g = cc
     by true false d p q s g = cc
     by true true false p q s g = cc
-    by true true true p q s g = record { loc_is = named c.loc r.loc p; from = le r.start c.eto q; before = lt c.eto r.end s }
+    by true true true p q s g =
+        record { loc_is = named c.loc r.loc p; from = le r.start c.eto q; before = lt c.eto r.end s }
 
 in_range : (r : Regulation) (t : ℕ) (key : Text) (c : Crossing) → r.end ≤ t → crosses r c ≡ true
     → range_contains passings.cmp (Included (at_start r)) (Excluded (at_end r t)) (passing key c) ≡ true
@@ -113,48 +116,53 @@ or_true false = refl
 -- a passing in a range is among those of the range
 range_named : (test : Passing → Bool) (key : Text) (e : Passing) (ps : List Passing) → e.key ≡ Some key
     → test e ≡ true → has_passing ps e ≡ true
-    → named_in (names (filter test ps)) key ≡ true
+    → is_named (names (filter test ps)) key ≡ true
 range_named test key e [] whose passes h = cc
 range_named test key e (p ∷ ps) whose passes h =
     elim (is_eq (passings.cmp e p)) as (λ b. is_eq (passings.cmp e p) ≡ b → (b || has_passing ps e) ≡ true
-    → named_in (names (filter test (p ∷ ps))) key ≡ true) [
+    → is_named (names (filter test (p ∷ ps))) key ≡ true) [
       | true ↦ λ t _.
           let same : e ≡ p = exact e p t in
-          ap (λ b. named_in (names (cond b (p ∷ filter test ps) (filter test ps))) key) (subst (λ (x : Passing). test x ≡ true) same passes)
-          ∙ ap (λ (w : Option Text). named_in (cons_option w (names (filter test ps))) key) (ap (λ (x : Passing). x.key) (sym same) ∙ whose)
-          ∙ ap (λ b. b || named_in (names (filter test ps)) key) (itself key)
+          ap (λ b. is_named (names (cond b (p ∷ filter test ps) (filter test ps))) key)
+          (subst (λ (x : Passing). test x ≡ true) same passes)
+          ∙ ap (λ (w : Option Text). is_named (cons_option w (names (filter test ps))) key)
+          (ap (λ (x : Passing). x.key) (sym same) ∙ whose)
+          ∙ ap (λ b. b || is_named (names (filter test ps)) key) (itself key)
       | false ↦ λ _ g. later (test p) (range_named test key e ps whose passes g)
     ] refl h
   where
-    behind : (w : Option Text) → named_in (names (filter test ps)) key ≡ true
-        → named_in (cons_option w (names (filter test ps))) key ≡ true
+    behind : (w : Option Text) → is_named (names (filter test ps)) key ≡ true
+        → is_named (cons_option w (names (filter test ps))) key ≡ true
     behind None k = k
     behind (Some q) k = ap (λ b. is_eq (text_cmp key q) || b) k ∙ or_true (is_eq (text_cmp key q))
 
-    later : (b : Bool) → named_in (names (filter test ps)) key ≡ true
-        → named_in (names (cond b (p ∷ filter test ps) (filter test ps))) key ≡ true
+    later : (b : Bool) → is_named (names (filter test ps)) key ≡ true
+        → is_named (names (cond b (p ∷ filter test ps) (filter test ps))) key ≡ true
     later true k = behind p.key k
     later false k = k
 
 via_named : (r : Regulation) (t : ℕ) (key : Text) (ps : List Passing) → r.end ≤ t → (via : List Crossing) (eto : ℕ)
     → HaveVia ps key via
-    → option_map (λ (c : Crossing). c.eto) (find (crosses r) via) ≡ Some eto → named_in (names (in_span r t ps)) key ≡ true
+    → option_map (λ (c : Crossing). c.eto) (find (crosses r) via) ≡ Some eto
+    → is_named (names (in_span r t ps)) key ≡ true
 via_named r t key ps late [] eto have h = cc
 via_named r t key ps late (c ∷ via) eto have h =
     elim (crosses r c) as (λ b. crosses r c ≡ b
-    → option_map (λ (c : Crossing). c.eto) (cond b (Some c) (find (crosses r) via)) ≡ Some eto → named_in (names (in_span r t ps)) key ≡ true) [
+    → option_map (λ (c : Crossing). c.eto) (cond b (Some c) (find (crosses r) via)) ≡ Some eto
+    → is_named (names (in_span r t ps)) key ≡ true) [
       | true ↦ λ over _.
-          range_named (range_contains passings.cmp (Included (at_start r)) (Excluded (at_end r t))) key (passing key c) ps refl (in_range r t key c late over) have.0
+          range_named (range_contains passings.cmp (Included (at_start r)) (Excluded (at_end r t))) key
+          (passing key c) ps refl (in_range r t key c late over) have.0
       | false ↦ λ _ g. via_named r t key ps late via eto have.1 g
     ] refl h
 
 pub row_over : (r : Regulation) (t : ℕ) (row_at : Text → Option Row) (ps : List Passing) → r.end ≤ t
     → HavePassings row_at ps
-    → (q : Text) (y : ℕ) → option_and_then (over_row r) (row_at q) ≡ Some y → named_in (names (in_span r t ps)) q ≡ true
+    → (q : Text) (y : ℕ) → option_and_then (over_row r) (row_at q) ≡ Some y → is_named (names (in_span r t ps)) q ≡ true
 row_over r t row_at ps late have q y h = by (row_at q) refl h
   where
     by : (o : Option Row) → row_at q ≡ o → option_and_then (over_row r) o ≡ Some y
-        → named_in (names (in_span r t ps)) q ≡ true
+        → is_named (names (in_span r t ps)) q ≡ true
     by None found h = cc
     by (Some row) found h = via_named r t q ps late row.plan.via y (have q row found) h
 
@@ -178,7 +186,8 @@ added_passings key row at ps qs more new have q x found = by (same_text key q) r
     by false t f = have_more ps qs more q x.plan.via (have q x f)
     by true t f =
         let value : row ≡ x = cc in
-        subst (λ (k : Text). HaveVia qs k x.plan.via) (named key q t) (subst (λ (r : Row). HaveVia qs key r.plan.via) value new)
+        subst (λ (k : Text). HaveVia qs k x.plan.via) (named key q t)
+        (subst (λ (r : Row). HaveVia qs key r.plan.via) value new)
 
 -- a passing where the flight does not cross now may go
 pub idle_goes : (key : Text) (c : Crossing) (present : List Crossing) (ps qs : List Passing)
@@ -209,13 +218,18 @@ idle_goes key c present ps qs idle others other via same have =
     along [] none h = tt
     along (x ∷ xs) none h =
         let first : has_passing qs (passing other x) ≡ true =
-        elim (is_eq (passings.cmp (passing key c) (passing other x))) as (λ b. is_eq (passings.cmp (passing key c) (passing other x)) ≡ b → has_passing qs (passing other x) ≡ true) [
+        elim (is_eq (passings.cmp (passing key c) (passing other x))) as
+        (λ b. is_eq (passings.cmp (passing key c) (passing other x)) ≡ b → has_passing qs (passing other x)
+        ≡ true) [
           | true ↦ λ t.
               let is : passing key c ≡ passing other x = exact (passing key c) (passing other x) t in
               no_other x xs is (none (whose x is))
           | false ↦ λ t. others (passing other x) t ∙ h.0
-        ] refl in
-        (first, along xs (λ e. rest_of (crossing.eq x c) (list_any (λ (x : Crossing). crossing.eq x c) xs) (none e)) h.1)
+        ] refl in (
+          first,
+          along xs
+              (λ e. rest_of (crossing.eq x c) (list_any (λ (x : Crossing). crossing.eq x c) xs) (none e)) h.1,
+        )
 
 -- what a flight does not need now may go
 pub taken_passings : (key : Text) (now : List Crossing) (at : Text → Option Row) (ps qs : List Passing)

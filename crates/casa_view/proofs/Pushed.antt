@@ -11,7 +11,8 @@ use Rattle.casa_flight.proofs.Entries.{text_cmp}
 use Rattle.casa_view.specs.Next.{AreAlike}
 use Rattle.casa_view.proofs.Layers.{all-mid}
 
-pub alike_next : {X Y : Type 0} (Q : X → Y → Type 0) (es : List (Text × X)) (ws : List (Text × Y)) (k : Text) (x : X) (y : Y)
+pub alike_next : {X Y : Type 0} (Q : X → Y → Type 0) (es : List (Text × X)) (ws : List (Text × Y)) (k : Text) (x : X)
+    (y : Y)
     (rest : List (Text × X)) → AreInOrder (es ++ (k, x) ∷ rest) → Q x y → AreAlike Q es ws
     → AreAlike Q (es ++ (k, x) ∷ []) (put ws k y)
 unfolding IsStrictlySortedBy
@@ -22,7 +23,8 @@ alike_next {X} {Y} Q (e ∷ es) (w ∷ ws) k x y rest order q h =
     let before : text_cmp e.0 k ≡ Less = all-mid (λ t. text_cmp e.0 t ≡ Less) es k x rest order.0 in
     let later : text_cmp k w.0 ≡ Greater =
     ap (text_cmp k) h.0.0 ∙ nat_list_cmp_total.antisymm k e.0 ∙ ap ordering_reverse before in
-    subst (λ (r : Ordering). AreAlike Q ((e ∷ es) ++ (k, x) ∷ []) (match_ordering r ((k, y) ∷ w ∷ ws) ((w.0, y) ∷ ws) (w ∷ put ws k y)))
+    subst (λ (r : Ordering). AreAlike Q ((e ∷ es) ++ (k, x) ∷ [])
+    (match_ordering r ((k, y) ∷ w ∷ ws) ((w.0, y) ∷ ws) (w ∷ put ws k y)))
     (sym later) (h.0, alike_next Q es ws k x y rest order.1 q h.1)
 
 pub map-last : {X Y : Type 0} (f : X → Y) (xs : List X) (x : X) → map f (xs ++ x ∷ []) ≡ map f xs ++ f x ∷ []

@@ -13,15 +13,16 @@ use Rattle.casa_footprint.specs.Items.{Content, moment, regulations, row_or_none
 use Rattle.casa_view.specs.declared.item.Item.{Item}
 use Rattle.casa_view.specs.declared.item.Item.TheVariants.{Clock, Catalogue, Row as RowOf, List as ListOf}
 use Rattle.casa_view.specs.declared.view.View.{View}
-use Rattle.casa_view.specs.Versions.{Versions, shown_state, content_as, moment_of, regulations_of, row_of as row_of_item, list_of}
+use Rattle.casa_view.specs.Versions.{Versions, shown_state, content_as, moment_of, regulations_of}
+use Rattle.casa_view.specs.Versions.{row_of as row_of_item, list_of}
 use Rattle.casa_view.specs.View.{seen, shown}
 use Rattle.casa_view.specs.Shown.{catalogue_of, clock_shown, catalogue_shown, row_shown, list_shown}
 
 -- a row of the state that a board shows is that of the version under the key
-pub row-shown : {V : Type 0} (item_of : V → Item) (number : V → ℕ) (vs : Versions V) (key : Text) (found : Option V)
+pub row-shown : {V : Type 0} (item_of : V → Item) (vs : Versions V) (key : Text) (found : Option V)
     → AreInOrder vs.rows → found ≡ at_name vs.rows key
-    → option_and_then (λ (v : V). row_of_item (item_of v)) found ≡ row_of (shown_state item_of number vs) key
-row-shown {V} item_of number vs key found order is =
+    → option_and_then (λ (v : V). row_of_item (item_of v)) found ≡ row_of (shown_state item_of vs) key
+row-shown {V} item_of vs key found order is =
     ap (option_and_then (λ (v : V). row_of_item (item_of v))) is
     ∙ sym (at-kept (λ (v : V). row_of_item (item_of v)) key vs.rows order)
 
@@ -81,7 +82,8 @@ module _ {V : Type 0} (item_of : V → Item) (v : View V) where
       by (Some (Some m)) h =
           all-of (item_of m) ∙ ap (λ (c : Option Content). regulations_in (unwrap_or c (regulations all))) h
 
-  pub row-is : (key : Text) (row : Option Row) → shown item_of v (a_row key) ≡ Some (row_or_none row) → row_shown item_of v key ≡ row
+  pub row-is : (key : Text) (row : Option Row) → shown item_of v (a_row key) ≡ Some (row_or_none row)
+      → row_shown item_of v key ≡ row
   row-is key row h = by (seen v (a_row key)) h
     where
       by : (o : Option (Option V)) → option_map (content (a_row key)) o ≡ Some (row_or_none row)

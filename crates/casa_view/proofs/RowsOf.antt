@@ -25,7 +25,8 @@ keys-present : {X : Type 0} (es : List (Text × X)) → keys_of es ≡ keys_of (
 keys-present [] = refl
 keys-present (e ∷ es) = ap (λ (ks : List Text). e.0 ∷ ks) (keys-present es)
 
-kept-present : {X Y : Type 0} (f : X → Option Y) (es : List (Text × X)) → kept (option_and_then f) (present es) ≡ kept f es
+kept-present : {X Y : Type 0} (f : X → Option Y) (es : List (Text × X))
+    → kept (option_and_then f) (present es) ≡ kept f es
 kept-present f [] = refl
 kept-present {X} {Y} f (e ∷ es) =
     ap (λ (zs : List (Text × Y)). cons_option (option_map (λ (y : Y). (e.0, y)) (f e.1)) zs) (kept-present f es)
@@ -36,7 +37,8 @@ kept-with_value f k None es h = sym (kept-without f k es h)
 kept-with_value f k (Some x) es h = sym (kept-put f k x es h)
 
 kept-over : {X Y : Type 0} (f : X → Option Y) (ws us : List (Text × Option X)) (es : List (Text × X))
-    → AreInOrder us → AreInOrder es → kept (option_and_then f) us ≡ kept f es → kept (option_and_then f) (overlaid ws us) ≡ kept f (laid ws es)
+    → AreInOrder us → AreInOrder es → kept (option_and_then f) us ≡ kept f es
+    → kept (option_and_then f) (overlaid ws us) ≡ kept f (laid ws es)
 kept-over f [] us es a b h = h
 kept-over {X} {Y} f (w ∷ ws) us es a b h =
     kept-over f ws (put us w.0 w.1) (with_value es w.0 w.1) (sorted-put w.0 w.1 us a) (sorted-with_value w.0 w.1 es b)
@@ -48,10 +50,12 @@ kept-over {X} {Y} f (w ∷ ws) us es a b h =
 kept-overlaid : {X Y : Type 0} (f : X → Option Y) (ws : List (Text × Option X)) (es : List (Text × X)) → AreInOrder es
     → kept (option_and_then f) (overlaid ws (present es)) ≡ kept f (laid ws es)
 kept-overlaid f ws es h =
-    kept-over f ws (present es) es (subst (λ ks. IsStrictlySortedBy (slice_cmp nat_cmp) ks) (keys-present es) h) h (kept-present f es)
+    kept-over f ws (present es) es (subst (λ ks. IsStrictlySortedBy (slice_cmp nat_cmp) ks) (keys-present es) h) h
+    (kept-present f es)
 
 -- the rows of changes over versions are those of the versions after the changes
-pub rows-overlaid : {V : Type 0} (item_of : V → Item) (ws : List (Text × Option V)) (es : List (Text × V)) → AreInOrder es
+pub rows-overlaid : {V : Type 0} (item_of : V → Item) (ws : List (Text × Option V)) (es : List (Text × V))
+    → AreInOrder es
     → rows_named item_of (overlaid ws (present es)) ≡ rows_of item_of (laid ws es)
 rows-overlaid {V} item_of ws es h = kept-overlaid (λ (v : V). row_of (item_of v)) ws es h
 

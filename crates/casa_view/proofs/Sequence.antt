@@ -1,5 +1,6 @@
 -- flights put one by one into a set are in the order in which they are planned
-use Rattle.std.proofs.Common.{◌≡◌, ℕ, List, [], ◌∷◌, map, Bool, true, false, ◌||◌, ◌&&◌, ◌==◌, nat_lt, refl, sym, ap, ◌∙◌, Option, None, Some, arith}
+use Rattle.std.proofs.Common.{◌≡◌, ℕ, List, [], ◌∷◌, map, Bool, true, false, ◌||◌, ◌&&◌, ◌==◌, nat_lt, refl, sym, ap}
+use Rattle.std.proofs.Common.{◌∙◌, Option, None, Some, arith}
 use Rattle.std.specs.declared.cmp.Ordering.{Ordering}
 use Rattle.std.specs.declared.cmp.Ordering.TheVariants.{Less, Equal, Greater}
 use Rattle.std.specs.Ordering.{is_eq, is_lt, nat_cmp, ordering_then, ordering_reverse, match_ordering}
@@ -21,10 +22,15 @@ use Rattle.casa_flight.proofs.Entries.{text_cmp, same_name}
 use Rattle.casa_flight.proofs.Competitors.{less_apart, before_one_way}
 use Rattle.casa_flight.proofs.Rising.{put_later, put_first, all-put_by}
 use Rattle.std.specs.Map.{keys_of}
-use Rattle.casa_view.specs.Passing.{over_row, inserted}
+use Rattle.casa_view.specs.Passing.{over_row, comps}
 
 abbrev comp_of : Text × ℕ → Comp
 comp_of e = record { eto = e.1; key = e.0 }
+
+-- flights by time over and key, put one by one into a set
+abbrev pub inserted : List Comp → List (Text × ℕ) → List Comp
+inserted comps [] = comps
+inserted comps (e ∷ es) = inserted (insert_key sequence.cmp comps (comp_of e)) es
 
 abbrev HasOther : Text → Comp → Type 0
 HasOther key c = c.key ≡ key → ⊥
@@ -72,10 +78,13 @@ insert_put x [] other = refl
 insert_put x (y ∷ ys) other =
     elim (sequence.cmp x y) as (λ r. sequence.cmp x y ≡ r
     → match_ordering r (x ∷ y ∷ ys) (y ∷ ys) (y ∷ insert_key sequence.cmp ys x) ≡ put_by is_before x (y ∷ ys)) [
-      | Less ↦ λ t. sym (put_first is_before x y ys (before_one_way x y (less_before x y (nat_cmp x.eto y.eto) (text_cmp x.key y.key) refl refl t)))
+      | Less ↦ λ t. sym
+          (put_first is_before x y ys
+          (before_one_way x y (less_before x y (nat_cmp x.eto y.eto) (text_cmp x.key y.key) refl refl t)))
       | Equal ↦ λ t. absurd (not_tied x y (nat_cmp x.eto y.eto) (text_cmp x.key y.key) refl refl t other.0)
       | Greater ↦ λ t. ap (λ zs. y ∷ zs) (insert_put x ys other.1)
-          ∙ sym (put_later is_before x y ys (greater_before x y (nat_cmp x.eto y.eto) (text_cmp x.key y.key) refl refl t))
+          ∙ sym (put_later is_before x y ys
+          (greater_before x y (nat_cmp x.eto y.eto) (text_cmp x.key y.key) refl refl t))
     ] refl
 
 -- no flight of these has a key of those
@@ -86,8 +95,10 @@ still_other : (x : Text × ℕ) (comps : List Comp) (es : List (Text × ℕ))
     → AllByRecursion (λ y. text_cmp x.0 y ≡ Less) (keys_of es) → AreOther comps es
     → AreOther (put_by is_before (comp_of x) comps) es
 still_other x comps [] above h = tt
-still_other x comps (e ∷ es) above h =
-    (all-put_by (HasOther e.0) is_before (comp_of x) (less_apart x.0 e.0 above.0) comps h.0, still_other x comps es above.1 h.1)
+still_other x comps (e ∷ es) above h = (
+  all-put_by (HasOther e.0) is_before (comp_of x) (less_apart x.0 e.0 above.0) comps h.0,
+  still_other x comps es above.1 h.1,
+)
 
 inserted_is : (es : List (Text × ℕ)) (comps : List Comp) → AreInOrder es → AreOther comps es
     → inserted comps es ≡ fold (λ (ys : List Comp) (x : Comp). put_by is_before x ys) comps (map comp_of es)
@@ -102,18 +113,21 @@ none_there [] = tt
 none_there (e ∷ es) = (tt, none_there es)
 
 comps_are : (r : Regulation) (rows : List (Text × Row)) → map comp_of (kept (over_row r) rows)
-    ≡ filter_map (λ (e : Text × Row). option_map (λ (eto : ℕ). record { eto = eto; key = e.0 }) (subject e.1.plan r)) rows
+    ≡ filter_map
+    (λ (e : Text × Row). option_map (λ (eto : ℕ). record { eto = eto; key = e.0 }) (subject e.1.plan r)) rows
 comps_are r [] = refl
 comps_are r (e ∷ es) =
     both (subject e.1.plan r) e.0 (kept (over_row r) es) _ (comps_are r es)
   where
     both : (o : Option ℕ) (key : Text) (found : List (Text × ℕ)) (comps : List Comp) → map comp_of found ≡ comps
-        → map comp_of (cons_option (option_map (λ (t : ℕ). (key, t)) o) found) ≡ cons_option (option_map (λ (eto : ℕ). record { eto = eto; key = key }) o) comps
+        → map comp_of (cons_option (option_map (λ (t : ℕ). (key, t)) o) found)
+        ≡ cons_option (option_map (λ (eto : ℕ). record { eto = eto; key = key }) o) comps
     both None key found comps h = h
     both (Some t) key found comps h = ap (λ (cs : List Comp). record { eto = t; key = key } ∷ cs) h
 
-pub sequence_is : (r : Regulation) (rows : List (Text × Row)) → AreInOrder (kept (over_row r) rows)
-    → inserted [] (kept (over_row r) rows) ≡ flights_over (λ (row : Row). true) r rows
-sequence_is r rows sorted =
-    inserted_is (kept (over_row r) rows) [] sorted (none_there (kept (over_row r) rows))
-    ∙ ap (in_order is_before) (comps_are r rows)
+pub set_in_order : (es : List (Text × ℕ)) → AreInOrder es → inserted [] es ≡ in_order is_before (comps es)
+set_in_order es sorted = inserted_is es [] sorted (none_there es)
+
+pub sequence_is : (r : Regulation) (rows : List (Text × Row))
+    → in_order is_before (comps (kept (over_row r) rows)) ≡ flights_over (λ (row : Row). true) r rows
+sequence_is r rows = ap (in_order is_before) (comps_are r rows)

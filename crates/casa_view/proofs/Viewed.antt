@@ -14,7 +14,8 @@ use Rattle.casa_view.specs.Taking.{IsRead}
 use Rattle.casa_view.specs.Same.{same_version}
 use Rattle.casa_view.specs.Applied.{contains}
 
-shown_if : {A B : Type 0} (f : A → B) (x : A) (y : B) → f x ≡ y → (b : Bool) → option_map f (if b then Some x else None) ≡ (if b then Some y else None)
+shown_if : {A B : Type 0} (f : A → B) (x : A) (y : B) → f x ≡ y → (b : Bool)
+    → option_map f (if b then Some x else None) ≡ (if b then Some y else None)
 shown_if f x y e true = ap Some e
 shown_if f x y e false = refl
 
@@ -22,26 +23,35 @@ from_some : {A : Type 0} (x y : A) (b : Bool) → (if b then Some x else None) �
 from_some x y true e = ap (λ o. unwrap_or o x) e
 from_some x y false e = cc
 
-same_itself : {V : Type 0} (is_same : V → V → Bool) → ((m : V) → is_same m m ≡ true) → (w : Option V) → same_version is_same w w ≡ true
+same_itself : {V : Type 0} (is_same : V → V → Bool) → ((m : V) → is_same m m ≡ true) → (w : Option V)
+    → same_version is_same w w ≡ true
 same_itself is_same itself None = refl
 same_itself is_same itself (Some m) = itself m
 
 module _ {V : Type 0} (item_of : V → Item) (number : V → ℕ) (vs : Versions V) (order : AreInOrder vs.rows) where
-  shown_taken : StandsWell (standing item_of number vs) → (test : ItemName → Bool) (v : View V) → IsTaken vs test v → (i : ItemName) → shown item_of v i ≡ (if test i then Some (contents (shown_state item_of number vs) i) else None)
+  shown_taken : StandsWell (standing item_of number vs) → (test : ItemName → Bool) (v : View V) → IsTaken vs test v
+      → (i : ItemName) → shown item_of v i ≡ (if test i then Some (contents (shown_state item_of vs) i) else None)
   shown_taken well test v taken i =
       ap (option_map (λ (w : Option V). content_as i (option_map item_of w))) (taken i)
-      ∙ shown_if (λ (w : Option V). content_as i (option_map item_of w)) (version_at vs i) (contents (shown_state item_of number vs) i) (contains item_of number vs order well i) (test i)
+      ∙ shown_if (λ (w : Option V). content_as i (option_map item_of w)) (version_at vs i)
+      (contents (shown_state item_of vs) i) (contains item_of number vs order well i) (test i)
 
-  pub read_for : (call : Call) (v : View V) → IsRead item_of number vs call v → StandsWell (standing item_of number vs) → IsFor item_of v call
+  pub read_for : (call : Call) (v : View V) → IsRead item_of number vs call v → StandsWell (standing item_of number vs)
+      → IsFor item_of v call
   read_for call v read well = (
-    shown_state item_of number vs,
+    shown_state item_of vs,
     well.good,
-    λ i. shown_taken well read.0 v read.1 i ∙ ap (λ (b : Bool). if b then Some (contents (shown_state item_of number vs) i) else None) (read.2 well i),
+    λ i. shown_taken well read.0 v read.1 i
+        ∙ ap (λ (b : Bool). if b then Some (contents (shown_state item_of vs) i) else None) (read.2 well i),
   )
 
-  pub read_current : (is_same : V → V → Bool) → ((m : V) → is_same m m ≡ true) → (call : Call) (v : View V) → IsRead item_of number vs call v → IsCurrent is_same vs v
+  pub read_current : (is_same : V → V → Bool) → ((m : V) → is_same m m ≡ true) → (call : Call) (v : View V)
+      → IsRead item_of number vs call v → IsCurrent is_same vs v
   read_current is_same itself call v read i w e =
-      subst (λ (o : Option V). same_version is_same (version_at vs i) o ≡ true) (from_some (version_at vs i) w (read.0 i) (sym (read.1 i) ∙ e)) (same_itself is_same itself (version_at vs i))
+      subst (λ (o : Option V). same_version is_same (version_at vs i) o ≡ true)
+      (from_some (version_at vs i) w (read.0 i) (sym (read.1 i) ∙ e)) (same_itself is_same itself (version_at vs i))
 
-  pub read_shows : (call : Call) (v : View V) → IsRead item_of number vs call v → StandsWell (standing item_of number vs) → Shows item_of (shown_state item_of number vs) v
-  read_shows call v read well i x e = from_some (contents (shown_state item_of number vs) i) x (read.0 i) (sym (shown_taken well read.0 v read.1 i) ∙ e)
+  pub read_shows : (call : Call) (v : View V) → IsRead item_of number vs call v
+      → StandsWell (standing item_of number vs) → Shows item_of (shown_state item_of vs) v
+  read_shows call v read well i x e =
+      from_some (contents (shown_state item_of vs) i) x (read.0 i) (sym (shown_taken well read.0 v read.1 i) ∙ e)

@@ -1,5 +1,6 @@
 -- what was read is what the call reads
-use Rattle.std.proofs.Common.{◌≡◌, ℕ, List, [], ◌∷◌, map, Bool, true, false, cond, ◌||◌, ◌&&◌, is_some, refl, sym, ap, ◌∙◌, subst, Option, None, Some}
+use Rattle.std.proofs.Common.{◌≡◌, ℕ, List, [], ◌∷◌, map, Bool, true, false, cond, ◌||◌, ◌&&◌, is_some, refl, sym, ap}
+use Rattle.std.proofs.Common.{◌∙◌, subst, Option, None, Some}
 use Rattle.std.proofs.Math.Bool.{or-false}
 use Rattle.std.specs.Prelude.{Result, IfOk}
 use Rattle.std.specs.Option.{option_map, option_map_or, option_and_then}
@@ -10,7 +11,8 @@ use Rattle.std.proofs.lemmas.Cmp.{nat_list_eq_equiv}
 use Rattle.std.proofs.lemmas.Result.{IfOk-weaker}
 use Rattle.casa_grid.specs.declared.period.Period.{Period}
 use Rattle.casa_flight.specs.declared.call.Call.{Call}
-use Rattle.casa_flight.specs.declared.call.Call.TheVariants.{File, Amend, Cancel, Revise, Exempt, Rates, Show, List as ListOf}
+use Rattle.casa_flight.specs.declared.call.Call.TheVariants.{File, Amend, Cancel, Revise, Exempt, Rates, Show}
+use Rattle.casa_flight.specs.declared.call.Call.TheVariants.{List as ListOf}
 use Rattle.casa_flight.specs.declared.regulation.Regulation.{Regulation}
 use Rattle.casa_flight.specs.declared.regulation.Measure.{Measure}
 use Rattle.casa_flight.specs.declared.row.Row.{Row}
@@ -32,17 +34,18 @@ use Rattle.casa_view.specs.Versions.{Versions, regulations_of, row_of, list_at, 
 use Rattle.casa_view.specs.Standing.{StandsWell, standing}
 use Rattle.casa_view.specs.Crossed.{meets}
 use Rattle.casa_view.specs.View.{IsTaken}
-use Rattle.casa_view.specs.Taking.{meets_if, meets_either, is_of, named, row_at, plan_at, governing_at, has_forced, forced_at, governs_forced_at, IsRead}
+use Rattle.casa_view.specs.Taking.{meets_if, meets_either, is_of, named, row_at, plan_at, governing_at, has_forced}
+use Rattle.casa_view.specs.Taking.{forced_at, governs_forced_at, IsRead}
 use Rattle.casa_view.proofs.Layers.{same_test}
 
 -- a view with the versions of these items, which are what the call reads
 pub is_read : {V E : Type 0} (item_of : V → Item) (number : V → ℕ) (vs : Versions V) (call called : Call) →
     called ≡ call → (test : ItemName → Bool) (r : Result (View V) E) → IfOk r (IsTaken vs test) →
-    (StandsWell (standing item_of number vs) → (i : ItemName) → test i ≡ reads (shown_state item_of number vs) call i) →
+    (StandsWell (standing item_of number vs) → (i : ItemName) → test i ≡ reads (shown_state item_of vs) call i) →
     IfOk r (IsRead item_of number vs called)
 is_read item_of number vs call called is test r taken same =
     IfOk-weaker r (IsTaken vs test) (IsRead item_of number vs called)
-    (λ v t. (test, t, λ well i. same well i ∙ ap (λ (c : Call). reads (shown_state item_of number vs) c i) (sym is)))
+    (λ v t. (test, t, λ well i. same well i ∙ ap (λ (c : Call). reads (shown_state item_of vs) c i) (sym is)))
     taken
 
 first_only : (x y : Bool) → y ≡ false → ((x && true) || y) ≡ x
@@ -55,14 +58,16 @@ rest_only false y = refl
 
 -- a plan meets an open regulation exactly if it is subject to it
 meets_each : (plan : FlightPlan) (id : Text) (es : List (Text × Measure)) → AreInOrder es
-    → list_any (λ (r : Regulation). is_some (subject plan r) && same_text r.id id) (map (λ (e : Text × Measure). regulation e.0 e.1) es)
+    → list_any (λ (r : Regulation). is_some (subject plan r) && same_text r.id id)
+    (map (λ (e : Text × Measure). regulation e.0 e.1) es)
     ≡ option_map_or (λ (y : Measure). is_some (subject plan (regulation id y))) (at_name es id) false
 unfolding IsStrictlySortedBy
 meets_each plan id [] h = refl
 meets_each plan id (e ∷ es) h =
     let test : Regulation → Bool = λ r. is_some (subject plan r) && same_text r.id id in
     let rest : Bool = list_any test (map (λ (f : Text × Measure). regulation f.0 f.1) es) in
-    let found : Option Measure → Bool = λ w. option_map_or (λ (y : Measure). is_some (subject plan (regulation id y))) w false in
+    let found : Option Measure → Bool =
+    λ w. option_map_or (λ (y : Measure). is_some (subject plan (regulation id y))) w false in
     elim (is_eq (text_cmp id e.0)) as (λ b. is_eq (text_cmp id e.0) ≡ b
     → (test (regulation e.0 e.1) || rest) ≡ found (cond b (Some e.1) (at_name es id))) [
       | true ↦ λ p.
@@ -70,7 +75,8 @@ meets_each plan id (e ∷ es) h =
           let none : rest ≡ false =
           meets_each plan id es h.1
           ∙ ap found (at_above id es (subst (λ (q : Text). Above q es) (sym name) h.0)) in
-          let same : same_text e.0 id ≡ true = subst (λ (q : Text). same_text q id ≡ true) name (nat_list_eq_equiv.refl id) in
+          let same : same_text e.0 id ≡ true =
+          subst (λ (q : Text). same_text q id ≡ true) name (nat_list_eq_equiv.refl id) in
           ap (λ (b : Bool). (is_some (subject plan (regulation e.0 e.1)) && b) || rest) same
           ∙ first_only (is_some (subject plan (regulation e.0 e.1))) rest none
           ∙ ap (λ (q : Text). is_some (subject plan (regulation q e.1))) (sym name)
@@ -83,7 +89,7 @@ meets_each plan id (e ∷ es) h =
 module _ {V : Type 0} (item_of : V → Item) (number : V → ℕ) (vs : Versions V) (order : AreInOrder vs.rows)
     (well : StandsWell (standing item_of number vs)) where
   abbrev here : State
-  here = shown_state item_of number vs
+  here = shown_state item_of vs
 
   abbrev regs : List Regulation
   regs = regulations_of (item_of vs.catalogue)
@@ -183,7 +189,7 @@ module _ {V : Type 0} (item_of : V → Item) (number : V → ℕ) (vs : Versions
 
   -- the flights that are forced in a list, by the list of the state and its rows
   forced_is : (s t : Text → Bool) → ((k : Text) → s k ≡ t k) → (id : Text) →
-      has_forced s (list_at item_of number vs id)
+      has_forced s (list_at item_of vs id)
       ≡ option_map_or (λ (l : Listing). list_any (λ (e : Text × Stance). is_forced e.1 && t e.0) l.flights)
       (list_of here id) false
   forced_is s t same id = λ j.
@@ -191,7 +197,7 @@ module _ {V : Type 0} (item_of : V → Item) (number : V → ℕ) (vs : Versions
       (sym (well.list_is id) j) false
 
   pub list_reads : (id : Text) (i : ItemName) →
-      named false true (forced_at item_of number vs id) (λ q. same_text id q || governs_forced_at item_of number vs id q) i
+      named false true (forced_at item_of vs id) (λ q. same_text id q || governs_forced_at item_of vs id q) i
       ≡ reads here (ListOf id) i
   list_reads id the_clock = refl
   list_reads id the_catalogue = refl

@@ -17,5 +17,7 @@ module _ {V : Type 0} (w x : Versions V) (same : x ≡ w) where
   like_state item_of number = ap (standing item_of number) same
 
   pub like_views : (is_same : V → V → Bool) (v : View V) → IsCurrent is_same w v ↔ IsCurrent is_same x v
-  like_views is_same v =
-      (subst (λ (vs : Versions V). IsCurrent is_same vs v) (sym same), subst (λ (vs : Versions V). IsCurrent is_same vs v) same)
+  like_views is_same v = (
+    subst (λ (vs : Versions V). IsCurrent is_same vs v) (sym same),
+    subst (λ (vs : Versions V). IsCurrent is_same vs v) same,
+  )

@@ -13,8 +13,12 @@ abbrev pub versions : {V : Type 0} → Items V → Versions V
 versions b = record { clock = b.clock; catalogue = b.catalogue; rows = b.rows.entries; lists = b.lists.entries }
 
 abbrev pub next_versions : {V : Type 0} → Items V → Versions V
-next_versions b =
-    record { clock = unwrap_or b.next_clock b.clock; catalogue = unwrap_or b.next_catalogue b.catalogue; rows = b.rows.next; lists = b.lists.next }
+next_versions b = record {
+  clock = unwrap_or b.next_clock b.clock;
+  catalogue = unwrap_or b.next_catalogue b.catalogue;
+  rows = b.rows.next;
+  lists = b.lists.next;
+}
 
 -- an item as a change writes it
 abbrev pub item_said : Change → ItemName → Option Item

@@ -1,9 +1,5 @@
 use Rattle.std.specs.Prelude.{◌≡◌, ℕ, Bool, true, false, not, is_some, Option, None, Some, if◌then◌else◌}
-use Rattle.casa_flight.specs.declared.call.Call.{Call}
-use Rattle.casa_flight.specs.declared.state.State.{State}
-use Rattle.casa_flight.specs.Steps.{next}
-use Rattle.casa_footprint.specs.Items.{ItemName, Content, moment, regulations, row_or_none, list_or_none, contents}
-use Rattle.casa_footprint.specs.Footprint.{writes}
+use Rattle.casa_footprint.specs.Items.{ItemName, Content, moment, regulations, row_or_none, list_or_none}
 use Rattle.casa_view.specs.declared.item.Item.{Item}
 use Rattle.casa_view.specs.Versions.{Versions, IsInOrder, version_at, content_at, stamp_at}
 
@@ -14,17 +10,13 @@ is_absence (regulations all) = false
 is_absence (row_or_none row) = not (is_some row)
 is_absence (list_or_none list) = false
 
--- what a change says of each item is what the call writes
-abbrev pub IsChange : State → Call → (ItemName → Option Content) → Type 0
-IsChange m call says = (i : ItemName) → says i ≡ (if writes m call i then Some (contents (next m call) i) else None)
-
--- the versions after a change by entry n: what it says has that number, an absent row no version and so the stamp 0, and
--- all other versions are as they were; rows and lists are in order before and after
+-- the versions after a change by entry n: what it says has that number, an absent row no version and so the stamp 0,
+-- and all other versions are as they were; rows and lists are in order before and after
 pub record IsApplied {V : Type 0} (item_of : V → Item) (number : V → ℕ) (says : ItemName → Option Content) (n : ℕ)
     (before now : Versions V) : Type 0 where
   pub were_in_order : IsInOrder before
   pub in_order : IsInOrder now
-  pub written : (i : ItemName) (x : Content) → says i ≡ Some x → content_at item_of number now i ≡ x
-  pub stamped : (i : ItemName) (x : Content) → says i ≡ Some x → stamp_at item_of number now i ≡ (if is_absence x then 0 else n)
+  pub written : (i : ItemName) (x : Content) → says i ≡ Some x → content_at item_of now i ≡ x
+  pub stamped : (i : ItemName) (x : Content) → says i ≡ Some x → stamp_at number now i ≡ (if is_absence x then 0 else n)
   pub without : (i : ItemName) (x : Content) → says i ≡ Some x → is_absence x ≡ true → version_at now i ≡ None
   pub others : (i : ItemName) → says i ≡ None → version_at now i ≡ version_at before i

@@ -1,24 +1,15 @@
-use Rattle.std.specs.Prelude.{◌≡◌, ℕ, List, [], ◌∷◌, map, Bool, not, ◌&&◌, is_some, ◌++◌, if◌then◌else◌}
-use Rattle.std.specs.Option.{option_map, option_map_or}
-use Rattle.std.specs.List.{filter, filter_map, list_any}
+use Rattle.std.specs.Prelude.{◌≡◌, List, [], ◌∷◌, map, Bool, not, ◌&&◌, is_some, ◌++◌, if◌then◌else◌}
+use Rattle.std.specs.Option.{option_map_or}
+use Rattle.std.specs.List.{filter, flat_map, list_any}
 use Rattle.casa_flight.specs.declared.plan.Crossing.{Crossing}
 use Rattle.casa_flight.specs.declared.regulation.Regulation.{Regulation}
-use Rattle.std.specs.BTreeMap.{is_at}
 use Rattle.std.specs.Cmp.Lexicographic.{slice_cmp}
 use Rattle.std.specs.Ordering.{nat_cmp, is_lt}
 use Rattle.casa_flight.specs.Text.{Text, same_text, at_name}
 use Rattle.casa_flight.specs.FlightPlan.{FlightPlan}
 use Rattle.casa_flight.specs.State.{subject}
 use Rattle.casa_flight.specs.Good.{AreInOrder}
-use Rattle.casa_view.specs.Gathered.{noted}
-
--- the regulations to which a plan is subject, with its time over, in their order
-abbrev pub crossed : FlightPlan → List Regulation → List (Text × ℕ)
-crossed plan rs = filter_map (λ (r : Regulation). option_map (λ (eto : ℕ). (r.id, eto)) (subject plan r)) rs
-
--- regulations under their identifiers
-abbrev pub by_id : List Regulation → List (Text × Regulation)
-by_id rs = map (λ (r : Regulation). (r.id, r)) rs
+use Rattle.casa_footprint.specs.Finding.{by_id}
 
 -- regulations are listed in the order of their identifiers, each identifier once
 abbrev pub AreListed : List Regulation → Type 0
@@ -40,11 +31,15 @@ meets rs plan id = list_any (λ (r : Regulation). is_some (subject plan r) && sa
 
 -- whether a regulation protects this location
 abbrev pub is_over : Text → Regulation → Bool
-is_over loc r = is_at (slice_cmp nat_cmp loc) r.loc
+is_over loc r = same_text r.loc loc
 
 -- those at a location, by an index of lists
 abbrev pub at_place : {V : Type 0} → (V → List Regulation) → List (Text × V) → Text → List Regulation
 at_place items places loc = option_map_or items (at_name places loc) []
+
+-- those at the locations of these crossings, one location after another
+abbrev pub along : (Text → List Regulation) → List Crossing → List Regulation
+along place via = flat_map (λ (c : Crossing). place c.loc) via
 
 -- the places with one more regulation, behind those at its location
 abbrev pub place_with : (Text → List Regulation) → Regulation → Text → List Regulation
@@ -54,15 +49,7 @@ place_with place r loc = if is_over loc r then place loc ++ r ∷ [] else place 
 abbrev pub HasPlaces : List Regulation → (Text → List Regulation) → Type 0
 HasPlaces rs place = (loc : Text) → place loc ≡ filter (is_over loc) rs
 
-pub record IsIndexed (rs : List Regulation) (place : Text → List Regulation) : Type 0 where
+-- a catalogue lists its regulations, and has such an index of them
+pub record IsCatalogue (rs : List Regulation) (place : Text → List Regulation) : Type 0 where
   pub listed : AreListed rs
   pub places : HasPlaces rs place
-
--- the regulations of these to which a plan is subject, noted one by one, and so for each crossing
-abbrev pub noted_each : FlightPlan → List (Text × ℕ) → List Regulation → List (Text × ℕ)
-noted_each plan found [] = found
-noted_each plan found (r ∷ rs) = noted_each plan (noted found r.id (subject plan r)) rs
-
-abbrev pub noted_along : FlightPlan → (Text → List Regulation) → List (Text × ℕ) → List Crossing → List (Text × ℕ)
-noted_along plan place found [] = found
-noted_along plan place found (c ∷ cs) = noted_along plan place (noted_each plan found (place c.loc)) cs

@@ -23,8 +23,8 @@ abbrev pub rows_named : {V : Type 0} → (V → Item) → List (Text × Option V
 rows_named item_of entries = kept (row_named item_of) entries
 
 -- the row under each name, where these versions stand
-abbrev pub row_at : {V : Type 0} → (V → Item) → (Text → Option V) → Text → Option Row
-row_at item_of at name = row_named item_of (at name)
+abbrev pub row_where : {V : Type 0} → (V → Item) → (Text → Option V) → Text → Option Row
+row_where item_of at name = row_named item_of (at name)
 
 -- an index of flights has the departures of all that wait, and all their passings
 pub record IsIndexed (row_at : Text → Option Row) (ds : List Departure) (ps : List Passing) : Type 0 where
@@ -41,12 +41,12 @@ fewer_rows at of ds ps less h = record {
 
 pub fewer_indexed : {V : Type 0} (item_of : V → Item) (at : Text → Option V)
     (ds : List Departure) (ps : List Passing) (name : Text)
-    → IsIndexed (row_at item_of at) ds ps → IsIndexed (row_at item_of (where_put at name None)) ds ps
+    → IsIndexed (row_where item_of at) ds ps → IsIndexed (row_where item_of (where_put at name None)) ds ps
 fewer_indexed {V} item_of at ds ps name h =
-    fewer_rows (row_at item_of at) (row_at item_of (where_put at name None)) ds ps
+    fewer_rows (row_where item_of at) (row_where item_of (where_put at name None)) ds ps
     (λ q row found. by q row (same_text name q) found) h
   where
     by : (q : Text) (row : Row) (b : Bool) → row_named item_of (if b then None else at q) ≡ Some row
-        → row_at item_of at q ≡ Some row
+        → row_where item_of at q ≡ Some row
     by q row false h = h
     by q row true h = cc

@@ -1,11 +1,9 @@
-use Rattle.std.specs.Prelude.{◌≡◌, ℕ, List, [], ◌∷◌, Bool, true, Option, None, Some}
+use Rattle.std.specs.Prelude.{◌≡◌, ℕ, List, map, Bool, true, Option, None, Some}
 use Rattle.std.specs.List.{list_any, AllByRecursion, filter, filter_map}
 use Rattle.std.specs.BTreeMap.Range.{range_contains}
 use Rattle.std.specs.declared.ops.Bound.TheVariants.{Included, Excluded}
 use Rattle.std.specs.BTreeMap.{is_at}
-use Rattle.std.specs.BTreeSet.{insert_key}
 use Rattle.casa_flight.specs.declared.comp.Comp.{Comp}
-use Rattle.casa_flight.specs.contracts.comp.CompOrd.TheImpl.{ghosts as sequence}
 use Rattle.casa_flight.specs.declared.plan.Crossing.{Crossing}
 use Rattle.casa_flight.specs.declared.regulation.Regulation.{Regulation}
 use Rattle.casa_flight.specs.declared.row.Row.{Row}
@@ -46,7 +44,6 @@ in_span r t ps = filter (range_contains passings.cmp (Included (at_start r)) (Ex
 abbrev pub names : List Passing → List Text
 names ps = filter_map (λ (p : Passing). p.key) ps
 
--- flights by time over and key, put in one by one
-abbrev pub inserted : List Comp → List (Text × ℕ) → List Comp
-inserted comps [] = comps
-inserted comps (e ∷ es) = inserted (insert_key sequence.cmp comps (record { eto = e.1; key = e.0 })) es
+-- flights with their times over
+abbrev pub comps : List (Text × ℕ) → List Comp
+comps es = map (λ (e : Text × ℕ). record { eto = e.1; key = e.0 }) es

@@ -22,7 +22,8 @@ pub record Standing : Type 0 where
   pub list : Text → Option Listing
   pub stamp : ItemName → ℕ
 
--- a board stands well if the state is good, if catalogue and lists are those of the state, and if no absent row has a stamp
+-- a board stands well if the state is good, if catalogue and lists are those of the state,
+-- and if no absent row has a stamp
 pub record StandsWell (s : Standing) : Type 0 where
   pub good : IsGood s.state
   pub catalogue_is : catalogue s.state ≡ s.catalogue
@@ -54,8 +55,8 @@ reply s call = replies.reply s.state call
 -- how a board with these versions stands
 abbrev pub standing : {V : Type 0} → (V → Item) → (V → ℕ) → Versions V → Standing
 standing item_of number vs = record {
-  state = shown_state item_of number vs;
+  state = shown_state item_of vs;
   catalogue = regulations_of (item_of vs.catalogue);
-  list = list_at item_of number vs;
-  stamp = stamp_at item_of number vs;
+  list = list_at item_of vs;
+  stamp = stamp_at number vs;
 }

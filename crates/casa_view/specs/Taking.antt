@@ -22,7 +22,8 @@ abbrev pub Sees : {V : Type 0} → List (Text × V) → (Text → Bool) → List
 Sees es test noted = (q : Text) → at_name noted q ≡ (if test q then Some (at_name es q) else None)
 
 -- the names that pass the test are noted too
-abbrev pub SeesAlso : {V : Type 0} → List (Text × V) → (Text → Bool) → List (Text × Option V) → List (Text × Option V) → Type 0
+abbrev pub SeesAlso : {V : Type 0} → List (Text × V) → (Text → Bool)
+    → List (Text × Option V) → List (Text × Option V) → Type 0
 SeesAlso es test before after = (t : Text → Bool) → Sees es t before → Sees es (λ q. test q || t q) after
 
 -- whether a plan meets one of these regulations, if there is a plan
@@ -61,15 +62,16 @@ has_forced test list =
     option_map_or (λ (l : Listing). list_any (λ (e : Text × Stance). is_forced e.1 && test e.0) l.flights) list false
 
 -- what is noted of the flights that are forced in the list of a regulation: their rows, and the lists that govern them
-abbrev pub forced_at : {V : Type 0} → (V → Item) → (V → ℕ) → Versions V → Text → Text → Bool
-forced_at item_of number vs id key = has_forced (λ k. same_text k key) (list_at item_of number vs id)
+abbrev pub forced_at : {V : Type 0} → (V → Item) → Versions V → Text → Text → Bool
+forced_at item_of vs id key = has_forced (λ k. same_text k key) (list_at item_of vs id)
 
-abbrev pub governs_forced_at : {V : Type 0} → (V → Item) → (V → ℕ) → Versions V → Text → Text → Bool
-governs_forced_at item_of number vs id other =
-    has_forced (λ k. is_of (governing_at item_of vs k) other) (list_at item_of number vs id)
+abbrev pub governs_forced_at : {V : Type 0} → (V → Item) → Versions V → Text → Text → Bool
+governs_forced_at item_of vs id other =
+    has_forced (λ k. is_of (governing_at item_of vs k) other) (list_at item_of vs id)
 
--- a view with the versions of what the call reads on a board that stands well; its versions are present ones in any case
+-- a view with the versions of what the call reads on a board that stands well;
+-- its versions are present ones in any case
 abbrev pub IsRead : {V : Type 0} → (V → Item) → (V → ℕ) → Versions V → Call → View V → Type 0
 IsRead item_of number vs call v =
     (test : ItemName → Bool) × IsTaken vs test v
-    × (StandsWell (standing item_of number vs) → (i : ItemName) → test i ≡ reads (shown_state item_of number vs) call i)
+    × (StandsWell (standing item_of number vs) → (i : ItemName) → test i ≡ reads (shown_state item_of vs) call i)

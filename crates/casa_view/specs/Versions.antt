@@ -7,7 +7,8 @@ use Rattle.casa_flight.specs.declared.state.State.{State}
 use Rattle.casa_flight.specs.Text.{Text, at_name}
 use Rattle.casa_flight.specs.Listing.{Listing, kept}
 use Rattle.casa_flight.specs.Good.{AreInOrder}
-use Rattle.casa_footprint.specs.Items.{ItemName, the_clock, the_catalogue, a_row, a_list, Content, moment, regulations, row_or_none, list_or_none}
+use Rattle.casa_footprint.specs.Items.{ItemName, the_clock, the_catalogue, a_row, a_list, Content, moment, regulations}
+use Rattle.casa_footprint.specs.Items.{row_or_none, list_or_none}
 use Rattle.casa_view.specs.declared.item.Item.{Item}
 use Rattle.casa_view.specs.declared.item.Item.TheVariants.{Clock, Catalogue, Row as RowOf, List as ListOf}
 
@@ -80,15 +81,17 @@ pub record IsOrderly {V : Type 0} (item_of : V → Item) (vs : Versions V) : Typ
 -- the regulations of a catalogue with the profiles of their lists
 abbrev pub measures : List Regulation → (Text → Option Listing) → List (Text × Measure)
 measures all lists =
-    map (λ (r : Regulation). (r.id, record { loc = r.loc; profile = option_map_or (λ (l : Listing). l.profile) (lists r.id) [] })) all
+    map (λ (r : Regulation).
+    (r.id, record { loc = r.loc; profile = option_map_or (λ (l : Listing). l.profile) (lists r.id) [] })) all
 
-module _ {V : Type 0} (item_of : V → Item) (number : V → ℕ) where
-  -- what an item contains, by its version, and its stamp
+-- the stamp of an item, by its version
+abbrev pub stamp_at : {V : Type 0} → (V → ℕ) → Versions V → ItemName → ℕ
+stamp_at number vs i = option_map_or number (version_at vs i) 0
+
+module _ {V : Type 0} (item_of : V → Item) where
+  -- what an item contains, by its version
   abbrev pub content_at : Versions V → ItemName → Content
   content_at vs i = content_as i (option_map item_of (version_at vs i))
-
-  abbrev pub stamp_at : Versions V → ItemName → ℕ
-  stamp_at vs i = option_map_or number (version_at vs i) 0
 
   abbrev pub list_at : Versions V → Text → Option Listing
   list_at vs id = option_and_then (λ (v : V). list_of (item_of v)) (at_name vs.lists id)

@@ -38,7 +38,8 @@ Shows item_of m v = (i : ItemName) (x : Content) → shown item_of v i ≡ Some 
 
 -- a view shows exactly what a call reads in a state, as it is there
 abbrev pub IsViewOf : {V : Type 0} → (V → Item) → State → Call → View V → Type 0
-IsViewOf item_of at call v = (i : ItemName) → shown item_of v i ≡ (if reads at call i then Some (contents at i) else None)
+IsViewOf item_of at call v =
+    (i : ItemName) → shown item_of v i ≡ (if reads at call i then Some (contents at i) else None)
 
 -- a view for a call holds what the call reads in some good state
 abbrev pub IsFor : {V : Type 0} → (V → Item) → View V → Call → Type 0
@@ -51,15 +52,19 @@ same_held is_same m (Some n) = is_same m n
 
 -- all versions of a view are the present ones
 abbrev pub IsCurrent : {V : Type 0} → (V → V → Bool) → Versions V → View V → Type 0
-IsCurrent {V} is_same vs v = (i : ItemName) (w : Option V) → seen v i ≡ Some w → same_version is_same (version_at vs i) w ≡ true
+IsCurrent {V} is_same vs v =
+    (i : ItemName) (w : Option V) → seen v i ≡ Some w → same_version is_same (version_at vs i) w ≡ true
 
 -- the versions of a view show the items as they now stand
 abbrev pub ShowsSame : {V W : Type 0} → (V → W) → Versions V → View V → Type 0
-ShowsSame {V} item_of vs v = (i : ItemName) (w : Option V) → seen v i ≡ Some w → option_map item_of (version_at vs i) ≡ option_map item_of w
+ShowsSame {V} item_of vs v =
+    (i : ItemName) (w : Option V) → seen v i ≡ Some w → option_map item_of (version_at vs i) ≡ option_map item_of w
 
 -- the versions that a part holds are those of these entries; and, below, they show the same items
 abbrev pub IsSamePart : {K V I : Type 0} → (V → V → Bool) → List (Text × V) → Part K V I → Type 0
-IsSamePart {K} {V} is_same es part = (q : Text) (w : Option V) → seen_in part q ≡ Some w → same_version is_same (at_name es q) w ≡ true
+IsSamePart {K} {V} is_same es part =
+    (q : Text) (w : Option V) → seen_in part q ≡ Some w → same_version is_same (at_name es q) w ≡ true
 
 abbrev pub ShowsPart : {K V I W : Type 0} → (V → W) → List (Text × V) → Part K V I → Type 0
-ShowsPart {K} {V} item_of es part = (q : Text) (w : Option V) → seen_in part q ≡ Some w → option_map item_of (at_name es q) ≡ option_map item_of w
+ShowsPart {K} {V} item_of es part =
+    (q : Text) (w : Option V) → seen_in part q ≡ Some w → option_map item_of (at_name es q) ≡ option_map item_of w

@@ -1,7 +1,6 @@
-use Rattle.std.specs.Prelude.{◌≡◌, ℕ, List, [], ◌∷◌, Bool, true, not, ◌&&◌, ◌==◌, Option, None, Some, is_some}
+use Rattle.std.specs.Prelude.{◌≡◌, ℕ, List, map, Bool, true, not, ◌&&◌, ◌==◌, Option, None, Some, is_some}
 use Rattle.std.specs.Prelude.{if◌then◌else◌}
-use Rattle.std.specs.List.{list_any, filter_map}
-use Rattle.std.specs.List.Sorted.{IsStrictlySortedBy}
+use Rattle.std.specs.List.{list_any, filter}
 use Rattle.std.specs.BTreeMap.{is_at}
 use Rattle.casa_time.specs.Due as due
 use Rattle.casa_flight.specs.declared.row.Row.{Row}
@@ -10,15 +9,11 @@ use Rattle.casa_flight.specs.Entry.{is_to_issue}
 use Rattle.casa_view.specs.declared.flights.Departure.{Departure}
 use Rattle.casa_view.specs.contracts.flights.DepartureOrd.TheImpl.{ghosts as departures}
 
--- the keys of the flights that are governed, due and not issued, in the order of the rows
-abbrev pub due_keys : ℕ → List (Text × Row) → List Text
-due_keys at rows = filter_map (λ (e : Text × Row). if is_to_issue at e.1 then Some e.0 else None) rows
-
 -- the off-block time of a flight, if it is one of these
 abbrev pub due_row : ℕ → Row → Option ℕ
 due_row at row = if is_to_issue at row then Some row.plan.eobt else None
 
--- a flight waits for its issue: it is governed and not issued
+-- a flight waits for its issue: it is governed and not issued; `is_to_issue` adds that it is due
 abbrev pub is_waiting : Row → Bool
 is_waiting row = is_some row.governing && not (is_some row.issued)
 
@@ -35,13 +30,9 @@ has_departure ds d = list_any (is_at (departures.cmp d)) ds
 -- each flight that waits is among the departures; these may have others
 abbrev pub HaveWaiting : (Text → Option Row) → List Departure → Type 0
 HaveWaiting row_at ds =
-    (key : Text) (row : Row) → row_at key ≡ Some row → is_waiting row ≡ true → has_departure ds (departure key row) ≡ true
+    (key : Text) (row : Row) → row_at key ≡ Some row → is_waiting row ≡ true
+    → has_departure ds (departure key row) ≡ true
 
--- departures in their order, each once
-abbrev pub AreSorted : List Departure → Type 0
-AreSorted ds = IsStrictlySortedBy departures.cmp ds
-
--- the keys of the departures up to the first that is not due
+-- the keys of the departures that are due
 abbrev pub due_names : ℕ → List Departure → List Text
-due_names at [] = []
-due_names at (d ∷ ds) = if due.is_due at d.eobt then d.key ∷ due_names at ds else []
+due_names at ds = map (λ (d : Departure). d.key) (filter (λ (d : Departure). due.is_due at d.eobt) ds)

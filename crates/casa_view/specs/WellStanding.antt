@@ -17,5 +17,7 @@ after_well n s call well = record {
   good = next-good s.state call well.good;
   catalogue_is = refl;
   list_is = λ id. refl;
-  unstamped = λ key h. ap (λ (w : Option Row). if not (is_some w) then 0 else (if writes s.state call (a_row key) then n else s.stamp (a_row key))) h;
+  unstamped = λ key h.
+      ap (λ (w : Option Row). if not (is_some w) then 0
+      else (if writes s.state call (a_row key) then n else s.stamp (a_row key))) h;
 }

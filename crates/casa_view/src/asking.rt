@@ -6,12 +6,13 @@ ghost use Rattle.std.specs.Map.{keys_of};
 ghost use Rattle.casa_flight.specs.declared.row.Row.{Row};
 ghost use Rattle.casa_flight.specs.Text.{at_name};
 ghost use Rattle.casa_flight.specs.Good.{AreInOrder};
-ghost use Rattle.casa_flight.specs.Listing.{kept};
+ghost use Rattle.casa_flight.specs.Listing.{kept, in_order, is_before};
 ghost use Rattle.casa_flight.specs.Steps.{flights_over};
-ghost use Rattle.casa_view.specs.Gathered.{noted, gathered};
-ghost use Rattle.casa_view.specs.Waiting.{due_keys, due_row, due_names, HaveWaiting, AreSorted};
-ghost use Rattle.casa_view.specs.Passing.{over_row, HavePassings, in_span, names, inserted};
-ghost use Rattle.casa_view.specs.Flights.{rows_of, row_named, rows_named, row_at};
+ghost use Rattle.casa_view.specs.Gathered.{noted, HasGathered};
+ghost use Rattle.casa_footprint.specs.Finding.{due_keys};
+ghost use Rattle.casa_view.specs.Waiting.{due_row, due_names, HaveWaiting};
+ghost use Rattle.casa_view.specs.Passing.{over_row, HavePassings, in_span, names, comps};
+ghost use Rattle.casa_view.specs.Flights.{rows_of, row_named, rows_named, row_where};
 ghost use Rattle.casa_view.specs.Asking.{answer};
 ghost use Rattle.casa_view.specs.Shown.{rows_shown, HasRowsInOrder};
 
@@ -82,7 +83,7 @@ fn later(a: Moment, b: Moment) -> Moment
 
 /// Flights by time over and key.
 fn in_order(alloc: Global, found: &BTreeMap<Key, Moment>) -> Result<BTreeSet<Comp>, AllocError>
-    ensures comps { IfOk result (λ comps. comps.keys ≡ inserted [] found.now.entries) }
+    ensures comps { IfOk result (λ set. set.keys ≡ in_order is_before (comps found.now.entries)) }
     ensures ordered { AreInOrder found.now.entries }
 {
     let mut comps = BTreeSet::new(alloc);
@@ -98,7 +99,7 @@ fn in_order(alloc: Global, found: &BTreeMap<Key, Moment>) -> Result<BTreeSet<Com
 impl<V: Version> Base<OfFlight, V, FlightIndex> {
     /// The departures of all flights that wait for their issue.
     fn departures(&self) -> &BTreeSet<Departure>
-        ensures waiting { HaveWaiting (row_at V.item_of (at_name self.now)) result.now.keys }
+        ensures waiting { HaveWaiting (row_where V.item_of (at_name self.now)) result.now.keys }
         ensures ordered { AreInOrder self.now }
     {
         &self.index.departures
@@ -106,7 +107,7 @@ impl<V: Version> Base<OfFlight, V, FlightIndex> {
 
     /// The passings of all flights.
     fn passings(&self) -> &BTreeSet<Passing>
-        ensures passings { HavePassings (row_at V.item_of (at_name self.now)) result.now.keys }
+        ensures passings { HavePassings (row_where V.item_of (at_name self.now)) result.now.keys }
         ensures ordered { AreInOrder self.now }
     {
         &self.index.passings
@@ -137,8 +138,8 @@ impl<V: Version> Shared<OfFlight, V, FlightIndex> {
         question: &Question,
         changes: &Changes<OfFlight, V>,
     ) -> Result<(), AllocError>
-        ensures { OnOk result (found.new.entries ≡
-            gathered (answer question.now) (rows_of V.item_of self.now) found.old.entries (keys_of changes.now.entries)) }
+        ensures { OnOk result (HasGathered (answer question.now) (rows_of V.item_of self.now)
+            (keys_of changes.now.entries) found.old.entries found.new.entries) }
     {
         for (key, _) in changes {
             note(found, *key, self.answer(question, key))?;
@@ -146,16 +147,15 @@ impl<V: Version> Shared<OfFlight, V, FlightIndex> {
         Ok(())
     }
 
-    /// Notes the flights to issue among these departures, up to the first that is not due.
+    /// Notes the flights to issue among these departures. It looks at them up to the first that is not due.
     fn note_waiting(
         &self,
         found: &mut BTreeMap<Key, Moment>,
         at: Moment,
         departures: &BTreeSet<Departure>,
     ) -> Result<(), AllocError>
-        ensures gathered { OnOk result (found.new.entries ≡
-            gathered (due_row at) (rows_of V.item_of self.now) found.old.entries (due_names at departures.now.keys)) }
-        ensures ordered { AreSorted departures.now.keys }
+        ensures { OnOk result (HasGathered (due_row at) (rows_of V.item_of self.now)
+            (due_names at departures.now.keys) found.old.entries found.new.entries) }
     {
         for departure in departures {
             if !due(at, departure.eobt) {
@@ -180,9 +180,8 @@ impl<V: Version> Shared<OfFlight, V, FlightIndex> {
         passings: &BTreeSet<Passing>,
     ) -> Result<(), AllocError>
         requires { regulation.now.start ≤ end }
-        ensures { OnOk result (found.new.entries ≡
-            gathered (over_row regulation.now) (rows_of V.item_of self.now) found.old.entries
-            (names (in_span regulation.now end passings.now.keys))) }
+        ensures { OnOk result (HasGathered (over_row regulation.now) (rows_of V.item_of self.now)
+            (names (in_span regulation.now end passings.now.keys)) found.old.entries found.new.entries) }
     {
         let start = Passing {
             loc: regulation.loc,

@@ -95,7 +95,8 @@ impl<K: Kept> Board<K> {
 
 impl<K: Kept> World for Board<K> {
     ghost use Rattle.casa_view.specs.Board.{says, next_versions};
-    ghost use Rattle.casa_view.specs.Change.{IsChange, IsApplied};
+    ghost use Rattle.casa_footprint.specs.Change.{IsChange};
+    ghost use Rattle.casa_view.specs.Change.{IsApplied};
     ghost use Rattle.casa_view.specs.Sets.{standing_set};
     ghost use Rattle.casa_view.specs.Standing.{Standing, StandsWell, standing, opening, after, reply};
     ghost use Rattle.casa_view.specs.View.{IsFor, IsCurrent, Shows};

@@ -3,9 +3,11 @@
 ghost use Rattle.std.specs.Prelude.{◌≡◌, ◌++◌, ◌∷◌, [], IfOk, OnOk};
 ghost use Rattle.std.specs.Option.{option_copied, option_map_or};
 ghost use Rattle.casa_flight.specs.Text.{Text, at_name, put, without};
-ghost use Rattle.casa_view.specs.Gathered.{noted};
-ghost use Rattle.casa_view.specs.Crossed.{crossed, by_id, before, after, others, AreListed, HasPlaces};
-ghost use Rattle.casa_view.specs.Crossed.{at_place, place_with, noted_each, noted_along};
+ghost use Rattle.casa_view.specs.Gathered.{noted, HasNoted};
+ghost use Rattle.casa_footprint.specs.Finding.{crossed};
+ghost use Rattle.casa_footprint.specs.Finding.{by_id};
+ghost use Rattle.casa_view.specs.Crossed.{before, after, others, AreListed, HasPlaces};
+ghost use Rattle.casa_view.specs.Crossed.{at_place, along, place_with};
 
 use casa_flight::{Loc, Plan, RegId, Regulation};
 use casa_time::Moment;
@@ -25,13 +27,13 @@ pub struct Catalogue {
 impl Model for Catalogue {
     ghost use Rattle.std.specs.Prelude.{List};
     ghost use Rattle.casa_flight.specs.declared.regulation.Regulation.{Regulation};
-    ghost use Rattle.casa_view.specs.Crossed.{IsIndexed, at_place};
+    ghost use Rattle.casa_view.specs.Crossed.{IsCatalogue, at_place};
 
     ghost Value = { List Regulation };
 
     ghost view = { λ c. c.regulations.items };
 
-    ghost invariant = { λ c. IsIndexed c.regulations.items (at_place (λ v. v.items) c.places.entries) };
+    ghost invariant = { λ c. IsCatalogue c.regulations.items (at_place (λ v. v.items) c.places.entries) };
 }
 
 impl Catalogue {
@@ -228,8 +230,8 @@ fn noted_along(
     places: &BTreeMap<Loc, Vec<Regulation>>,
     plan: &Plan,
 ) -> Result<BTreeMap<RegId, Moment>, AllocError>
-    ensures { IfOk result (λ found. found.entries ≡
-        noted_along plan.now (at_place (λ v. v.items) places.now.entries) [] plan.now.via) }
+    ensures { IfOk result (λ found.
+        HasNoted (crossed plan.now (along (at_place (λ v. v.items) places.now.entries) plan.now.via)) [] found.entries) }
 {
     let mut found = BTreeMap::new(alloc);
     for crossing in plan.via() {
@@ -245,8 +247,8 @@ fn note_at(
     plan: &Plan,
     loc: &Loc,
 ) -> Result<(), AllocError>
-    ensures { OnOk result (found.new.entries ≡
-        noted_each plan.now found.old.entries (at_place (λ v. v.items) places.now.entries loc.now)) }
+    ensures { OnOk result (HasNoted (crossed plan.now (at_place (λ v. v.items) places.now.entries loc.now))
+        found.old.entries found.new.entries) }
 {
     match places.get(loc) {
         Some(regulations) => note_each(found, plan, regulations.as_slice()),
@@ -260,7 +262,7 @@ fn note_each(
     plan: &Plan,
     regulations: &[Regulation],
 ) -> Result<(), AllocError>
-    ensures { OnOk result (found.new.entries ≡ noted_each plan.now found.old.entries regulations.now) }
+    ensures { OnOk result (HasNoted (crossed plan.now regulations.now) found.old.entries found.new.entries) }
 {
     for regulation in regulations {
         note(found, regulation.id, plan.time_over(regulation))?;

@@ -8,7 +8,7 @@ ghost use Rattle.casa_view.specs.Versions.{moment_of, regulations_of, row_of, li
 use crate::catalogue::Catalogue;
 use crate::item::Item;
 use casa_flight::{Regulation, Row};
-use casa_list::SlotList;
+use casa_list::{SharedList, SlotList};
 use casa_time::Moment;
 
 /// The moment that a clock shows.
@@ -51,12 +51,22 @@ pub(crate) fn row_in(item: &Item) -> Option<&Row>
     }
 }
 
-/// The list that an item contains.
-pub(crate) fn list_in(item: &Item) -> Option<&SlotList>
+/// The list that an item contains, as it is shared.
+pub(crate) fn shared_list_in(item: &Item) -> Option<&SharedList>
     ensures { option_copied result ≡ list_of item.now }
 {
     match item {
         Item::List(_, list) => list.as_ref(),
         _ => None,
+    }
+}
+
+/// The list that an item contains.
+pub(crate) fn list_in(item: &Item) -> Option<&SlotList>
+    ensures { option_copied result ≡ list_of item.now }
+{
+    match shared_list_in(item) {
+        Some(shared) => Some(shared.list()),
+        None => None,
     }
 }

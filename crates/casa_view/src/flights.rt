@@ -43,9 +43,9 @@ pub struct FlightIndex {
 }
 
 impl<V: Version> Index<OfFlight, V> for FlightIndex {
-    ghost use Rattle.casa_view.specs.Flights.{row_at, fewer_indexed};
+    ghost use Rattle.casa_view.specs.Flights.{row_where, fewer_indexed};
 
-    ghost covers = { λ index at. IsIndexed (row_at V.item_of at) index.departures.keys index.passings.keys };
+    ghost covers = { λ index at. IsIndexed (row_where V.item_of at) index.departures.keys index.passings.keys };
 
     fn new(alloc: Global) -> FlightIndex {
         FlightIndex {

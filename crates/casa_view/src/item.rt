@@ -2,7 +2,7 @@ ghost use Rattle.std.specs.Prelude.{◌≡◌, IsTrue};
 
 use crate::catalogue::Catalogue;
 use casa_flight::{Key, RegId, Row};
-use casa_list::SlotList;
+use casa_list::SharedList;
 use casa_time::Moment;
 
 /// An item of the allocator's state: what it contains, under its name.
@@ -15,7 +15,7 @@ pub enum Item {
     /// The row of a flight, or its absence.
     Row(Key, Option<Row>),
     /// The list of a regulation, or its absence.
-    List(RegId, Option<SlotList>),
+    List(RegId, Option<SharedList>),
 }
 
 /// Whether items have the same name and contents.

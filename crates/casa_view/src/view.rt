@@ -1,11 +1,11 @@
 use crate::catalogue::Catalogue;
-use crate::contents::{catalogue_in, clock_in, list_in, row_in};
+use crate::contents::{catalogue_in, clock_in, list_in, row_in, shared_list_in};
 use crate::flights::FlightIndex;
 use crate::index::{Index, NoIndex};
 use crate::table::{Changes, Shared};
 use crate::version::Version;
 use casa_flight::{Key, Name, OfFlight, OfRegulation, RegId, Row};
-use casa_list::SlotList;
+use casa_list::{SharedList, SlotList};
 use casa_time::Moment;
 
 /// Versions of all names, or of some.
@@ -88,5 +88,12 @@ impl<V: Version> View<V> {
         ensures { option_copied result ≡ list_shown V.item_of self.now id.now }
     {
         list_in(self.lists.get(id)?.item())
+    }
+
+    /// The same list as it is shared, so that a change may have it too.
+    pub fn shared_list(&self, id: &RegId) -> Option<&SharedList>
+        ensures { option_copied result ≡ list_shown V.item_of self.now id.now }
+    {
+        shared_list_in(self.lists.get(id)?.item())
     }
 }

@@ -72,7 +72,7 @@ impl<V: Version> Items<V> {
 
     /// The list of a regulation.
     fn list(&self, id: &RegId) -> Option<&SlotList>
-        ensures { option_copied result ≡ list_at V.item_of V.number (versions self.now) id.now }
+        ensures { option_copied result ≡ list_at V.item_of (versions self.now) id.now }
     {
         match self.lists.get(id) {
             Some(version) => list_in(version.item()),
@@ -321,8 +321,8 @@ impl<V: Version> Items<V> {
     /// What it reads to list the flights of a regulation.
     fn list_view(&self, alloc: Global, id: &RegId) -> Result<View<V>, AllocError>
         ensures { IfOk result (IsTaken (versions self.now) (named false true
-            (forced_at V.item_of V.number (versions self.now) id.now)
-            (λ q. same_text id.now q || governs_forced_at V.item_of V.number (versions self.now) id.now q))) }
+            (forced_at V.item_of (versions self.now) id.now)
+            (λ q. same_text id.now q || governs_forced_at V.item_of (versions self.now) id.now q))) }
     {
         let mut rows = BTreeMap::new(alloc);
         let mut lists = BTreeMap::new(alloc);

@@ -1,6 +1,6 @@
 //! What a change writes, and what boards and views show of it.
 
-use crate::parts::{apply, clock, comp, key, no_flights, no_row, reg, regulation, row};
+use crate::parts::{apply, clock, comp, key, list_of, no_flights, no_row, reg, regulation, row};
 use casa_commit::World;
 use casa_flight::Call;
 use casa_time::Moment;
@@ -23,7 +23,7 @@ fn twice(alloc: Global) -> Result<Change, Fail> {
     change.set(clock(200)?)?;
     change.set(row(alloc, b"A", 31_000)?)?;
     change.set(no_row(b"B")?)?;
-    change.set(Item::List(reg(b"R1")?, Some(no_flights(alloc)?)))?;
+    change.set(list_of(alloc, b"R1", no_flights(alloc)?)?)?;
     change.set(Item::Catalogue(Catalogue::new(alloc).with(alloc, r1)?))?;
     Ok(change)
 }

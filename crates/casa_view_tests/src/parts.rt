@@ -3,7 +3,7 @@
 use casa_commit::World;
 use casa_flight::{Comp, Crossing, Key, Loc, Plan, RegId, Regulation, Row, Sts};
 use casa_grid::{Grid, Period, Profile};
-use casa_list::SlotList;
+use casa_list::{SharedList, SlotList};
 use casa_time::Moment;
 use casa_view::{Board, Change, Copied, Copies, Item, View};
 use std::alloc::{AllocError, Global};
@@ -64,6 +64,11 @@ pub fn profile(alloc: Global) -> Result<Profile, Fail> {
 pub fn no_flights(alloc: Global) -> Result<SlotList, Fail> {
     let profile = profile(alloc)?;
     Ok(SlotList::new(alloc, Grid::of(alloc, &profile)?)?)
+}
+
+/// The list of this regulation.
+pub fn list_of(alloc: Global, id: &[u8], list: SlotList) -> Result<Item, Fail> {
+    Ok(Item::List(reg(id)?, Some(SharedList::new(alloc, list)?)))
 }
 
 /// The plan of a flight with these crossings: off-block at this second, ten minutes of taxi.

@@ -1,7 +1,8 @@
 //! What each call reads: whose views are the same where an item is written.
 
 use crate::parts::{
-    clock, comp, governed, key, loc, no_flights, over, plan, profile, reg, regulation, row, write,
+    clock, comp, governed, key, list_of, loc, no_flights, over, plan, profile, reg, regulation,
+    row, write,
 };
 use casa_commit::{Room, World};
 use casa_flight::{Call, Comp, Plan};
@@ -11,10 +12,10 @@ use casa_view::{Board, Catalogue, Copied, Copies, Item, View};
 use std::alloc::{AllocError, Global};
 use std::test::Fail;
 
-/// Enters a flight that is not in the list.
+/// Enters a flight that is not governed.
 fn enter(list: &mut SlotList, comp: Comp) -> Result<(), Fail> {
-    if list.stance_of(&comp.key).is_some() {
-        return Err("the flight is there".into());
+    if list.place_of(&comp.key).is_some() {
+        return Err("the flight is governed".into());
     }
     list.enter(comp)?;
     Ok(())
@@ -40,14 +41,14 @@ fn first_list(alloc: Global) -> Result<Item, Fail> {
     let mut list = no_flights(alloc)?;
     enter(&mut list, comp(b"A", 36_010)?)?;
     force(&mut list, comp(b"B", 36_050)?)?;
-    Ok(Item::List(reg(b"R1")?, Some(list)))
+    list_of(alloc, b"R1", list)
 }
 
 /// The list of R2: B competes.
 fn second_list(alloc: Global) -> Result<Item, Fail> {
     let mut list = no_flights(alloc)?;
     enter(&mut list, comp(b"B", 36_300)?)?;
-    Ok(Item::List(reg(b"R2")?, Some(list)))
+    list_of(alloc, b"R2", list)
 }
 
 /// The flight A, which crosses LA and is governed by R1.

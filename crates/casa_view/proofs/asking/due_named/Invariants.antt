@@ -1,5 +1,5 @@
 use Rattle.std.proofs.Common.{◌≡◌, ◌++◌}
-use Rattle.casa_view.specs.Waiting.{due_keys}
+use Rattle.casa_footprint.specs.Finding.{due_keys}
 use Rattle.casa_view.specs.Flights.{rows_named}
 use Rattle.casa_view.proofs.asking.due_named.Given as goal
 

@@ -1,5 +1,5 @@
 use Rattle.std.proofs.Common.{◌≡◌, []}
-use Rattle.casa_view.specs.Passing.{inserted}
+use Rattle.casa_view.proofs.Sequence.{inserted}
 use Rattle.casa_view.proofs.asking.in_order.Given as goal
 
 abbrev pub invariant-loop-key : goal.invariant-loop-key

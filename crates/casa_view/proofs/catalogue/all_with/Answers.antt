@@ -8,4 +8,5 @@ pub returns : goal.returns
 returns c =
     let none = drop_all c.loop-later.later-index c.args.regulations.now c.loop-later-test.false in
     sym (append-nil c.loop-later.all.items)
-    ∙ ap (λ (rs : List Regulation). c.loop-later.all.items ++ after c.args.regulation.id rs) (sym none) ∙ c.loop-later.invariant
+    ∙ ap (λ (rs : List Regulation). c.loop-later.all.items ++ after c.args.regulation.id rs) (sym none)
+    ∙ c.loop-later.invariant

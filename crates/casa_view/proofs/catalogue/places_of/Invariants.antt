@@ -6,4 +6,6 @@ use Rattle.casa_view.proofs.catalogue.places_of.Given as goal
 
 abbrev pub invariant-loop-regulation : goal.invariant-loop-regulation
 invariant-loop-regulation l =
-    (loc : Text) → at_place (λ v. v.items) l.places.entries loc ++ filter (is_over loc) (drop l.regulation-index l.regulations) ≡ filter (is_over loc) l.regulations
+    (loc : Text)
+    → at_place (λ v. v.items) l.places.entries loc ++ filter (is_over loc) (drop l.regulation-index l.regulations)
+    ≡ filter (is_over loc) l.regulations

@@ -13,7 +13,8 @@ returns-then-not-same_version-clause-same g c =
     let there = c.loop-name.invariant.3 name version first in (
       λ f q w e. cc,
       λ h. c.if-not-same_version.ensures.same
-          ∙ (λ i. same_version g.V.Version.is_same (c.get.ensures.value i) (c.as_ref.ensures.value i)) ∙ h name version there,
+          ∙ (λ i. same_version g.V.Version.is_same (c.get.ensures.value i) (c.as_ref.ensures.value i))
+          ∙ h name version there,
     )
 
 pub loop-name-preserved : goal.loop-name-preserved
@@ -33,7 +34,8 @@ loop-name-preserved g c =
       tt,
       tt,
       later-in-order es rest name version steps c.loop-name.invariant.2,
-      λ q w found. c.loop-name.invariant.3 q w (later-found es rest name version steps c.loop-name.invariant.2 q w found),
+      λ q w found. c.loop-name.invariant.3 q w
+          (later-found es rest name version steps c.loop-name.invariant.2 q w found),
       λ q later. c.loop-name.invariant.4 q
           (each-earlier (λ (p : Text) w. (same_version g.V.Version.is_same (at_name table p) w ≡ true)
           × (option_map g.V.Version.item_of (at_name table p) ≡ option_map g.V.Version.item_of w))
@@ -42,4 +44,5 @@ loop-name-preserved g c =
 
 pub returns-clause-shows : goal.returns-clause-shows
 returns-clause-shows g c =
-    λ t q w e. (c.loop-name.invariant.4 q (λ v f. no-later c.loop-name.name-iterator q v c.in-None.ensures.steps.0 f) w e).1
+    λ t q w e.
+    (c.loop-name.invariant.4 q (λ v f. no-later c.loop-name.name-iterator q v c.in-None.ensures.steps.0 f) w e).1

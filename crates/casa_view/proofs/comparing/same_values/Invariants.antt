@@ -10,4 +10,5 @@ invariant-loop-name g l =
     → (same_version g.V.Version.is_same (at_name l.name-iterator q) (at_name l.others q) ≡ true)
     × (option_map g.V.Version.item_of (at_name l.name-iterator q) ≡ option_map g.V.Version.item_of (at_name l.others q))
     → (same_version g.V.Version.is_same (at_name l.ours.entries q) (at_name l.theirs.entries q) ≡ true)
-    × (option_map g.V.Version.item_of (at_name l.ours.entries q) ≡ option_map g.V.Version.item_of (at_name l.theirs.entries q))
+    × (option_map g.V.Version.item_of (at_name l.ours.entries q)
+    ≡ option_map g.V.Version.item_of (at_name l.theirs.entries q))

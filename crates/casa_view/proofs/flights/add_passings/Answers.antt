@@ -13,7 +13,8 @@ loop-crossing-preserved c =
     ∙ ap (λ (x : Crossing). x ∷ drop (i + 1) c.args.via.now) (sym c.crossing-item.is) in (
       λ p h. c.add_passing.ensures.stays p (c.loop-crossing.invariant.0 p h),
       λ ps more rest. c.loop-crossing.invariant.1 ps (λ p h. more p (c.add_passing.ensures.stays p h))
-          (subst (HaveVia ps c.args.key) (sym next) (more (passing c.args.key it) c.in_ok-add_passing.ensures.added, rest)),
+          (subst (HaveVia ps c.args.key) (sym next)
+          (more (passing c.args.key it) c.in_ok-add_passing.ensures.added, rest)),
     )
 
 pub returns-in_err-add_passing-clause-stays : goal.returns-in_err-add_passing-clause-stays

@@ -15,4 +15,6 @@ loop-name-preserved g c = (
 
 pub returns-clause-kept : goal.returns-clause-kept
 returns-clause-kept g c =
-    λ q. kept-none _ _ (ap (λ es. option_or (at_name c.loop-name.changes.entries q) (at_name es q)) (sym c.in-None.ensures.steps.0) ∙ c.loop-name.invariant.1 q)
+    λ q. kept-none _ _
+    (ap (λ es. option_or (at_name c.loop-name.changes.entries q) (at_name es q)) (sym c.in-None.ensures.steps.0)
+    ∙ c.loop-name.invariant.1 q)

@@ -7,4 +7,6 @@ use Rattle.casa_view.proofs.table.keep_others.Given as goal
 abbrev pub invariant-loop-name : goal.invariant-loop-name
 invariant-loop-name g l =
     AreInOrder l.changes.entries ×
-    ((q : Text) → option_or (at_name l.changes.entries q) (at_name l.name-iterator q) ≡ option_or (at_name l.initial.changes.entries q) (at_name l.earlier.entries q))
+    ((q : Text)
+    → option_or (at_name l.changes.entries q) (at_name l.name-iterator q)
+    ≡ option_or (at_name l.initial.changes.entries q) (at_name l.earlier.entries q))

@@ -9,7 +9,8 @@ returns-clause-room g c =
     let version = g.K.Version.Version in
     on_ok_weaker c.fit-2.result
     (λ lists_are.
-    turned version.item_of version.number c.args.number c.args.change.now _ _ c.in_ok-items.field-0 c.in_ok-items-2.field-0
+    turned version.item_of version.number c.args.number c.args.change.now _ _ c.in_ok-items.field-0
+    c.in_ok-items-2.field-0
     c.in_ok-rows.rows.entries c.in_ok-lists.lists.entries
     (record {
       rows = subst (λ es. AreInOrder es) (sym c.fit.ensures.same) c.requires.rows;

@@ -15,10 +15,13 @@ loop-id-preserved g c =
     let rest = c.next.new.self in
     let here : c.loop-id.id-iterator ≡ (name, item) ∷ rest =
     rest_more deref_pair _ _ _ (c.in-Some.id, c.in-Some.item) c.in-Some.is c.next.ensures.steps in
-    let so_far : c.into_iter-id-iterator.result ≡ done ++ c.loop-id.id-iterator = rest_so_far deref_pair xs _ _ c.loop-id.yielded_by in
+    let so_far : c.into_iter-id-iterator.result ≡ done ++ c.loop-id.id-iterator =
+    rest_so_far deref_pair xs _ _ c.loop-id.yielded_by in
     let start : c.into_iter-id-iterator.result ≡ c.args.items.now.entries = search rules in
-    let all : c.args.items.now.entries ≡ done ++ (name, item) ∷ rest = sym start ∙ so_far ∙ ap (λ es. done ++ es) here in
-    let sorted : AreInOrder (done ++ (name, item) ∷ rest) = subst (λ es. AreInOrder es) all c.iter-id-items.ensures.ordered in
+    let all : c.args.items.now.entries ≡ done ++ (name, item) ∷ rest =
+    sym start ∙ so_far ∙ ap (λ es. done ++ es) here in
+    let sorted : AreInOrder (done ++ (name, item) ∷ rest) =
+    subst (λ es. AreInOrder es) all c.iter-id-items.ensures.ordered in
     let more = alike_next _ done c.loop-id.versions.entries name item c.in_ok-version.version rest sorted
     c.in_ok-version.ensures c.loop-id.invariant.3 in (
       tt,

@@ -2,7 +2,7 @@ use Rattle.std.proofs.Common.{◌∙◌}
 use Rattle.casa_flight.specs.Text.{at_name}
 use Rattle.casa_view.specs.Laid.{laid}
 use Rattle.casa_view.specs.Passing.{over_row}
-use Rattle.casa_view.specs.Flights.{row_at}
+use Rattle.casa_view.specs.Flights.{row_where}
 use Rattle.casa_view.proofs.Over.{row_over}
 use Rattle.casa_view.proofs.LaidFound.{all_asked}
 use Rattle.casa_view.proofs.asking.Shared+OfFlight+V+FlightIndex.found_over.Goals as goal
@@ -10,7 +10,7 @@ use Rattle.casa_view.proofs.asking.Shared+OfFlight+V+FlightIndex.found_over.Goal
 pub returns : goal.returns
 returns g c =
     let found =
-    row_over c.args.regulation.now c.later-end.result (row_at g.V.Version.item_of (at_name c.deref-2.result.now))
+    row_over c.args.regulation.now c.later-end.result (row_where g.V.Version.item_of (at_name c.deref-2.result.now))
     c.passings.result.now.keys c.later-end.ensures.other c.passings.ensures.passings in
     all_asked g.V.Version.item_of (over_row c.args.regulation.now) c.deref.result.now.entries c.deref-2.result.now _
     c.passings.ensures.ordered found

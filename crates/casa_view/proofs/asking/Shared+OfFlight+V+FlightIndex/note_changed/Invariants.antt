@@ -1,6 +1,6 @@
 use Rattle.std.proofs.Common.{◌≡◌}
 use Rattle.std.specs.Map.{keys_of}
-use Rattle.casa_view.specs.Gathered.{gathered}
+use Rattle.casa_view.proofs.Gathered.{gathered}
 use Rattle.casa_view.specs.Flights.{rows_of}
 use Rattle.casa_view.specs.Asking.{answer}
 use Rattle.casa_view.proofs.asking.Shared+OfFlight+V+FlightIndex.note_changed.Given as goal
@@ -8,4 +8,5 @@ use Rattle.casa_view.proofs.asking.Shared+OfFlight+V+FlightIndex.note_changed.Gi
 abbrev pub invariant-loop-key : goal.invariant-loop-key
 invariant-loop-key g l =
     gathered (answer l.question) (rows_of g.V.Version.item_of l.self) l.found.entries (keys_of l.key-iterator)
-    ≡ gathered (answer l.question) (rows_of g.V.Version.item_of l.self) l.initial.found.entries (keys_of l.changes.entries)
+    ≡ gathered (answer l.question) (rows_of g.V.Version.item_of l.self) l.initial.found.entries
+    (keys_of l.changes.entries)

@@ -1,5 +1,5 @@
 use Rattle.std.proofs.Common.{◌≡◌}
-use Rattle.casa_view.specs.Gathered.{gathered}
+use Rattle.casa_view.proofs.Gathered.{gathered}
 use Rattle.casa_view.specs.Flights.{rows_of}
 use Rattle.casa_view.specs.Passing.{over_row, in_span, names}
 use Rattle.casa_view.proofs.asking.Shared+OfFlight+V+FlightIndex.note_passing.Given as goal

@@ -10,6 +10,7 @@ invariant_of-self g c =
     let items = c.args.self.now.items in
     record {
       orderly = subst (IsOrderly version.item_of) (sym c.turn.ensures)
-          (orderly_kept version.item_of version.number (says c.args._change) c.args._number (versions items) (next_versions items)
+          (orderly_kept version.item_of version.number (says c.args._change) c.args._number (versions items)
+          (next_versions items)
           c.requires c.args.self.now.orderly);
     }

@@ -6,7 +6,8 @@ pub returns-clause-for_call : goal.returns-clause-for_call
 returns-clause-for_call g c =
     let version = g.K.Version.Version in
     let board = c.args.self.now in
-    read_for version.item_of version.number (versions board.items) board.orderly.in_order.rows c.args.call.now c.in_ok-view.view
+    read_for version.item_of version.number
+    (versions board.items) board.orderly.in_order.rows c.args.call.now c.in_ok-view.view
     c.in_ok-view.ensures
 
 pub returns-clause-current : goal.returns-clause-current
@@ -20,5 +21,6 @@ pub returns-clause-shown : goal.returns-clause-shown
 returns-clause-shown g c =
     let version = g.K.Version.Version in
     let board = c.args.self.now in
-    read_shows version.item_of version.number (versions board.items) board.orderly.in_order.rows c.args.call.now c.in_ok-view.view
+    read_shows version.item_of version.number
+    (versions board.items) board.orderly.in_order.rows c.args.call.now c.in_ok-view.view
     c.in_ok-view.ensures

@@ -7,7 +7,8 @@ use Rattle.std.proofs.lemmas.Fn.{always_returns_same}
 use Rattle.casa_flight.specs.declared.regulation.Regulation.{Regulation}
 use Rattle.casa_flight.specs.Text.{at_name}
 use Rattle.casa_flight.proofs.Entries.{text_cmp}
-use Rattle.casa_view.specs.Crossed.{by_id, AreListed}
+use Rattle.casa_footprint.specs.Finding.{by_id}
+use Rattle.casa_view.specs.Crossed.{AreListed}
 use Rattle.casa_view.proofs.Listed.{searchable, found_at, none_found}
 use Rattle.casa_view.proofs.catalogue.Catalogue.get.Goals as goal
 
@@ -17,7 +18,8 @@ returns-in-Ok-clause-regulation c =
     let rs = c.self.inside.regulations.items in
     let at = c.in-Ok.ensures.position cmp (always_returns_same _ _ _ (λ a r f' k. search rules)) in
     let here : cmp (get_or rs c.in-Ok.at c.index.result.now) ≡ Equal =
-    subst (λ (ss : List Regulation). cmp (get_or ss c.in-Ok.at c.index.result.now) ≡ Equal) c.deref.ensures.value (at c.index.result.now) in
+    subst (λ (ss : List Regulation). cmp (get_or ss c.in-Ok.at c.index.result.now) ≡ Equal) c.deref.ensures.value
+    (at c.index.result.now) in
     let below : c.in-Ok.at < length rs =
     subst (λ (ss : List Regulation). c.in-Ok.at < length ss) c.deref.ensures.value c.in-Ok.ensures.bound in
     ap Some c.index.ensures
@@ -30,7 +32,8 @@ returns-in-Err-clause-regulation c =
     let is = c.deref.ensures.value ∙ c.self.view_is in
     let at = c.in-Err.ensures.position cmp (always_returns_same _ _ _ (λ a r f' k. search rules)) in
     let there = subst (λ (rs : List Regulation). IsNonDecreasingBy (λ (r : Regulation). ordering_index (cmp r)) rs
-    → IsPartitionPoint (λ (r : Regulation). cmp r ≡ Less) (λ (r : Regulation). cmp r ≡ Greater) rs c.in-Err.field-0) is at in
+    → IsPartitionPoint (λ (r : Regulation). cmp r ≡ Less)
+    (λ (r : Regulation). cmp r ≡ Greater) rs c.in-Err.field-0) is at in
     let listed = subst AreListed c.self.view_is c.self.invariant.listed in
     sym (none_found c.args.id.now c.args.self.now c.in-Err.field-0
     (there (searchable c.args.id.now c.args.self.now listed)))

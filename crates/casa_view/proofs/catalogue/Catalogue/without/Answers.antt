@@ -1,7 +1,8 @@
 use Rattle.std.proofs.Common.{◌≡◌, subst, sym, ◌∙◌, ap}
 use Rattle.std.proofs.lemmas.Result.{IfOk-weaker}
 use Rattle.casa_flight.specs.Text.{without}
-use Rattle.casa_view.specs.Crossed.{by_id, others, AreListed}
+use Rattle.casa_footprint.specs.Finding.{by_id}
+use Rattle.casa_view.specs.Crossed.{others, AreListed}
 use Rattle.casa_view.proofs.Listed.{without_is, without_listed}
 use Rattle.casa_view.proofs.catalogue.Catalogue.without.Goals as goal
 

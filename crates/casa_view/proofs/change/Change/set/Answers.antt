@@ -34,5 +34,6 @@ returns-in_ok-insert-in-List-clause-set c i =
     let shared = c.in_ok-item.item in
     let kept : arc_value shared ≡ c.args.item = c.in_ok-item.ensures.ok in
     let is : arc_value shared ≡ ListOf c.in-List.id c.in-List.field-1 = sym c.deref.ensures ∙ c.in-List.is in
-    list_said d c.insert-in-List.new.self c.in-List.id c.in-List.field-1 shared is c.in_ok-insert-in-List.ensures.entries i
+    list_said d c.insert-in-List.new.self c.in-List.id c.in-List.field-1 shared is
+    c.in_ok-insert-in-List.ensures.entries i
     ∙ ap (λ (item : Item). if is_item (name_of item) i then Some (content_of item) else says d i) (sym is ∙ kept)

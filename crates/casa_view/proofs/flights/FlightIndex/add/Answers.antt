@@ -24,7 +24,10 @@ returns-clause-stays c = λ at h. record {
 
 pub returns-clause-added : goal.returns-clause-added
 returns-clause-added c = λ at h. record {
-  waiting = added_departure c.args.key c.args.row.now at _ _ c.add_departure.ensures.stays c.in_ok-add_departure.ensures.added h.waiting;
+  waiting =
+      added_departure c.args.key c.args.row.now at _ _ c.add_departure.ensures.stays
+      c.in_ok-add_departure.ensures.added h.waiting;
   passings = added_passings c.args.key c.args.row.now at _ _ c.add_passings.ensures.stays
-      (subst (HaveVia c.add_passings.new.passings.keys c.args.key) c.via.ensures c.in_ok-add_passings.ensures.added) h.passings;
+      (subst (HaveVia c.add_passings.new.passings.keys c.args.key) c.via.ensures c.in_ok-add_passings.ensures.added)
+      h.passings;
 }

@@ -14,7 +14,8 @@ returns-then-ne c = λ at there h. record {
 }
 
 pub returns-else-ne : goal.returns-else-ne
-returns-else-ne c = λ at there h. record { waiting = c.take_departure.ensures at there h.waiting; passings = h.passings }
+returns-else-ne c =
+    λ at there h. record { waiting = c.take_departure.ensures at there h.waiting; passings = h.passings }
 
 pub returns-in-None : goal.returns-in-None
 returns-in-None c = λ at there h. record {

@@ -11,12 +11,11 @@ pub returns : goal.returns
 returns g c =
     let vs = versions c.args.self.now in
     let item_of = g.V.Version.item_of in
-    let number = g.V.Version.number in
     let id = c.args.id.now in
-    let governs = governs_forced_at item_of number vs id in
+    let governs = governs_forced_at item_of vs id in
     let row : Text → Text → Bool = λ q k. same_text k q in
     let list : Text → Text → Bool = λ q k. is_of (governing_at item_of vs k) q in
-    let rows : Sees vs.rows (forced_at item_of number vs id) c.see_forced.new.rows.entries =
+    let rows : Sees vs.rows (forced_at item_of vs id) c.see_forced.new.rows.entries =
     sees_same vs.rows _ _ _ (λ q. ap (λ (l : Option Listing). has_forced (row q) l) c.list.ensures)
     (sees_last vs.rows _ _ (c.in_ok-see_forced.ensures.rows (λ q. false)
     (sees_nothing vs.rows _ c.new-rows.ensures.empty))) in
@@ -25,6 +24,6 @@ returns g c =
     (sees_last vs.lists _ _ (c.in_ok-see_forced.ensures.lists (λ q. false)
     (sees_nothing vs.lists _ c.new-lists.ensures.empty))) in
     IfOk-weaker c.view_with.result _ _
-    (λ v taken. taken (forced_at item_of number vs id) (λ q. same_text id q || governs q) rows
+    (λ v taken. taken (forced_at item_of vs id) (λ q. same_text id q || governs q) rows
     (c.in_ok-see_list.ensures governs lists))
     c.view_with.ensures

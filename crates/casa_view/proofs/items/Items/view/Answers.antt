@@ -6,7 +6,8 @@ use Rattle.casa_footprint.specs.Items.{ItemName}
 use Rattle.casa_view.specs.Versions.{regulations_of}
 use Rattle.casa_view.specs.Board.{versions}
 use Rattle.casa_view.specs.Taking.{meets_either, is_of, named, plan_at, governing_at, forced_at, governs_forced_at}
-use Rattle.casa_view.proofs.WhatIsRead.{is_read, file_reads, amend_reads, cancel_reads, revise_reads, exempt_reads, rates_reads, show_reads, list_reads}
+use Rattle.casa_view.proofs.WhatIsRead.{is_read, file_reads, amend_reads, cancel_reads, revise_reads, exempt_reads}
+use Rattle.casa_view.proofs.WhatIsRead.{rates_reads, show_reads, list_reads}
 use Rattle.casa_view.proofs.items.Items.view.Goals as goal
 
 pub returns-in-File : goal.returns-in-File
@@ -45,7 +46,8 @@ returns-in-Cancel g c =
     let number = g.V.Version.number in
     let regs = regulations_of (item_of vs.catalogue) in
     let key = c.in-Cancel.key in
-    let test : Option FlightPlan → ItemName → Bool = λ old. named false true (same_text key) (meets_either regs old None) in
+    let test : Option FlightPlan → ItemName → Bool =
+    λ old. named false true (same_text key) (meets_either regs old None) in
     is_read item_of number vs _ _ c.in-Cancel.is
     (test (option_copied c.plan-in-Cancel.result))
     _ c.flight_view-in-Cancel.ensures
@@ -59,7 +61,8 @@ returns-in-Revise g c =
     let number = g.V.Version.number in
     let regs = regulations_of (item_of vs.catalogue) in
     let key = c.in-Revise.key in
-    let test : Option FlightPlan → ItemName → Bool = λ old. named true true (same_text key) (meets_either regs old None) in
+    let test : Option FlightPlan → ItemName → Bool =
+    λ old. named true true (same_text key) (meets_either regs old None) in
     is_read item_of number vs _ _ c.in-Revise.is
     (test (option_copied c.plan-in-Revise.result))
     _ c.flight_view-in-Revise.ensures
@@ -73,7 +76,8 @@ returns-in-Exempt g c =
     let number = g.V.Version.number in
     let regs = regulations_of (item_of vs.catalogue) in
     let key = c.in-Exempt.key in
-    let test : Option FlightPlan → ItemName → Bool = λ old. named false true (same_text key) (meets_either regs old None) in
+    let test : Option FlightPlan → ItemName → Bool =
+    λ old. named false true (same_text key) (meets_either regs old None) in
     is_read item_of number vs _ _ c.in-Exempt.is
     (test (option_copied c.plan-in-Exempt.result))
     _ c.flight_view-in-Exempt.ensures
@@ -123,6 +127,6 @@ returns-in-List g c =
     let number = g.V.Version.number in
     let id = c.in-List.id in
     is_read item_of number vs _ _ c.in-List.is
-    (named false true (forced_at item_of number vs id) (λ q. same_text id q || governs_forced_at item_of number vs id q))
+    (named false true (forced_at item_of vs id) (λ q. same_text id q || governs_forced_at item_of vs id q))
     _ c.list_view.ensures
     (λ well i. list_reads item_of number vs c.requires.rows well id i)

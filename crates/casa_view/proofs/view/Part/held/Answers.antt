@@ -7,6 +7,7 @@ use Rattle.casa_view.proofs.view.Part.held.Goals as goal
 pub returns-in-All : goal.returns-in-All
 returns-in-All g c =
     ap (rows_named g.V.Version.item_of) c.over.ensures
-    ∙ rows-overlaid g.V.Version.item_of c.layers.result.1.now.entries c.layers.result.0.now.entries c.layers.ensures.ordered.0
+    ∙ rows-overlaid g.V.Version.item_of c.layers.result.1.now.entries c.layers.result.0.now.entries
+    c.layers.ensures.ordered.0
     ∙ ap (rows_of g.V.Version.item_of) c.layers.ensures.laid
     ∙ ap (rows_in g.V.Version.item_of) (sym c.in-All.is)

@@ -1,0 +1,21 @@
+use Rattle.std.specs.Prelude.{ℕ, List, map, Option, None, Some, if◌then◌else◌}
+use Rattle.std.specs.Option.{option_map}
+use Rattle.std.specs.List.{filter_map}
+use Rattle.casa_flight.specs.declared.regulation.Regulation.{Regulation}
+use Rattle.casa_flight.specs.declared.row.Row.{Row}
+use Rattle.casa_flight.specs.Text.{Text}
+use Rattle.casa_flight.specs.FlightPlan.{FlightPlan}
+use Rattle.casa_flight.specs.State.{subject}
+use Rattle.casa_flight.specs.Entry.{is_to_issue}
+
+-- the regulations to which a plan is subject, with its time over, in their order
+abbrev pub crossed : FlightPlan → List Regulation → List (Text × ℕ)
+crossed plan rs = filter_map (λ (r : Regulation). option_map (λ (eto : ℕ). (r.id, eto)) (subject plan r)) rs
+
+-- the keys of the flights that are governed, due and not issued, in the order of the rows
+abbrev pub due_keys : ℕ → List (Text × Row) → List Text
+due_keys at rows = filter_map (λ (e : Text × Row). if is_to_issue at e.1 then Some e.0 else None) rows
+
+-- regulations under their identifiers
+abbrev pub by_id : List Regulation → List (Text × Regulation)
+by_id rs = map (λ (r : Regulation). (r.id, r)) rs
