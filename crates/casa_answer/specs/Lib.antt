@@ -1,0 +1,10 @@
+pub mod Sight
+pub mod OneFlight
+pub mod FlightCalls
+pub mod Told
+pub mod Enter
+pub mod Opening
+pub mod NewRates
+pub mod Issue
+pub mod Look
+pub mod Closing

@@ -1,0 +1,100 @@
+use Rattle.std.specs.Prelude.{ℕ, ◌+◌, List, [], ◌∷◌, map, Bool, ◌||◌, Option, None, Some, is_some, if◌then◌else◌}
+use Rattle.std.specs.Option.{option_map, option_map_or}
+use Rattle.std.specs.List.{filter_map, fold, cons_option}
+use Rattle.casa_flight.specs.declared.regulation.Regulation.{Regulation}
+use Rattle.casa_flight.specs.declared.reply.Answer.TheVariants.{Flight}
+use Rattle.casa_flight.specs.declared.reply.Reply.{Reply}
+use Rattle.casa_flight.specs.declared.reply.Reply.TheVariants.{Answered}
+use Rattle.casa_flight.specs.declared.row.Row.{Row}
+use Rattle.casa_flight.specs.declared.row.Stance.{Stance}
+use Rattle.casa_flight.specs.Text.{Text, at_name, put, without}
+use Rattle.casa_flight.specs.FlightPlan.{FlightPlan, etot}
+use Rattle.casa_flight.specs.State.{is_exempt, is_gone, is_governed_by}
+use Rattle.casa_flight.specs.Listing.{Listing, stance}
+use Rattle.casa_flight.specs.Entry.{Offer, offer_in, most_penalising, governed}
+use Rattle.casa_flight.specs.Replies.{flight_with, message_of, is_issued}
+use Rattle.casa_footprint.specs.Finding.{crossed}
+use Rattle.casa_answer.specs.Sight.{Sight, Written, clock_in, regulations_in}
+use Rattle.casa_answer.specs.Told.{ctot_by}
+
+-- what these regulations offer a flight with these times over, each by its list
+abbrev pub offers_of : (Text → Option Listing) → Text → List (Text × ℕ) → List Offer
+offers_of lists key over = filter_map (λ (e : Text × ℕ). offer_in e.0 key (lists e.0) (Some e.1)) over
+
+-- the most penalising offer of the regulations to which the plan is subject
+abbrev pub best_offer : Sight → Text → FlightPlan → Option Offer
+best_offer v key plan = most_penalising (offers_of v.list key (crossed plan (regulations_in v)))
+
+-- the offer that an ungoverned flight takes as it enters: exempt or gone it takes none
+abbrev pub entry_offer : Sight → Text → Row → Option Offer
+entry_offer v key row = if is_exempt row || is_gone (clock_in v) row.plan then None else best_offer v key row.plan
+
+-- the flight with the offer that it takes, if there is one
+abbrev pub with_offer : ℕ → Row → Option Offer → Row
+with_offer clock row o = option_map_or (governed clock row) o row
+
+-- the delay that an offer is, and none without one
+abbrev pub offered_delay : Option Offer → ℕ
+offered_delay o = option_map_or (λ (o : Offer). o.delay) o 0
+
+-- the list with the flight standing so, or not at all
+abbrev pub with_flight : Listing → Text → Option Stance → Listing
+with_flight l key None = record l { flights = without l.flights key }
+with_flight l key (Some s) = record l { flights = put l.flights key s }
+
+-- the list that is shown under an identifier, with the flight standing so or not at all
+abbrev pub relisted : Sight → Text → Text → Option Stance → Option Listing
+relisted v key id s = option_map (λ (l : Listing). with_flight l key s) (v.list id)
+
+-- lists by their identifiers, each there or not, and how a flight is to stand in lists
+abbrev pub Lists : Type 0
+Lists = List (Text × Option Listing)
+
+abbrev pub Stances : Type 0
+Stances = List (Text × Option Stance)
+
+-- these lists, and in their turn those in which the flight is to stand so or not at all
+abbrev pub put_lists : Sight → Text → Lists → Stances → Lists
+put_lists v key lists stances =
+    fold (λ (ls : Lists) (e : Text × Option Stance). put ls e.0 (relisted v key e.0 e.1)) lists stances
+
+-- the regulations to which a flight is subject, with its time over, if there is a flight
+abbrev pub crossed_by : List Regulation → Option Row → List (Text × ℕ)
+crossed_by rs row = option_map_or (λ (f : Row). crossed f.plan rs) row []
+
+-- a flight stands no longer in the lists that it had and has not now
+abbrev pub left : List (Text × ℕ) → List (Text × ℕ) → Stances
+left had has =
+    filter_map (λ (e : Text × ℕ). if is_some (at_name has e.0) then None else Some (e.0, None)) had
+
+-- and it stands in each that it has as it is governed and issued
+abbrev pub standing : Option Row → List (Text × ℕ) → Stances
+standing None has = []
+standing (Some row) has =
+    map (λ (e : Text × ℕ). (e.0, Some (stance (is_governed_by e.0 row) row.issued e.1))) has
+
+-- the lists of a flight that stood so and now stands so
+abbrev pub lists_after : Sight → Text → Option Row → Option Row → Lists
+lists_after v key was now =
+    let had : List (Text × ℕ) = crossed_by (regulations_in v) was in
+    let has : List (Text × ℕ) = crossed_by (regulations_in v) now in
+    put_lists v key (put_lists v key [] (left had has)) (standing now has)
+
+-- what is written where a flight stood so and now stands so: its row and its lists
+abbrev pub flight_written : Sight → Text → Option Row → Option Row → Written
+flight_written v key was now =
+    record { clock = None; catalogue = None; rows = (key, now) ∷ []; lists = lists_after v key was now }
+
+-- the reply with this flight and its message, by whether it was issued before and its calculated take-off time then
+abbrev pub flight_told : Text → Row → ℕ → Bool → ℕ → Reply
+flight_told key row delay was before =
+    Answered (Flight (flight_with key row delay))
+    (cons_option (message_of key row.governing was (is_some row.issued) before (etot row.plan + delay)) [])
+
+-- the calculated take-off time that a flight is shown with, and midnight for no flight
+abbrev pub ctot_shown_if : Sight → Text → Option Row → ℕ
+ctot_shown_if v key was = option_map_or (ctot_by v.list key) was 0
+
+-- the reply where a flight stood so, and now stands so with this delay
+abbrev pub told : Sight → Text → Option Row → Row → ℕ → Reply
+told v key was row delay = flight_told key row delay (is_issued was) (ctot_shown_if v key was)

@@ -1,0 +1,42 @@
+//! Laws of the answers to the calls that open and close a regulation.
+
+ghost use Rattle.std.specs.Prelude.{◌≡◌, List, Bool, true, false, Option, Some};
+ghost use Rattle.std.specs.Option.{option_map_or};
+ghost use Rattle.std.specs.List.{AllByRecursion, filter};
+ghost use Rattle.casa_grid.specs.declared.period.Period.{Period};
+ghost use Rattle.casa_flight.specs.declared.call.Call.{Call};
+ghost use Rattle.casa_flight.specs.declared.comp.Comp.{Comp};
+ghost use Rattle.casa_flight.specs.declared.regulation.Regulation.{Regulation};
+ghost use Rattle.casa_flight.specs.declared.row.Row.{Row};
+ghost use Rattle.casa_flight.specs.Text.{Text};
+ghost use Rattle.casa_flight.specs.Good.{AreInOrder};
+ghost use Rattle.casa_flight.specs.Listing.{kept};
+ghost use Rattle.casa_flight.specs.Steps.{flights_over};
+ghost use Rattle.casa_answer.specs.Sight.{Sight, IsPlanned};
+ghost use Rattle.casa_answer.specs.Opening.{forced_over, all_forced, open_reg};
+ghost use Rattle.casa_answer.specs.Closing.{close_reg};
+
+/// The answer to a regulation that opens.
+pub fn open_is_planned()
+    ensures { (v : Sight) (id loc : Text) (profile : List Period) →
+        IsPlanned v (Call.OpenReg id loc profile) (open_reg v id loc profile) }
+{}
+
+/// The answer to a regulation that closes.
+pub fn close_is_planned()
+    ensures { (v : Sight) (id : Text) → IsPlanned v (Call.CloseReg id) (close_reg v id) }
+{}
+
+/// The flights over a regulation that pass a test are those of all flights over it whose rows pass it.
+pub fn newcomers_are_among_all()
+    ensures { (at : Text → Option Row) (test : Row → Bool) (r : Regulation) (rows : List (Text × Row)) →
+        AllByRecursion (λ (e : Text × Row). at e.0 ≡ Some e.1) rows →
+        filter (λ (c : Comp). option_map_or test (at c.key) false) (flights_over (λ (row : Row). true) r rows)
+        ≡ flights_over test r rows }
+{}
+
+/// The flights over a regulation, by keys and each forced, are those of its list when it governs nobody yet.
+pub fn new_list_has_all_forced()
+    ensures { (r : Regulation) (rows : List (Text × Row)) → AreInOrder rows →
+        all_forced (flights_over (λ (row : Row). true) r rows) ≡ kept (forced_over r) rows }
+{}

@@ -1,0 +1,28 @@
+//! Laws of the answers to new rates, to the clock and to the question for a list, each on a function that does nothing.
+
+ghost use Rattle.std.specs.Prelude.{ℕ, List};
+ghost use Rattle.casa_grid.specs.declared.period.Period.{Period};
+ghost use Rattle.casa_flight.specs.declared.call.Call.{Call};
+ghost use Rattle.casa_flight.specs.Text.{Text};
+ghost use Rattle.casa_answer.specs.Sight.{Sight, IsPlanned};
+ghost use Rattle.casa_answer.specs.NewRates.{rates};
+ghost use Rattle.casa_answer.specs.Issue.{tick, AreValid};
+ghost use Rattle.casa_answer.specs.Look.{list};
+
+/// What is answered to new rates, by what a view shows, is the answer in every good state of which the view shows what
+/// the call reads.
+pub fn rates_is_planned()
+    ensures { (v : Sight) (id : Text) (profile : List Period) →
+        IsPlanned v (Call.Rates id profile) (rates v id profile) }
+{}
+
+/// And so is what is answered to the clock, where the lists in which it issues flights have valid profiles: issued one
+/// by one, each keeps the time that it had before all of them.
+pub fn tick_is_planned()
+    ensures { (v : Sight) (at : ℕ) → AreValid v at → IsPlanned v (Call.Tick at) (tick v at) }
+{}
+
+/// And so is what is answered to the question for a list.
+pub fn list_is_planned()
+    ensures { (v : Sight) (id : Text) → IsPlanned v (Call.List id) (list v id) }
+{}
