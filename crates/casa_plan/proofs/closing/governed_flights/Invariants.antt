@@ -1,0 +1,11 @@
+use Rattle.std.proofs.Common.{◌≡◌, ◌++◌}
+use Rattle.std.specs.List.{filter_map}
+use Rattle.casa_flight.specs.declared.row.Stance.{Stance}
+use Rattle.casa_flight.specs.Text.{Text}
+use Rattle.casa_answer.specs.Closing.{governed_comp}
+use Rattle.casa_plan.proofs.closing.governed_flights.Given as goal
+
+abbrev pub invariant-loop-key : goal.invariant-loop-key
+invariant-loop-key l =
+    l.comps.items ++ filter_map (λ (e : Text × Stance). governed_comp e.0 e.1) l.key-iterator
+    ≡ filter_map (λ (e : Text × Stance). governed_comp e.0 e.1) l.list.flights

@@ -1,0 +1,12 @@
+use Rattle.std.proofs.Common.{◌≡◌, ◌++◌, false}
+use Rattle.std.specs.Option.{option_map_or}
+use Rattle.std.specs.List.{filter}
+use Rattle.casa_flight.specs.declared.comp.Comp.{Comp}
+use Rattle.casa_flight.specs.Steps.{may_compete}
+use Rattle.casa_plan.specs.Seen.{sight}
+use Rattle.casa_plan.proofs.opening.newcomers.Given as goal
+
+abbrev pub invariant-loop-comp : goal.invariant-loop-comp
+invariant-loop-comp g l =
+    l.new.items ++ filter (λ (c : Comp). option_map_or (may_compete l.clock) ((sight g.V.Version.item_of l.view).row c.key) false) l.comp-iterator
+    ≡ filter (λ (c : Comp). option_map_or (may_compete l.clock) ((sight g.V.Version.item_of l.view).row c.key) false) l.comps.keys

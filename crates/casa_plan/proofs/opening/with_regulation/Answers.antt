@@ -1,0 +1,15 @@
+use Rattle.std.proofs.Common.{[], ap, ◌∙◌, unwrap_or}
+use Rattle.std.proofs.lemmas.Result.{IfOk-weaker}
+use Rattle.casa_answer.specs.Opening.{with_regulation}
+use Rattle.casa_plan.proofs.Opened.{with_as}
+use Rattle.casa_plan.proofs.opening.with_regulation.Goals as goal
+
+pub returns-in-Some : goal.returns-in-Some
+returns-in-Some g c =
+    IfOk-weaker c.with.result _ _
+    (λ all h. with_as all c.in-Some.catalogue.now c.args.regulation h ∙ ap (with_regulation c.args.regulation) (ap (λ o. unwrap_or o []) c.in-Some.ensures)) c.with.ensures
+
+pub returns-in-None : goal.returns-in-None
+returns-in-None g c =
+    IfOk-weaker c.with-in-None-2.result _ _
+    (λ all h. with_as all c.new.result c.args.regulation h ∙ ap (with_regulation c.args.regulation) (c.new.ensures ∙ ap (λ o. unwrap_or o []) c.in-None.ensures)) c.with-in-None-2.ensures

@@ -1,0 +1,148 @@
+//! The planner of a regulation that closes.
+
+ghost use Rattle.std.specs.Prelude.{◌≡◌, [], List, IfOk, OnOk, option_copied};
+ghost use Rattle.std.specs.List.{filter_map};
+ghost use Rattle.casa_flight.specs.declared.row.Stance.{Stance};
+ghost use Rattle.casa_flight.specs.Text.{Text};
+ghost use Rattle.casa_answer.specs.Sight.{regulations_in};
+ghost use Rattle.casa_answer.specs.OneFlight.{crossed_by};
+ghost use Rattle.casa_answer.specs.Closing.{without_regulation, governed_comp, governed_flights};
+ghost use Rattle.casa_answer.specs.Closing.{with_lists_of, with_lists, after_closing, close_reg};
+ghost use Rattle.casa_plan.specs.Seen.{sight};
+
+use crate::draft::Draft;
+use crate::entering::enter_all;
+use crate::flight_lists::Crossings;
+use crate::replies::{done, refused};
+use crate::sighted::clock;
+use casa_flight::{Comp, Key, Refusal, RegId, Reply, Row, Stance, sort_comps};
+use casa_list::SlotList;
+use casa_view::{Catalogue, Version, View};
+use std::alloc::{AllocError, Global};
+use std::collections::BTreeMap;
+
+/// The catalogue of what a view shows, but for one regulation. `AllocError` where there is no memory for it.
+fn without_regulation<V: Version>(
+    alloc: Global,
+    view: &View<V>,
+    id: &RegId,
+) -> Result<Catalogue, AllocError>
+    ensures { IfOk result (λ all. all ≡ without_regulation id.now (regulations_in (sight V.item_of view.now))) }
+{
+    match view.catalogue() {
+        Some(catalogue) => catalogue.without(alloc, id),
+        None => Ok(Catalogue::new(alloc)),
+    }
+}
+
+/// The time over of a flight that a list governs.
+fn governed_comp(key: Key, stance: &Stance) -> Option<Comp>
+    ensures { result ≡ governed_comp key stance.now }
+{
+    match *stance {
+        Stance::Competing { eto } | Stance::Issued { eto, .. } => Some(Comp { eto, key }),
+        Stance::Forced { .. } => None,
+    }
+}
+
+/// The flights that a list governs, by time over and key. `AllocError` where there is no memory for them.
+fn governed_flights(alloc: Global, list: &SlotList) -> Result<Vec<Comp>, AllocError>
+    ensures { IfOk result (λ comps. comps.items ≡ governed_flights list.now) }
+{
+    let mut comps = Vec::new(alloc);
+    for (key, stance) in list.flights() {
+        if let Some(comp) = governed_comp(*key, stance) {
+            comps.push(comp)?;
+        }
+    }
+    sort_comps(&mut comps);
+    Ok(comps)
+}
+
+/// The regulations of these to which a flight is subject that a view shows, with its times over. `AllocError` where there
+/// is no memory for them.
+fn crossed_by<V: Version>(
+    alloc: Global,
+    view: &View<V>,
+    catalogue: &Catalogue,
+    key: &Key,
+) -> Result<Crossings, AllocError>
+    ensures { IfOk result (λ over. over.entries ≡ crossed_by catalogue.now ((sight V.item_of view.now).row key.now)) }
+{
+    match view.row(key) {
+        Some(row) => catalogue.crossed(alloc, &row.plan),
+        None => Ok(BTreeMap::new(alloc)),
+    }
+}
+
+/// Writes the lists of these regulations as the view shows them, where they are not written. `AllocError` where there is no
+/// memory for them.
+fn share_lists<V: Version>(
+    view: &View<V>,
+    draft: &mut Draft,
+    over: &Crossings,
+) -> Result<(), AllocError>
+    ensures { OnOk result (draft.new ≡ record draft.old {
+      lists = with_lists_of (sight V.item_of view.now) draft.old.lists over.now.entries;
+    }) }
+{
+    for (id, _) in over {
+        draft.share_list(view, *id)?;
+    }
+    Ok(())
+}
+
+/// And so for each of these flights.
+fn share_all<V: Version>(
+    alloc: Global,
+    view: &View<V>,
+    draft: &mut Draft,
+    catalogue: &Catalogue,
+    comps: &[Comp],
+) -> Result<(), AllocError>
+    ensures { OnOk result (draft.new ≡ record draft.old {
+      lists = with_lists (sight V.item_of view.now) catalogue.now draft.old.lists comps.now;
+    }) }
+{
+    for comp in comps {
+        let over = crossed_by(alloc, view, catalogue, &comp.key)?;
+        share_lists(view, draft, &over)?;
+    }
+    Ok(())
+}
+
+/// What is written where a regulation closes, whose list this is, and its flights enter anew. `AllocError` where there is
+/// no memory for that.
+fn after_closing<V: Version>(
+    alloc: Global,
+    view: &View<V>,
+    id: RegId,
+    list: &SlotList,
+) -> Result<Draft, AllocError>
+    ensures { IfOk result (λ draft. draft ≡ after_closing (sight V.item_of view.now) id list.now) }
+{
+    let catalogue = without_regulation(alloc, view, &id)?;
+    let comps = governed_flights(alloc, list)?;
+    let comps = comps.as_slice();
+    let mut draft = Draft::new(alloc);
+    draft.set_list(id, None)?;
+    share_all(alloc, view, &mut draft, &catalogue, comps)?;
+    enter_all(alloc, view, &mut draft, clock(view), &catalogue, comps)?;
+    draft.set_catalogue(catalogue);
+    Ok(draft)
+}
+
+/// A regulation closes, and the flights that it governed enter anew. `AllocError` where there is no memory for the answer.
+pub(crate) fn close_reg<V: Version>(
+    alloc: Global,
+    view: &View<V>,
+    id: RegId,
+) -> Result<(Reply, Draft), AllocError>
+    ensures { IfOk result (λ p. p ≡ close_reg (sight V.item_of view.now) id) }
+{
+    let Some(list) = view.list(&id) else {
+        return Ok(refused(alloc, Refusal::NoRegulation));
+    };
+    let draft = after_closing(alloc, view, id, list)?;
+    done(alloc, view, draft)
+}

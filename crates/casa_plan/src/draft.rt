@@ -1,0 +1,240 @@
+//! What a planner has written so far.
+
+ghost use Rattle.std.specs.Prelude.{◌≡◌, Some, IfOk, OnOk};
+ghost use Rattle.std.specs.Option.{option_copied, option_or};
+ghost use Rattle.casa_flight.specs.Text.{put, without};
+ghost use Rattle.casa_flight.specs.Good.{AreInOrder};
+ghost use Rattle.casa_footprint.specs.Items.{ItemName};
+ghost use Rattle.casa_view.specs.Board.{says};
+ghost use Rattle.casa_answer.specs.Sight.{nothing_written, row_with, list_with, says as says_of};
+ghost use Rattle.casa_answer.specs.Closing.{with_list};
+ghost use Rattle.casa_plan.specs.Seen.{sight};
+
+use casa_flight::{Key, RegId, Row};
+use casa_list::{SharedList, SlotList};
+use casa_time::Moment;
+use casa_view::{Catalogue, Change, Item, Version, View};
+use std::alloc::{AllocError, Global};
+use std::collections::BTreeMap;
+use std::marker::Model;
+
+/// The items that a call writes, while its answer is worked out: the clock and the catalogue, if it writes them, and rows
+/// and lists by their names, or that there is none.
+#[derive(Drop)]
+pub struct Draft {
+    alloc: Global,
+    clock: Option<Moment>,
+    catalogue: Option<Catalogue>,
+    rows: BTreeMap<Key, Option<Row>>,
+    lists: BTreeMap<RegId, Option<SharedList>>,
+}
+
+impl Model for Draft {
+    ghost use Rattle.casa_answer.specs.Sight.{Written};
+
+    ghost Value = { Written };
+
+    ghost view = { λ d. record { clock = d.clock; catalogue = d.catalogue; rows = d.rows.entries; lists = d.lists.entries } };
+}
+
+impl Draft {
+    /// A draft that writes nothing.
+    pub fn new(alloc: Global) -> Draft
+        ensures { result ≡ nothing_written }
+    {
+        Draft {
+            alloc,
+            clock: None,
+            catalogue: None,
+            rows: BTreeMap::new(alloc),
+            lists: BTreeMap::new(alloc),
+        }
+    }
+
+    /// Writes the clock.
+    pub fn set_clock(&mut self, at: Moment)
+        ensures { self.new ≡ record self.old { clock = Some at } }
+    {
+        self.clock = Some(at);
+    }
+
+    /// Writes the catalogue.
+    pub fn set_catalogue(&mut self, catalogue: Catalogue)
+        ensures { self.new ≡ record self.old { catalogue = Some catalogue } }
+    {
+        self.catalogue = Some(catalogue);
+    }
+
+    /// Writes a flight's row, or that there is none. `AllocError` where there is no memory for it.
+    pub fn set_row(&mut self, key: Key, row: Option<Row>) -> Result<(), AllocError>
+        ensures { OnOk result (self.new ≡ record self.old { rows = put self.old.rows key row }) }
+    {
+        self.rows.insert(key, row)?;
+        Ok(())
+    }
+
+    /// Writes a regulation's list, or that there is none. `AllocError` where there is no memory for it.
+    pub fn set_list(&mut self, id: RegId, list: Option<SharedList>) -> Result<(), AllocError>
+        ensures { OnOk result (self.new ≡ record self.old { lists = put self.old.lists id list }) }
+    {
+        self.lists.insert(id, list)?;
+        Ok(())
+    }
+
+    /// The rows that are written, or absences, by keys.
+    pub fn rows(&self) -> &BTreeMap<Key, Option<Row>>
+        ensures { result.now.entries ≡ self.now.rows }
+    {
+        &self.rows
+    }
+
+    /// The lists that are written are in the order of their identifiers: this says so, and does nothing.
+    pub fn lists_in_order(&self)
+        ensures { AreInOrder self.now.lists }
+    {
+        let _length = self.lists.len();
+    }
+
+    /// The row of a flight as it is written, or else as the view shows it.
+    pub fn row_with<'a, V: Version>(&'a self, view: &'a View<V>, key: &Key) -> Option<&'a Row>
+        ensures { option_copied result ≡ row_with (sight V.item_of view.now) self.now key.now }
+    {
+        match self.rows.get(key) {
+            Some(row) => row.as_ref(),
+            None => view.row(key),
+        }
+    }
+
+    /// The list of a regulation as it is written, or else as the view shows it.
+    pub fn list_with<'a, V: Version>(
+        &'a self,
+        view: &'a View<V>,
+        id: &RegId,
+    ) -> Option<&'a SlotList>
+        ensures { option_copied result ≡ list_with (sight V.item_of view.now) self.now id.now }
+    {
+        match self.lists.get(id) {
+            Some(list) => Some(list.as_ref()?.list()),
+            None => view.list(id),
+        }
+    }
+
+    /// Takes out the list of a regulation as it is written, to be changed; a copy of what the view shows where it is not
+    /// written. `AllocError` where there is no memory for it.
+    pub fn take_list<V: Version>(
+        &mut self,
+        view: &View<V>,
+        id: &RegId,
+    ) -> Result<Option<SlotList>, AllocError>
+        ensures list { IfOk result (λ list. list ≡ list_with (sight V.item_of view.now) self.old id.now) }
+        ensures left { OnOk result (self.new ≡ record self.old { lists = without self.old.lists id.now }) }
+    {
+        if let Some(list) = self.lists.remove(id) {
+            return owned(list);
+        }
+        copied(view.list(id))
+    }
+
+    /// Writes the list of a regulation as the view shows it, not copied, unless it is written. `AllocError` where there is
+    /// no memory for it.
+    pub fn share_list<V: Version>(&mut self, view: &View<V>, id: RegId) -> Result<(), AllocError>
+        ensures { OnOk result (self.new ≡ record self.old {
+          lists = with_list (sight V.item_of view.now) self.old.lists id;
+        }) }
+    {
+        if self.lists.contains_key(&id) {
+            return Ok(());
+        }
+        let list = shared(view.shared_list(&id))?;
+        self.set_list(id, list)
+    }
+
+    /// The change that writes this. `AllocError` where there is no memory for it.
+    pub fn into_change(self) -> Result<Change, AllocError>
+        ensures { IfOk result (λ change. (i : ItemName) → says change i ≡ says_of self i) }
+    {
+        let mut change = Change::new(self.alloc);
+        write_clock(&mut change, self.clock)?;
+        write_catalogue(&mut change, self.catalogue)?;
+        write_rows(&mut change, self.rows)?;
+        write_lists(&mut change, self.lists)?;
+        Ok(change)
+    }
+}
+
+/// The list itself, if there is one. `AllocError` where it is shared and there is no memory for a copy.
+fn owned(list: Option<SharedList>) -> Result<Option<SlotList>, AllocError>
+    ensures { IfOk result (λ own. own ≡ list) }
+{
+    match list {
+        Some(list) => Ok(Some(list.into_list()?)),
+        None => Ok(None),
+    }
+}
+
+/// The same list, not copied, if there is one. `AllocError` where it is shared too often to count.
+fn shared(list: Option<&SharedList>) -> Result<Option<SharedList>, AllocError>
+    ensures { IfOk result (λ same. same ≡ option_copied list.entry) }
+{
+    match list {
+        Some(list) => Ok(Some(list.share()?)),
+        None => Ok(None),
+    }
+}
+
+/// A copy of the list, if there is one. `AllocError` where there is no memory for it.
+fn copied(list: Option<&SlotList>) -> Result<Option<SlotList>, AllocError>
+    ensures { IfOk result (λ copy. copy ≡ option_copied list.entry) }
+{
+    match list {
+        Some(list) => Ok(Some(list.try_clone()?)),
+        None => Ok(None),
+    }
+}
+
+/// Writes the clock, if there is one to write.
+fn write_clock(change: &mut Change, clock: Option<Moment>) -> Result<(), AllocError>
+    ensures { OnOk result ((i : ItemName) → says change.new i ≡
+        option_or (says_of (record nothing_written { clock = clock }) i) (says change.old i)) }
+{
+    if let Some(at) = clock {
+        change.set(Item::Clock(at))?;
+    }
+    Ok(())
+}
+
+/// Writes the catalogue, if there is one to write.
+fn write_catalogue(change: &mut Change, catalogue: Option<Catalogue>) -> Result<(), AllocError>
+    ensures { OnOk result ((i : ItemName) → says change.new i ≡
+        option_or (says_of (record nothing_written { catalogue = catalogue }) i) (says change.old i)) }
+{
+    if let Some(catalogue) = catalogue {
+        change.set(Item::Catalogue(catalogue))?;
+    }
+    Ok(())
+}
+
+/// Writes these rows and absences.
+fn write_rows(change: &mut Change, rows: BTreeMap<Key, Option<Row>>) -> Result<(), AllocError>
+    ensures { OnOk result ((i : ItemName) → says change.new i ≡
+        option_or (says_of (record nothing_written { rows = rows.entries }) i) (says change.old i)) }
+{
+    for (key, row) in rows {
+        change.set(Item::Row(key, row))?;
+    }
+    Ok(())
+}
+
+/// Writes these lists and absences.
+fn write_lists(
+    change: &mut Change,
+    lists: BTreeMap<RegId, Option<SharedList>>,
+) -> Result<(), AllocError>
+    ensures { OnOk result ((i : ItemName) → says change.new i ≡
+        option_or (says_of (record nothing_written { lists = lists.entries }) i) (says change.old i)) }
+{
+    for (id, list) in lists {
+        change.set(Item::List(id, list))?;
+    }
+    Ok(())
+}

@@ -1,0 +1,24 @@
+//! One planner for each call: from a view alone, the reply and the change that are right in every good state that shows
+//! the view.
+#![tactic(auto)]
+
+mod clock_moves;
+mod closing;
+mod draft;
+mod entering;
+mod flight_lists;
+mod laws;
+mod new_rates;
+mod offers;
+mod one_flight;
+mod opening;
+mod planning;
+mod replies;
+mod rooms;
+mod shown_list;
+mod sighted;
+mod telling;
+
+pub use laws::views_show_what_is_read;
+pub use planning::plan;
+pub use rooms::{answer, board_of};

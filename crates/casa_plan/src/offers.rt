@@ -1,0 +1,127 @@
+//! What the regulations to which a flight is subject offer it as it enters, and the offer that it takes.
+
+ghost use Rattle.std.specs.Prelude.{◌≡◌, ◌≤◌, Some, IfOk};
+ghost use Rattle.casa_time.specs.Moment.{last_moment};
+ghost use Rattle.casa_flight.specs.declared.row.Stance.{Stance};
+ghost use Rattle.casa_flight.specs.Listing.{cto_as};
+ghost use Rattle.casa_flight.specs.Entry.{with_competitor, offer_in, most_penalising};
+ghost use Rattle.casa_footprint.specs.Finding.{crossed};
+ghost use Rattle.casa_answer.specs.Sight.{regulations_in};
+ghost use Rattle.casa_answer.specs.OneFlight.{offers_of, entry_offer, with_offer, offered_delay};
+ghost use Rattle.casa_plan.specs.Seen.{sight};
+
+use crate::flight_lists::{Crossings, take_out};
+use crate::sighted::clock;
+use casa_flight::{Comp, Key, Offer, RegId, Row, Stance, more_penalising};
+use casa_list::SlotList;
+use casa_time::Moment;
+use casa_view::{Version, View};
+use std::alloc::AllocError;
+
+/// The calculated time over that a flight would have as a competitor once it had left, worked out on a copy.
+/// `AllocError` where there is no memory for that.
+fn time_anew(list: &SlotList, comp: &Comp) -> Result<Moment, AllocError>
+    ensures { IfOk result (λ time. time ≡
+        cto_as (with_competitor list.now comp.now.key comp.now.eto) comp.now.key (Stance.Competing comp.now.eto)) }
+{
+    let mut rest = list.try_clone()?;
+    take_out(&mut rest, &comp.key);
+    Ok(rest.would_pass(comp))
+}
+
+/// The calculated time over that a flight would have as a competitor, in place of how it stands in the list.
+///
+/// Only where it is issued there, or competes with another time over, is the list copied; `AllocError` where there is no
+/// memory for that.
+pub(crate) fn time_there(list: &SlotList, comp: &Comp) -> Result<Moment, AllocError>
+    ensures { IfOk result (λ time. time ≡
+        cto_as (with_competitor list.now comp.now.key comp.now.eto) comp.now.key (Stance.Competing comp.now.eto)) }
+{
+    let Some(stance) = list.stance_of(&comp.key) else {
+        return Ok(list.would_pass(comp));
+    };
+    match stance {
+        Stance::Competing { eto } => {
+            if eto == comp.eto {
+                Ok(list.cto_of(&comp.key).unwrap())
+            } else {
+                time_anew(list, comp)
+            }
+        }
+        Stance::Issued { .. } => time_anew(list, comp),
+        Stance::Forced { .. } => Ok(list.would_pass(comp)),
+    }
+}
+
+/// What the regulation with this identifier offers a flight with this time over, by the list that the view shows; `None`
+/// where it shows none. `AllocError` where there is no memory to work it out.
+fn offer_of<V: Version>(
+    view: &View<V>,
+    key: Key,
+    id: RegId,
+    eto: Moment,
+) -> Result<Option<Offer>, AllocError>
+    ensures { IfOk result (λ offer. offer ≡ offer_in id key ((sight V.item_of view.now).list id) (Some eto)) }
+{
+    let Some(list) = view.list(&id) else {
+        return Ok(None);
+    };
+    let cto = time_there(list, &Comp { eto, key })?;
+    Ok(Some(Offer::of(id, eto, cto)))
+}
+
+/// The most penalising offer of these regulations. `AllocError` where there is no memory to work it out.
+fn best_offer<V: Version>(
+    view: &View<V>,
+    key: Key,
+    over: &Crossings,
+) -> Result<Option<Offer>, AllocError>
+    ensures { IfOk result (λ best.
+        best ≡ most_penalising (offers_of (sight V.item_of view.now).list key over.now.entries)) }
+{
+    let mut best = None;
+    for (id, eto) in over {
+        if let Some(offer) = offer_of(view, key, *id, *eto)? {
+            best = Some(more_penalising(best, offer));
+        }
+    }
+    Ok(best)
+}
+
+/// The offer that an ungoverned flight takes as it enters, of those of the regulations to which it is subject.
+/// `AllocError` where there is no memory to work it out.
+pub(crate) fn entry_offer<V: Version>(
+    view: &View<V>,
+    key: Key,
+    row: &Row,
+    over: &Crossings,
+) -> Result<Option<Offer>, AllocError>
+    requires { over.now.entries ≡ crossed row.now.plan (regulations_in (sight V.item_of view.now)) }
+    ensures { IfOk result (λ offer. offer ≡ entry_offer (sight V.item_of view.now) key row.now) }
+{
+    if row.is_exempt() || row.plan.is_gone(clock(view)) {
+        return Ok(None);
+    }
+    best_offer(view, key, over)
+}
+
+/// The flight with the offer that it takes, if there is one.
+pub(crate) fn with_offer(clock: Moment, row: Row, offer: &Option<Offer>) -> Row
+    ensures { result ≡ with_offer clock row offer.now }
+{
+    match offer {
+        Some(offer) => row.governed(clock, *offer),
+        None => row,
+    }
+}
+
+/// The delay that an offer is, in seconds, and none without one.
+pub(crate) fn offered_delay(offer: &Option<Offer>) -> u32
+    ensures value { result ≡ offered_delay offer.now }
+    ensures in_range { result ≤ last_moment }
+{
+    match offer {
+        Some(offer) => offer.delay(),
+        None => 0,
+    }
+}

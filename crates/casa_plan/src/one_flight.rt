@@ -1,0 +1,209 @@
+//! The planners of the calls on one flight.
+
+ghost use Rattle.std.specs.Prelude.{◌≡◌, ◌≤◌, IfOk, option_copied};
+ghost use Rattle.casa_time.specs.Moment.{last_moment};
+ghost use Rattle.casa_footprint.specs.Finding.{crossed};
+ghost use Rattle.casa_answer.specs.Sight.{regulations_in};
+ghost use Rattle.casa_answer.specs.FlightCalls.{unchanged, rewritten, taking, entering, file, amend, cancel, is_taken, revise, exempt, show};
+ghost use Rattle.casa_plan.specs.Seen.{sight};
+
+use crate::draft::Draft;
+use crate::flight_lists::{Crossings, flight_written};
+use crate::offers::{entry_offer, offered_delay, with_offer};
+use crate::replies::refused;
+use crate::sighted::{clock, crossed};
+use crate::telling::{ctot_shown, delay_shown, told};
+use casa_flight::{Answer, FlightReply, Key, Messages, Offer, Plan, Refusal, Reply, Row};
+use casa_view::{Version, View};
+use std::alloc::{AllocError, Global};
+use std::collections::BTreeMap;
+
+/// The flight as it is shown.
+fn unchanged<V: Version>(
+    alloc: Global,
+    view: &View<V>,
+    key: Key,
+    row: &Row,
+) -> Result<(Reply, Draft), AllocError>
+    ensures { IfOk result (λ p. p ≡ unchanged (sight V.item_of view.now) key row.now) }
+{
+    let flight = FlightReply::of(key, row, delay_shown(view, key, row));
+    let messages = Messages::from_vec(Vec::new(alloc))?;
+    let reply = Reply::Answered(Answer::Flight(flight), messages);
+    Ok((reply, Draft::new(alloc)))
+}
+
+/// A flight that stood so now stands so, with this delay in seconds, subject to these regulations.
+fn rewritten<V: Version>(
+    alloc: Global,
+    view: &View<V>,
+    key: Key,
+    was: Option<&Row>,
+    row: Row,
+    delay: u32,
+    has: &Crossings,
+) -> Result<(Reply, Draft), AllocError>
+    requires in_range { delay ≤ last_moment }
+    requires subject { has.now.entries ≡ crossed row.plan (regulations_in (sight V.item_of view.now)) }
+    ensures { IfOk result (λ p.
+        p ≡ rewritten (sight V.item_of view.now) key (option_copied was.entry) row delay) }
+{
+    let reply = told(alloc, view, key, was, &row, delay)?;
+    let draft = flight_written(alloc, view, key, was, Some(row), has)?;
+    Ok((reply, draft))
+}
+
+/// An ungoverned flight, subject to these regulations, takes an offer, in place of how it stood.
+fn taking<V: Version>(
+    alloc: Global,
+    view: &View<V>,
+    key: Key,
+    was: Option<&Row>,
+    row: Row,
+    offer: &Option<Offer>,
+    has: &Crossings,
+) -> Result<(Reply, Draft), AllocError>
+    requires { has.now.entries ≡ crossed row.plan (regulations_in (sight V.item_of view.now)) }
+    ensures { IfOk result (λ p.
+        p ≡ taking (sight V.item_of view.now) key (option_copied was.entry) row offer.now) }
+{
+    let row = with_offer(clock(view), row, offer);
+    rewritten(alloc, view, key, was, row, offered_delay(offer), has)
+}
+
+/// An ungoverned flight enters, in place of how it stood.
+fn entering<V: Version>(
+    alloc: Global,
+    view: &View<V>,
+    key: Key,
+    was: Option<&Row>,
+    row: Row,
+) -> Result<(Reply, Draft), AllocError>
+    ensures { IfOk result (λ p.
+        p ≡ entering (sight V.item_of view.now) key (option_copied was.entry) row) }
+{
+    let has = crossed(alloc, view, &row.plan)?;
+    let offer = entry_offer(view, key, &row, &has)?;
+    taking(alloc, view, key, was, row, &offer, &has)
+}
+
+/// A filed flight is added and enters.
+pub(crate) fn file<V: Version>(
+    alloc: Global,
+    view: &View<V>,
+    plan: &Plan,
+) -> Result<(Reply, Draft), AllocError>
+    ensures { IfOk result (λ p. p ≡ file (sight V.item_of view.now) plan.now) }
+{
+    let key = plan.key();
+    let is_late = plan.eobt() < clock(view);
+    if let Some(_row) = view.row(&key) {
+        return Ok(refused(alloc, Refusal::Duplicate));
+    }
+    if is_late {
+        return Ok(refused(alloc, Refusal::Late));
+    }
+    entering(alloc, view, key, None, Row::filed(plan)?)
+}
+
+/// An amended flight enters with its new plan; a desk's mark stays.
+pub(crate) fn amend<V: Version>(
+    alloc: Global,
+    view: &View<V>,
+    plan: &Plan,
+) -> Result<(Reply, Draft), AllocError>
+    ensures { IfOk result (λ p. p ≡ amend (sight V.item_of view.now) plan.now) }
+{
+    let key = plan.key();
+    let Some(row) = view.row(&key) else {
+        return Ok(refused(alloc, Refusal::NoFlight));
+    };
+    if plan.eobt() < clock(view) {
+        return Ok(refused(alloc, Refusal::Late));
+    }
+    entering(alloc, view, key, Some(row), row.amended(plan)?)
+}
+
+/// A cancelled flight is removed.
+pub(crate) fn cancel<V: Version>(
+    alloc: Global,
+    view: &View<V>,
+    key: Key,
+) -> Result<(Reply, Draft), AllocError>
+    ensures { IfOk result (λ p. p ≡ cancel (sight V.item_of view.now) key) }
+{
+    let Some(row) = view.row(&key) else {
+        return Ok(refused(alloc, Refusal::NoFlight));
+    };
+    let messages = Messages::from_vec(Vec::new(alloc))?;
+    let has = BTreeMap::new(alloc);
+    let draft = flight_written(alloc, view, key, Some(row), None, &has)?;
+    Ok((Reply::Answered(Answer::Done, messages), draft))
+}
+
+/// Whether a revised flight takes the offer: what is not issued always does; what is issued does before it is gone, and
+/// only if it leaves earlier.
+fn is_taken<V: Version>(view: &View<V>, key: Key, row: &Row, offer: &Option<Offer>) -> bool
+    ensures { result ≡ is_taken (sight V.item_of view.now) key row.now offer.now }
+{
+    if !row.issued.is_some() {
+        return true;
+    }
+    if row.plan.is_gone(clock(view)) {
+        return false;
+    }
+    row.plan.etot() + offered_delay(offer) < ctot_shown(view, key, row)
+}
+
+/// A revised flight takes what it would get as it enters anew, or it stays as it is.
+pub(crate) fn revise<V: Version>(
+    alloc: Global,
+    view: &View<V>,
+    key: Key,
+) -> Result<(Reply, Draft), AllocError>
+    ensures { IfOk result (λ p. p ≡ revise (sight V.item_of view.now) key) }
+{
+    let Some(row) = view.row(&key) else {
+        return Ok(refused(alloc, Refusal::NoFlight));
+    };
+    let free = row.ungoverned()?;
+    let has = crossed(alloc, view, &free.plan)?;
+    let offer = entry_offer(view, key, &free, &has)?;
+    if is_taken(view, key, row, &offer) {
+        taking(alloc, view, key, Some(row), free, &offer, &has)
+    } else {
+        unchanged(alloc, view, key, row)
+    }
+}
+
+/// An exempted flight is marked and governed by nothing.
+pub(crate) fn exempt<V: Version>(
+    alloc: Global,
+    view: &View<V>,
+    key: Key,
+) -> Result<(Reply, Draft), AllocError>
+    ensures { IfOk result (λ p. p ≡ exempt (sight V.item_of view.now) key) }
+{
+    let Some(row) = view.row(&key) else {
+        return Ok(refused(alloc, Refusal::NoFlight));
+    };
+    if row.is_exempt() {
+        return Ok(refused(alloc, Refusal::AlreadyExempt));
+    }
+    let has = crossed(alloc, view, &row.plan)?;
+    rewritten(alloc, view, key, Some(row), row.exempted()?, 0, &has)
+}
+
+/// A flight is shown as it stands.
+pub(crate) fn show<V: Version>(
+    alloc: Global,
+    view: &View<V>,
+    key: Key,
+) -> Result<(Reply, Draft), AllocError>
+    ensures { IfOk result (λ p. p ≡ show (sight V.item_of view.now) key) }
+{
+    match view.row(&key) {
+        Some(row) => unchanged(alloc, view, key, row),
+        None => Ok(refused(alloc, Refusal::NoFlight)),
+    }
+}

@@ -1,0 +1,151 @@
+//! The planner of a regulation that opens.
+
+ghost use Rattle.std.specs.Prelude.{◌≡◌, List, Bool, false, Option, IfOk, Some};
+ghost use Rattle.std.specs.Option.{option_map_or};
+ghost use Rattle.std.specs.List.{filter};
+ghost use Rattle.casa_flight.specs.declared.comp.Comp.{Comp};
+ghost use Rattle.casa_flight.specs.State.{regulation};
+ghost use Rattle.casa_flight.specs.Steps.{may_compete, most_regulations};
+ghost use Rattle.casa_answer.specs.Sight.{regulations_in};
+ghost use Rattle.casa_answer.specs.Opening.{with_regulation, all_forced, after_opening, open_reg};
+ghost use Rattle.casa_plan.specs.Seen.{sight};
+
+use crate::draft::Draft;
+use crate::entering::enter_all;
+use crate::replies::{done, refused};
+use crate::sighted::{clock, regulations};
+use casa_flight::{Comp, Key, Loc, Refusal, RegId, Regulation, Reply, Stance};
+use casa_grid::{Grid, Profile};
+use casa_list::{SharedList, SlotList};
+use casa_time::Moment;
+use casa_view::{Catalogue, Version, View};
+use std::alloc::{AllocError, Global};
+use std::collections::{BTreeMap, BTreeSet};
+
+/// How many regulations may be open.
+const MOST_REGULATIONS: usize = 256;
+
+/// A regulation as the catalogue has it.
+fn regulation(id: RegId, loc: Loc, profile: &Profile) -> Regulation
+    ensures { result ≡ regulation id (record { loc = loc; profile = profile.now }) }
+{
+    let (start, end) = profile.span();
+    Regulation {
+        id,
+        loc,
+        start,
+        end,
+    }
+}
+
+/// The catalogue of what a view shows, and one regulation more. `AllocError` where there is no memory for it.
+fn with_regulation<V: Version>(
+    alloc: Global,
+    view: &View<V>,
+    regulation: Regulation,
+) -> Result<Catalogue, AllocError>
+    ensures { IfOk result (λ all. all ≡ with_regulation regulation (regulations_in (sight V.item_of view.now))) }
+{
+    match view.catalogue() {
+        Some(catalogue) => catalogue.with(alloc, regulation),
+        None => Catalogue::new(alloc).with(alloc, regulation),
+    }
+}
+
+/// Flights by keys, each forced.
+fn all_forced(alloc: Global, comps: &BTreeSet<Comp>) -> Result<BTreeMap<Key, Stance>, AllocError>
+    ensures { IfOk result (λ flights. flights.entries ≡ all_forced comps.now.keys) }
+{
+    let mut flights = BTreeMap::new(alloc);
+    for comp in comps {
+        flights.insert(comp.key, Stance::Forced { eto: comp.eto })?;
+    }
+    Ok(flights)
+}
+
+/// The list of a regulation that governs nobody yet, with these flights. `AllocError` where there is no memory for it.
+fn new_list(
+    alloc: Global,
+    profile: &Profile,
+    comps: &BTreeSet<Comp>,
+) -> Result<SharedList, AllocError>
+    ensures { IfOk result (λ list. list ≡ record { profile = profile.now; flights = all_forced comps.now.keys }) }
+{
+    let flights = all_forced(alloc, comps)?;
+    SharedList::new(
+        alloc,
+        SlotList::of(alloc, Grid::of(alloc, profile)?, flights)?,
+    )
+}
+
+/// Whether a flight that a view shows may compete.
+fn may_compete<V: Version>(view: &View<V>, clock: Moment, key: &Key) -> bool
+    ensures { result ≡ option_map_or (may_compete clock) ((sight V.item_of view.now).row key.now) false }
+{
+    match view.row(key) {
+        Some(row) => row.may_compete(clock),
+        None => false,
+    }
+}
+
+/// Those of these flights that may compete. `AllocError` where there is no memory for them.
+fn newcomers<V: Version>(
+    alloc: Global,
+    view: &View<V>,
+    clock: Moment,
+    comps: &BTreeSet<Comp>,
+) -> Result<Vec<Comp>, AllocError>
+    ensures { IfOk result (λ new. new.items ≡ filter (λ (c : Comp).
+        option_map_or (may_compete clock) ((sight V.item_of view.now).row c.key) false) comps.now.keys) }
+{
+    let mut new = Vec::new(alloc);
+    for comp in comps {
+        if may_compete(view, clock, &comp.key) {
+            new.push(*comp)?;
+        }
+    }
+    Ok(new)
+}
+
+/// What is written where a regulation opens and takes flights in. `AllocError` where there is no memory for that.
+fn after_opening<V: Version>(
+    alloc: Global,
+    view: &View<V>,
+    regulation: Regulation,
+    profile: &Profile,
+) -> Result<Draft, AllocError>
+    ensures { IfOk result (λ draft. draft ≡
+        after_opening (sight V.item_of view.now) regulation profile.now) }
+{
+    let clock = clock(view);
+    let catalogue = with_regulation(alloc, view, regulation)?;
+    let over = view.flights_over(alloc, &regulation)?;
+    let comps = newcomers(alloc, view, clock, &over)?;
+    let mut draft = Draft::new(alloc);
+    draft.set_list(regulation.id, Some(new_list(alloc, profile, &over)?))?;
+    enter_all(alloc, view, &mut draft, clock, &catalogue, comps.as_slice())?;
+    draft.set_catalogue(catalogue);
+    Ok(draft)
+}
+
+/// A regulation opens, and takes in the flights that nothing governs and that may compete. `AllocError` where there is no
+/// memory for the answer.
+pub(crate) fn open_reg<V: Version>(
+    alloc: Global,
+    view: &View<V>,
+    id: RegId,
+    loc: Loc,
+    profile: &Profile,
+) -> Result<(Reply, Draft), AllocError>
+    ensures { IfOk result (λ p. p ≡ open_reg (sight V.item_of view.now) id loc profile.now) }
+{
+    if view.list(&id).is_some() {
+        return Ok(refused(alloc, Refusal::DuplicateRegulation));
+    }
+    if MOST_REGULATIONS <= regulations(view).len() {
+        return Ok(refused(alloc, Refusal::TooManyRegulations));
+    }
+    let regulation = regulation(id, loc, profile);
+    let draft = after_opening(alloc, view, regulation, profile)?;
+    done(alloc, view, draft)
+}

@@ -1,0 +1,62 @@
+//! The planner of each call.
+
+ghost use Rattle.std.specs.Prelude.{◌≡◌, IfOk};
+ghost use Rattle.casa_flight.specs.declared.state.State.{State};
+ghost use Rattle.casa_flight.specs.Good.{IsGood};
+ghost use Rattle.casa_flight.specs.Replies.{reply};
+ghost use Rattle.casa_footprint.specs.Change.{IsChange};
+ghost use Rattle.casa_view.specs.Board.{says};
+ghost use Rattle.casa_view.specs.View.{IsFor, Shows};
+ghost use Rattle.casa_answer.specs.Sight.{IsPlanned};
+ghost use Rattle.casa_plan.specs.Seen.{sight};
+
+use crate::clock_moves::tick;
+use crate::closing::close_reg;
+use crate::draft::Draft;
+use crate::new_rates::rates;
+use crate::one_flight::{amend, cancel, exempt, file, revise, show};
+use crate::opening::open_reg;
+use crate::shown_list::list;
+use crate::sighted::in_order;
+use casa_flight::{Call, Reply};
+use casa_view::{Change, Version, View};
+use std::alloc::{AllocError, Global};
+
+/// The reply to a call, and what the call writes, by what a view shows.
+fn planned<V: Version>(
+    alloc: Global,
+    view: &View<V>,
+    call: &Call,
+) -> Result<(Reply, Draft), AllocError>
+    ensures { IfOk result (IsPlanned (sight V.item_of view.now) call.now) }
+{
+    match call {
+        Call::File(plan) => file(alloc, view, plan),
+        Call::Amend(plan) => amend(alloc, view, plan),
+        Call::Cancel(key) => cancel(alloc, view, *key),
+        Call::Revise(key) => revise(alloc, view, *key),
+        Call::Exempt(key) => exempt(alloc, view, *key),
+        Call::OpenReg(id, loc, profile) => open_reg(alloc, view, *id, *loc, profile),
+        Call::CloseReg(id) => close_reg(alloc, view, *id),
+        Call::Rates(id, profile) => rates(alloc, view, *id, profile),
+        Call::Tick(at) => tick(alloc, view, *at),
+        Call::Show(key) => show(alloc, view, *key),
+        Call::List(id) => list(alloc, view, *id),
+    }
+}
+
+/// The reply to a call and the change of what it writes, worked out on a view that was taken for the call. They are right
+/// in every good state that shows the view. `AllocError` where there is no memory for them.
+pub fn plan<V: Version>(
+    alloc: Global,
+    view: &View<V>,
+    call: &Call,
+) -> Result<(Reply, Change), AllocError>
+    requires for_call { IsFor V.item_of view.now call.now }
+    ensures { IfOk result (λ p. (m : State) → IsGood m → Shows V.item_of m view.now →
+        (p.0 ≡ reply m call.now) × IsChange m call.now (says p.1)) }
+{
+    in_order(view);
+    let (reply, draft) = planned(alloc, view, call)?;
+    Ok((reply, draft.into_change()?))
+}

@@ -1,0 +1,55 @@
+//! What a view shows to a planner.
+
+ghost use Rattle.std.specs.Prelude.{◌≡◌, IfOk};
+ghost use Rattle.casa_footprint.specs.Finding.{crossed};
+ghost use Rattle.casa_view.specs.Shown.{HasRowsInOrder};
+ghost use Rattle.casa_answer.specs.Sight.{clock_in, regulations_in};
+ghost use Rattle.casa_plan.specs.Seen.{sight};
+
+use casa_flight::{Plan, RegId, Regulation};
+use casa_time::Moment;
+use casa_view::{Version, View};
+use std::alloc::{AllocError, Global};
+use std::collections::BTreeMap;
+
+/// The clock: midnight where the view does not hold it.
+pub(crate) fn clock<V: Version>(view: &View<V>) -> Moment
+    ensures { result ≡ clock_in (sight V.item_of view.now) }
+{
+    match view.clock() {
+        Some(clock) => clock,
+        None => Moment::new(0).unwrap(),
+    }
+}
+
+/// The open regulations: none where the view does not hold the catalogue.
+pub(crate) fn regulations<V: Version>(view: &View<V>) -> &[Regulation]
+    ensures { result.now ≡ regulations_in (sight V.item_of view.now) }
+{
+    match view.catalogue() {
+        Some(catalogue) => catalogue.as_slice(),
+        None => &[],
+    }
+}
+
+/// The regulations to which a flight with this plan is subject, by identifiers, with the plan's time over. `AllocError`
+/// where there is no memory for them.
+pub(crate) fn crossed<V: Version>(
+    alloc: Global,
+    view: &View<V>,
+    plan: &Plan,
+) -> Result<BTreeMap<RegId, Moment>, AllocError>
+    ensures { IfOk result (λ found. found.entries ≡ crossed plan.now (regulations_in (sight V.item_of view.now))) }
+{
+    match view.catalogue() {
+        Some(catalogue) => catalogue.crossed(alloc, plan),
+        None => Ok(BTreeMap::new(alloc)),
+    }
+}
+
+/// The rows of a view are in the order of their keys: this says so, and does nothing.
+pub(crate) fn in_order<V: Version>(view: &View<V>)
+    ensures { HasRowsInOrder view.now }
+{
+    let _rows = view.rows();
+}
