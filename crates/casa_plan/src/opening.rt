@@ -14,16 +14,13 @@ use crate::draft::Draft;
 use crate::entering::enter_all;
 use crate::replies::{done, refused};
 use crate::sighted::{clock, regulations};
-use casa_flight::{Comp, Key, Loc, Refusal, RegId, Regulation, Reply, Stance};
+use casa_flight::{Comp, Key, Loc, MAX_REGULATIONS, Refusal, RegId, Regulation, Reply, Stance};
 use casa_grid::{Grid, Profile};
 use casa_list::{SharedList, SlotList};
 use casa_time::Moment;
 use casa_view::{Catalogue, Version, View};
 use std::alloc::{AllocError, Global};
 use std::collections::{BTreeMap, BTreeSet};
-
-/// How many regulations may be open.
-const MOST_REGULATIONS: usize = 256;
 
 /// A regulation as the catalogue has it.
 fn regulation(id: RegId, loc: Loc, profile: &Profile) -> Regulation
@@ -142,7 +139,7 @@ pub(crate) fn open_reg<V: Version>(
     if view.list(&id).is_some() {
         return Ok(refused(alloc, Refusal::DuplicateRegulation));
     }
-    if MOST_REGULATIONS <= regulations(view).len() {
+    if MAX_REGULATIONS <= regulations(view).len() {
         return Ok(refused(alloc, Refusal::TooManyRegulations));
     }
     let regulation = regulation(id, loc, profile);
