@@ -1,4 +1,4 @@
-ghost use Rattle.std.specs.Prelude.{◌≡◌, ◌==◌, ◌↔◌, true, IsSome, IfSome, Some};
+ghost use Rattle.std.specs.Prelude.{◌≡◌, ◌==◌, ◌↔◌, ◌≤◌, length, true, IsSome, IfSome, Some};
 ghost use Rattle.std.specs.List.{list_all};
 ghost use Rattle.std.specs.Ordering.{nat_cmp, as_partial_cmp};
 ghost use Rattle.std.specs.Cmp.{partial_order_from_own_ties};
@@ -105,6 +105,14 @@ impl<Kind> Name<Kind> {
         ensures { result.now ≡ self.now }
     {
         &self.bytes[..self.len as usize]
+    }
+
+    /// How many characters there are, 1 to 10.
+    pub fn len(&self) -> usize
+        ensures value { result ≡ length self.now }
+        ensures in_range { result ≤ 10 }
+    {
+        self.len as usize
     }
 }
 
