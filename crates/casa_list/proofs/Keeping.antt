@@ -13,10 +13,10 @@ use Rattle.casa_flight.specs.Listing.{Listing, put_by, is_before, issued_cto, co
 use Rattle.casa_list.specs.declared.standing.Standing.{Standing}
 use Rattle.casa_list.specs.Kept.{Kept, IsKept}
 use Rattle.casa_list.specs.Standings.{issued_flight, is_flight_before, issued_flights}
-use Rattle.casa_list.specs.Walk.{walked, comps_in, FollowFirst, IsWithin}
+use Rattle.casa_list.specs.Walk.{walked, comps_in, FollowFirst, PlacesRise, IsWithin}
 use Rattle.casa_list.proofs.Ordered.{IsAbsent, put_all, seat, place_in-put, place_in-le, length-put}
 use Rattle.casa_list.proofs.Rightly.{places-walked, length-counts}
-use Rattle.casa_list.proofs.Walked.{follow_walked, follow_drop, within-walked}
+use Rattle.casa_list.proofs.Walked.{walked_rise, follow_walked, follow_drop, within-walked}
 use Rattle.casa_list.proofs.Counted.{counts-bounded}
 use Rattle.casa_list.proofs.Changes.{with_flight, without_flight, taken_out, absent_out, competitors-put, index_assigned, comps-places, length-places, place-put}
 
@@ -30,6 +30,9 @@ index_of xs c = unwrap_or (position (λ (a : Assigned). not (is_before a.comp c)
 
 pub kept_walked : {l : Listing} {k : Kept} → IsKept l k → k.competitors ≡ walked (slots l.profile) k.blocked 0 (competitors l)
 kept_walked {l} {k} h = h.competitors_are ∙ places-walked l ∙ ap (λ bs. walked (slots l.profile) bs 0 (competitors l)) (sym h.blocked_are)
+
+pub kept_rise : {l : Listing} {k : Kept} → IsKept l k → PlacesRise k.competitors
+kept_rise {l} {k} h = walked_rise (slots l.profile) k.blocked (competitors l) k.competitors (kept_walked h)
 
 pub kept_follow : {l : Listing} {k : Kept} (i : ℕ) → IsKept l k → FollowFirst (slots l.profile) k.blocked (drop i k.competitors)
 kept_follow {l} {k} i h =

@@ -1,3 +1,4 @@
+pub mod Keyed
 pub mod Inserted
 pub mod Ordered
 pub mod Walks

@@ -14,9 +14,11 @@ ghost use Rattle.casa_flight.specs.IssuedTimes.{with_issued};
 ghost use Rattle.casa_list.specs.Standings.{standings, count_governed, governed_place, governed_cto, issue_cto, is_forced, competing_eto, forced_eto};
 
 use crate::blocked::{block, counted, slot_of, unblock};
+use crate::copies::copied;
 use crate::fresh::{competitors_of, forced_of, issued_of};
 use crate::grid::SharedGrid;
 use crate::order::{entry_at, free_flight, index_of, put_flight, take_flight};
+use crate::stances::Stances;
 use crate::standing::{Entry, Standing};
 use crate::walk::{
     cto_at, place_behind, place_from, put_competitor, take_competitor, walk_all, walk_from_slot,
@@ -39,7 +41,7 @@ use std::marker::Model;
 #[derive(Drop)]
 pub struct SlotList {
     grid: SharedGrid,
-    flights: BTreeMap<Key, Stance>,
+    flights: Stances,
     competitors: Vec<Assigned>,
     issued: Vec<Entry>,
     forced: Vec<Entry>,
@@ -54,9 +56,9 @@ impl Model for SlotList {
 
     ghost use Rattle.casa_list.specs.Kept.{IsKept};
 
-    ghost view = { λ l. record { profile = l.grid; flights = l.flights.entries } };
+    ghost view = { λ l. record { profile = l.grid; flights = l.flights } };
 
-    ghost invariant = { λ l. IsKept (record { profile = l.grid; flights = l.flights.entries })
+    ghost invariant = { λ l. IsKept (record { profile = l.grid; flights = l.flights })
         (record {
           competitors = l.competitors.items;
           issued = l.issued.items;
@@ -75,7 +77,8 @@ impl PartialEq for SlotList {
     ghost laws = { partial_equiv_from_equiv list_eq_laws };
 
     fn eq(&self, other: &SlotList) -> bool {
-        self.grid.get().profile() == other.grid.get().profile() && self.flights == other.flights
+        self.grid.get().profile() == other.grid.get().profile()
+            && self.flights.as_slice() == other.flights.as_slice()
     }
 }
 
@@ -90,7 +93,7 @@ impl fmt::Debug for SlotList {
     fn fmt<W: fmt::Write>(&self, f: &mut fmt::Formatter<W>) -> fmt::Result {
         f.debug_struct("SlotList")
             .field("profile", self.grid.get().profile())
-            .field("flights", &self.flights)
+            .field("flights", &self.flights())
             .finish_non_exhaustive()
     }
 }
@@ -104,7 +107,7 @@ impl SlotList {
         let blocked = counted(alloc, &grid, &[])?;
         Ok(SlotList {
             grid,
-            flights: BTreeMap::new(alloc),
+            flights: Stances::new(alloc),
             competitors: Vec::new(alloc),
             issued: Vec::new(alloc),
             forced: Vec::new(alloc),
@@ -123,6 +126,7 @@ impl SlotList {
         ensures { IfOk result (λ list. list ≡ record { profile = grid; flights = flights.entries }) }
     {
         let grid = SharedGrid::new(alloc, grid)?;
+        let flights = Stances::of(alloc, &flights)?;
         let mut competitors = competitors_of(alloc, &flights)?;
         let mut issued = issued_of(alloc, &flights)?;
         let forced = forced_of(alloc, &flights)?;
@@ -152,7 +156,7 @@ impl SlotList {
         ensures stance { result ≡ stance_of self.now key.now }
         ensures keys { AreInOrder self.now.flights }
     {
-        self.flights.get(key).copied()
+        self.flights.get(key)
     }
 
     /// The estimated time over of a competitor.
@@ -193,7 +197,7 @@ impl SlotList {
         self.competitors.reserve(1)?;
         self.issued.reserve(self.competitors.len() + 1)?;
         self.flights
-            .insert(comp.key, Stance::Competing { eto: comp.eto })?;
+            .put(comp.key, Stance::Competing { eto: comp.eto })?;
         free_flight(&mut self.forced, comp.key, was);
         let at = index_of(self.competitors.as_slice(), &comp);
         let blocked = self.blocked.as_slice();
@@ -257,7 +261,7 @@ impl SlotList {
         let was = self.forced_at(&comp.key);
         self.issued.reserve(self.competitors.len() + 1)?;
         let stance = Stance::Issued { eto: comp.eto, cto };
-        self.flights.insert(comp.key, stance)?;
+        self.flights.put(comp.key, stance)?;
         free_flight(&mut self.forced, comp.key, was);
         put_flight(&mut self.issued, comp, Standing::Issued(cto));
         let slot = block(&self.grid, &mut self.blocked, cto);
@@ -282,7 +286,7 @@ impl SlotList {
     {
         self.forced.reserve(1)?;
         self.flights
-            .insert(comp.key, Stance::Forced { eto: comp.eto })?;
+            .put(comp.key, Stance::Forced { eto: comp.eto })?;
         put_flight(&mut self.forced, comp, Standing::Forced);
         Ok(())
     }
@@ -410,12 +414,12 @@ impl SlotList {
         cto_at(&self.grid, comp.eto, self.place_at(comp))
     }
 
-    /// How each flight stands, by keys.
-    pub fn flights(&self) -> &BTreeMap<Key, Stance>
-        ensures flights { result.now.entries ≡ self.now.flights }
+    /// How each flight stands, in the order of their keys.
+    pub fn flights(&self) -> &[(Key, Stance)]
+        ensures flights { result.now ≡ self.now.flights }
         ensures keys { AreInOrder self.now.flights }
     {
-        &self.flights
+        self.flights.as_slice()
     }
 
     /// How many flights the regulation governs: the competitors and the issued flights.
@@ -461,28 +465,32 @@ impl SlotList {
         Ok(())
     }
 
-    /// The same list, of which only the slots are shared, or `AllocError` where there is no memory for it.
+    /// The same list, or `AllocError` where there is no memory for it.
+    ///
+    /// The slots are shared. All else is copied as it lies in memory, with room for one flight more.
     pub fn try_clone(&self) -> Result<SlotList, AllocError>
         ensures { IfOk result (λ list. list ≡ self.now) }
     {
-        let mut issued = self.issued.clone()?;
-        issued.reserve(self.competitors.len())?;
+        let alloc = *self.blocked.allocator();
+        let competitors = self.competitors.len() + 1;
+        let issued = self.issued.len() + competitors;
+        let forced = self.forced.len() + 1;
         Ok(SlotList {
             grid: self.grid.share()?,
-            flights: self.flights.clone()?,
-            competitors: self.competitors.clone()?,
-            issued,
-            forced: self.forced.clone()?,
-            blocked: self.blocked.clone()?,
+            flights: self.flights.try_clone()?,
+            competitors: copied(alloc, &self.competitors, competitors)?,
+            issued: copied(alloc, &self.issued, issued)?,
+            forced: copied(alloc, &self.forced, forced)?,
+            blocked: copied(alloc, &self.blocked, self.blocked.len())?,
         })
     }
 }
 
 /// Writes a competitor as issued at this time, which takes no memory.
-fn write_issued(flights: &mut BTreeMap<Key, Stance>, comp: &Comp, cto: Moment)
-    requires { at_name flights.old.entries comp.now.key ≡ Some (Stance.Competing comp.now.eto) }
-    ensures { flights.new.entries ≡ put flights.old.entries comp.now.key (Stance.Issued comp.now.eto cto) }
+fn write_issued(flights: &mut Stances, comp: &Comp, cto: Moment)
+    requires { at_name flights.old comp.now.key ≡ Some (Stance.Competing comp.now.eto) }
+    ensures { flights.new ≡ put flights.old comp.now.key (Stance.Issued comp.now.eto cto) }
 {
-    let written: Result<_, _> = flights.insert(comp.key, Stance::Issued { eto: comp.eto, cto });
-    written.unwrap();
+    let stance = Stance::Issued { eto: comp.eto, cto };
+    flights.put(comp.key, stance).unwrap();
 }

@@ -6,7 +6,7 @@ ghost use Rattle.std.specs.List.{position, slice_get};
 ghost use Rattle.casa_flight.specs.declared.comp.Assigned.{Assigned};
 ghost use Rattle.casa_grid.specs.Slots.{slots};
 ghost use Rattle.casa_flight.specs.Assignment.{place_from};
-ghost use Rattle.casa_list.specs.Walk.{is_clear, clear_from, place_low, low_after, low_behind, walked, followed, comps_in, FollowFirst, is_below, count_below, FollowFrom, walked_from_slot, IsWithin};
+ghost use Rattle.casa_list.specs.Walk.{is_clear, clear_from, place_low, low_after, low_behind, walked, followed, comps_in, FollowFirst, is_below, count_below, PlacesRise, FollowFrom, walked_from_slot, IsWithin};
 ghost use Rattle.casa_grid.specs.Profile.{end_of};
 ghost use Rattle.casa_grid.specs.TimeOver.{cto};
 
@@ -188,22 +188,13 @@ fn is_below(k: usize, place: Place) -> bool
     }
 }
 
-/// The first competitor whose place is not below slot `k`.
-fn first_from(competitors: &[Assigned], k: usize) -> Option<usize>
-    ensures value { result ≡ position (λ (a : Assigned). not (is_below k a.place)) competitors.now }
-    ensures within { IfSome result (λ i. i < length competitors.now) }
-{
-    competitors
-        .iter()
-        .position(|assigned| !is_below(k, assigned.place))
-}
-
-/// How many of the first competitors have places below slot `k`.
+/// How many of these competitors, along which places rise, have places below slot `k`.
 pub fn count_below(competitors: &[Assigned], k: usize) -> usize
+    requires { PlacesRise competitors.now }
     ensures value { result ≡ count_below competitors.now k }
     ensures within { result ≤ length competitors.now }
 {
-    first_from(competitors, k).unwrap_or(competitors.len())
+    competitors.partition_point(|assigned| is_below(k, assigned.place))
 }
 
 /// Moves the competitors to their places after the number of issued flights in this slot changed: only those
@@ -214,7 +205,8 @@ pub fn walk_from_slot(
     competitors: &mut Vec<Assigned>,
     slot: Option<usize>,
 )
-    requires { FollowFrom (slots grid.now) blocked.now competitors.old.items slot }
+    requires rise { PlacesRise competitors.old.items }
+    requires follow { FollowFrom (slots grid.now) blocked.now competitors.old.items slot }
     ensures items { competitors.new.items ≡ walked_from_slot (slots grid.now) blocked.now competitors.old.items slot }
     ensures len { vec_len competitors.new ≡ vec_len competitors.old }
 {

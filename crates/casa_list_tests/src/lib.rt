@@ -4,6 +4,10 @@
 #![tactic(auto)]
 
 #[cfg(test)]
+mod chains;
+#[cfg(test)]
+mod deeds;
+#[cfg(test)]
 mod list;
 #[cfg(test)]
 mod parts;

@@ -4,13 +4,14 @@ use crate::list::three_flights;
 use crate::parts::key;
 use casa_list::{SharedList, SlotList};
 use std::alloc::{AllocError, Global};
+use std::process::Abort;
 use std::test::Fail;
 
 /// The list to be shared; made again where memory was refused.
-fn shared(alloc: Global) -> Result<SharedList, Fail> {
-    match SharedList::new(alloc, three_flights(alloc)?) {
+fn shared(rt: &impl Abort, alloc: Global) -> Result<SharedList, Fail> {
+    match SharedList::new(alloc, three_flights(rt, alloc)?) {
         Ok(list) => Ok(list),
-        Err(AllocError) => Ok(SharedList::new(alloc, three_flights(alloc)?)?),
+        Err(AllocError) => Ok(SharedList::new(alloc, three_flights(rt, alloc)?)?),
     }
 }
 
@@ -26,7 +27,7 @@ fn changeable(list: SharedList, other: &SharedList) -> Result<SlotList, Fail> {
 /// in turn.
 #[test]
 fn a_refused_growth_copies_no_shared_list(rt: HostRuntime) -> Result<(), Fail> {
-    let list = shared(rt.alloc())?;
+    let list = shared(&rt, rt.alloc())?;
     let other = list.share()?;
     assert!(rt; list == other);
     let mut own = changeable(other, &list)?;
@@ -39,7 +40,7 @@ fn a_refused_growth_copies_no_shared_list(rt: HostRuntime) -> Result<(), Fail> {
 /// Nobody else has it, so nothing is copied.
 #[test]
 fn a_list_that_nobody_shares_is_taken_back(rt: HostRuntime) -> Result<(), Fail> {
-    let list = shared(rt.alloc())?.into_list()?;
-    assert!(rt; list == three_flights(rt.alloc())?);
+    let list = shared(&rt, rt.alloc())?.into_list()?;
+    assert!(rt; list == three_flights(&rt, rt.alloc())?);
     Ok(())
 }

@@ -10,7 +10,7 @@ use Rattle.casa_flight.specs.Listing.{Listing, places, place_of}
 use Rattle.casa_flight.proofs.MovesNobody.{place_issued}
 use Rattle.casa_list.proofs.Keeping.{index_of, standing_within, kept_few, stands}
 use Rattle.casa_list.proofs.Issuing.{kept_issued, issue_time}
-use Rattle.casa_list.proofs.Searched.{sorted_places}
+use Rattle.casa_list.proofs.Searched.{sorted_places, sorted_issued}
 use Rattle.casa_list.proofs.list.SlotList.issue.Goals as goal
 
 pub remove-requires : goal.remove-requires
@@ -24,6 +24,9 @@ remove-requires c =
 
 pub write_issued-requires : goal.write_issued-requires
 write_issued-requires c = stands _ _ c.args.key.now (Some (Competing c.in_ok-eto.eto)) c.self.view_is c.in_ok-eto.ensures.found
+
+pub put_flight-requires-clause-sorted : goal.put_flight-requires-clause-sorted
+put_flight-requires-clause-sorted c = sorted_issued c.self.invariant
 
 pub block-requires : goal.block-requires
 block-requires c =
@@ -47,7 +50,7 @@ invariant_of-self c =
 
 pub returns-clause-others : goal.returns-clause-others
 returns-clause-others c =
-    let l : Listing = record { profile = c.self.inside.grid; flights = c.self.inside.flights.entries } in
+    let l : Listing = record { profile = c.self.inside.grid; flights = c.self.inside.flights } in
     let comp : Comp = record { eto = c.in_ok-eto.eto; key = c.args.key.now } in
     let found = stands l _ comp.key (Some (Competing comp.eto)) c.self.view_is c.in_ok-eto.ensures.found in
     let cto = c.competitor_cto-cto.result in
@@ -59,7 +62,7 @@ returns-clause-others c =
 
 pub index_of-at-requires : goal.index_of-at-requires
 index_of-at-requires c =
-    let l : Listing = record { profile = c.self.inside.grid; flights = c.self.inside.flights.entries } in
+    let l : Listing = record { profile = c.self.inside.grid; flights = c.self.inside.flights } in
     let xs = c.as_slice.result.now in
     let are : xs ≡ places l = search (rules, c.self.invariant.competitors_are) in
     sorted_places l xs are

@@ -36,7 +36,7 @@ invariant_of-self c =
     c.take_competitor.ensures.items ∙ (λ j. followed (slots c.self.inside.grid) (c.as_slice-2.ensures.value j) (take (at j) xs) (comps_in (drop (at j + 1) xs))) in
     let room = c.self.invariant.room_is in
     let enough : length ys + length c.self.inside.issued.items ≤ vec_capacity c.self.inside.issued = search rules in
-    rw c.remove.ensures.entries (kept_left comp ys c.self.invariant found is enough)
+    rw c.remove.ensures (kept_left comp ys c.self.invariant found is enough)
 
 pub returns-clause-place : goal.returns-clause-place
 returns-clause-place c =
@@ -54,7 +54,7 @@ returns-clause-place c =
 
 pub index_of-at-requires : goal.index_of-at-requires
 index_of-at-requires c =
-    let l : Listing = record { profile = c.self.inside.grid; flights = c.self.inside.flights.entries } in
+    let l : Listing = record { profile = c.self.inside.grid; flights = c.self.inside.flights } in
     let xs = c.as_slice.result.now in
     let are : xs ≡ places l = search (rules, c.self.invariant.competitors_are) in
     sorted_places l xs are

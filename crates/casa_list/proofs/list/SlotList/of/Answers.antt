@@ -10,12 +10,12 @@ use Rattle.casa_list.proofs.list.SlotList.of.Goals as goal
 
 pub invariant_of-result : goal.invariant_of-result
 invariant_of-result c =
-    let l : Listing = record { profile = c.in_ok-grid.grid; flights = c.args.flights.entries } in
+    let l : Listing = record { profile = c.in_ok-grid.grid; flights = c.in_ok-flights.flights } in
     let xs = c.in_ok-competitors.competitors.items in
     let ys = c.walk_all.new.competitors.items in
     let bs = c.in_ok-blocked.blocked.items in
     let issued = c.reserve.new.self.items in
-    let keys : AreInOrder c.args.flights.entries = search rules in
+    let keys : AreInOrder c.in_ok-flights.flights = search rules in
     let comps_are : comps_in xs ≡ competitors l = search rules in
     let issued_are : issued ≡ issued_flights l = search rules in
     let forced_are : c.in_ok-forced.forced.items ≡ forced_flights l = search rules in

@@ -25,7 +25,7 @@ returns-clause-within c =
 
 pub index_of-at-requires : goal.index_of-at-requires
 index_of-at-requires c =
-    let l : Listing = record { profile = c.self.inside.grid; flights = c.self.inside.flights.entries } in
+    let l : Listing = record { profile = c.self.inside.grid; flights = c.self.inside.flights } in
     let xs = c.as_slice-competitors.result.now in
     let are : xs ≡ places l = search (rules, c.self.invariant.competitors_are) in
     sorted_places l xs are
