@@ -27,14 +27,14 @@ receipts_of_push {C} {R} d es e =
     ∙ filter-append (is_of_desk d) (receipts_from 1 es) (receipt (1 + length es) e ∷ [])
 
 -- the last position of receipts is that of the last
-last_position_push : {C R : Type 0} → (rs : List (Receipt C R)) (r : Receipt C R)
+pub last_position_push : {C R : Type 0} → (rs : List (Receipt C R)) (r : Receipt C R)
     → last_position (rs ++ r ∷ []) ≡ r.position
 last_position_push rs r =
     let last : length (rs ++ r ∷ []) - 1 ≡ length rs = omega (arith, length-append rs (r ∷ [])) in
     rw (last, slice_get-pushed rs r)
 
 -- one more entry of a desk is one more in its tally, which ends at the new length
-tally_of_same : {C R : Type 0} → (d : ℕ) (es : List (Entry C R)) (e : Entry C R) → e.desk ≡ d
+pub tally_of_same : {C R : Type 0} → (d : ℕ) (es : List (Entry C R)) (e : Entry C R) → e.desk ≡ d
     → tally d (es ++ e ∷ []) ≡ (record { calls = length (receipts_of d es) + 1; last = length es + 1 })
 tally_of_same {C} {R} d es e is =
     let rs : List (Receipt C R) = receipts_of d es in
@@ -49,7 +49,7 @@ tally_of_same {C} {R} d es e is =
     ap numbers pushed ∙ ap (λ a. tallied a (last_position (rs ++ r ∷ []))) calls ∙ ap (tallied (length rs + 1)) last
 
 -- an entry of another desk leaves a desk's tally as it is
-tally_of_other : {C R : Type 0} → (d : ℕ) (es : List (Entry C R)) (e : Entry C R) → e.desk ≢ d
+pub tally_of_other : {C R : Type 0} → (d : ℕ) (es : List (Entry C R)) (e : Entry C R) → e.desk ≢ d
     → tally d (es ++ e ∷ []) ≡ tally d es
 tally_of_other {C} {R} d es e is =
     let rs : List (Receipt C R) = receipts_of d es in

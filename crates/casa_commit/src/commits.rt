@@ -5,7 +5,7 @@ ghost use Rattle.casa_commit.specs.Rooms.{world_of, Admits, Accepts, AreUnchange
 ghost use Rattle.casa_commit.specs.Faults.{fault_of};
 
 use crate::fault::{CallFault, CommitFault};
-use crate::planning::prepared_now;
+use crate::planning::answered_now;
 use crate::prepared::Prepared;
 use crate::room::Room;
 use crate::world::World;
@@ -41,9 +41,23 @@ pub fn commit<W: World>(
     if !room.world().same(&prepared.view) {
         return Err((CommitFault::Stale, prepared));
     }
-    match room.accept(pass, prepared) {
+    let Prepared {
+        call,
+        view,
+        reply,
+        change,
+    } = prepared;
+    match room.append(pass, call, reply, change) {
         Ok(receipt) => Ok(receipt),
-        Err(prepared) => Err((CommitFault::NoMemory, prepared)),
+        Err((call, reply, change)) => {
+            let prepared = Prepared {
+                call,
+                view,
+                reply,
+                change,
+            };
+            Err((CommitFault::NoMemory, prepared))
+        }
     }
 }
 
@@ -68,10 +82,13 @@ pub fn locked<W: World, F: Fn(&W::View, &W::Call) -> Result<(W::Reply, W::Change
     if !room.admits(pass) {
         return Err(CallFault::ForeignPass);
     }
-    let Ok(prepared) = prepared_now(room.world(), call, plan) else {
+    let Ok((reply, change)) = answered_now(room.world(), call, plan) else {
         return Err(CallFault::NoMemory);
     };
-    match room.accept(pass, prepared) {
+    let Ok(call) = W::copy_call(call) else {
+        return Err(CallFault::NoMemory);
+    };
+    match room.append(pass, call, reply, change) {
         Ok(receipt) => Ok(receipt),
         Err(_) => Err(CallFault::NoMemory),
     }

@@ -30,18 +30,19 @@ pub fn prepare<W: World, F: Fn(&W::View, &W::Call) -> Result<(W::Reply, W::Chang
     })
 }
 
-/// The answer to a call, worked out on a view of the world as it is.
-pub(crate) fn prepared_now<
+/// The reply to a call and its change, worked out on a view of the world as it is. The view is let go with that, so that
+/// the change can be written where nothing is shared. `AllocError` where `plan` answers it, or where there is no memory
+/// for the view.
+pub(crate) fn answered_now<
     W: World,
     F: Fn(&W::View, &W::Call) -> Result<(W::Reply, W::Change), AllocError>,
->(world: &W, call: &W::Call, plan: &F) -> Result<Prepared<W>, AllocError>
+>(world: &W, call: &W::Call, plan: &F) -> Result<(W::Reply, W::Change), AllocError>
     requires good { W.good (W.state world.now) }
     requires callable { TakesViews W.World (F.pre plan.now) }
     requires owes { OwesAnswers W.World (F.post plan.now) }
-    ensures call { IfOk result (λ p. call_of p ≡ call.now) }
-    ensures shown { IfOk result (λ p. W.good (W.state world.now) → W.shows (W.state world.now) (view_of p)) }
+    ensures { IfOk result (λ answer. (answer.0 ≡ W.reply (W.state world.now) call.now) ×
+        ∥ W.changes (W.state world.now) call.now answer.1 ∥₁) }
 {
     let view = world.view(call)?;
-    let call = W::copy_call(call)?;
-    prepare::<W, F>(view, call, plan)
+    plan(&view, call)
 }

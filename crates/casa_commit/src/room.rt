@@ -99,6 +99,17 @@ impl<W: World> Room<W> {
         Ok(Pass::new(alloc, self.number, desk as u32))
     }
 
+    /// Lets the world move in what it kept apart for views that are gone. `AllocError` where there is no memory for it; the
+    /// room says what it said at each end.
+    pub fn consolidate(&mut self) -> Result<(), AllocError>
+        ensures world { W.alike (world_of self.old) (world_of self.new) }
+        ensures history { history_of self.new ≡ history_of self.old }
+        ensures number { room_number self.new ≡ room_number self.old }
+        ensures desks { open_desks self.new ≡ open_desks self.old }
+    {
+        self.world.consolidate()
+    }
+
     /// Whether the pass is this room's: its number, an open desk, and that desk's number of entries and last position.
     pub(crate) fn admits(&self, pass: &Pass<W::Call, W::Reply>) -> bool
         ensures { IsTrue result ↔ Admits self.now pass.now }
@@ -110,31 +121,25 @@ impl<W: World> Room<W> {
             && last_position(pass) == self.desks[desk].last
     }
 
-    /// Appends the entry of a prepared answer and applies its change, or hands the answer back where memory is refused.
-    pub(crate) fn accept(
+    /// Appends the entry of a call with its reply and applies its change, or hands all three back where memory is refused.
+    pub(crate) fn append(
         &mut self,
         pass: &mut Pass<W::Call, W::Reply>,
-        prepared: Prepared<W>,
-    ) -> Result<Receipt<W::Call, W::Reply>, Prepared<W>>
+        call: W::Call,
+        reply: W::Reply,
+        change: W::Change,
+    ) -> Result<Receipt<W::Call, W::Reply>, (W::Call, W::Reply, W::Change)>
         requires admitted { Admits self.old pass.old }
-        requires shown { W.good (W.state (world_of self.old)) → W.shows (W.state (world_of self.old)) (view_of prepared) }
-        ensures reply { OnOk result
-            (reply_of prepared ≡ W.reply (W.state (world_of self.old)) (call_of prepared)) }
+        requires right { W.good (W.state (world_of self.old)) →
+            (reply ≡ W.reply (W.state (world_of self.old)) call) × ∥ W.changes (W.state (world_of self.old)) call change ∥₁ }
         ensures accepted { IfOk result (λ receipt.
-            Accepts self.old pass.old (call_of prepared) (change_of prepared) receipt self.new pass.new) }
+            Accepts self.old pass.old call change receipt self.new pass.new) }
         ensures refused { OnErr result (AreUnchanged self.old pass.old self.new pass.new) }
-        ensures back { IfErr result (λ p. p ≡ prepared) }
+        ensures back { IfErr result (λ answer. answer ≡ (call, reply, change)) }
     {
-        let grown = self.grow(pass, &prepared.call, &prepared.reply, &prepared.change);
-        let Ok((first, second)) = grown else {
-            return Err(prepared);
+        let Ok((first, second)) = self.grow(pass, &call, &reply, &change) else {
+            return Err((call, reply, change));
         };
-        let Prepared {
-            call,
-            view: _,
-            reply,
-            change,
-        } = prepared;
         let desk = pass.desk();
         let position = second.position;
         self.history.push(Entry { desk, call, reply });

@@ -73,6 +73,11 @@ pub trait World {
         ensures current { IsTrue result ↔ is_current self.now view.now }
         ensures shown { IsTrue result → good (state self.now) → shows (state self.now) view.now };
 
+    /// Moves in what was kept apart for views that are gone. `AllocError` where there is no memory for it; the world says
+    /// what it said at each end.
+    fn consolidate(&mut self) -> Result<(), AllocError>
+        ensures { alike self.old self.new };
+
     /// Makes all growths of a change, which the entry with this number will apply. `AllocError` where one is refused;
     /// nothing but spare memory has changed then.
     fn fits(&mut self, number: usize, change: &Self::Change) -> Result<(), AllocError>

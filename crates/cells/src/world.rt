@@ -90,6 +90,10 @@ impl World for Cells {
         self.cells[view.from] == view.cell
     }
 
+    fn consolidate(&mut self) -> Result<(), AllocError> {
+        Ok(())
+    }
+
     fn fits(&mut self, _number: usize, _change: &Change) -> Result<(), AllocError> {
         Ok(())
     }

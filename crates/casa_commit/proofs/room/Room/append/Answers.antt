@@ -11,25 +11,14 @@ use Rattle.casa_commit.specs.Legal.{entry, replay, IsLegal}
 use Rattle.casa_commit.specs.Desks.{AreTallies, no_calls}
 use Rattle.casa_commit.proofs.Replays.{pushed_behind, replay_push, good_state, legal_push}
 use Rattle.casa_commit.proofs.Tallies.{tallies_push}
-use Rattle.casa_commit.proofs.room.Room.accept.Given.{Over}
-use Rattle.casa_commit.proofs.room.Room.accept.Goals as goal
+use Rattle.casa_commit.proofs.room.Room.append.Given.{Over}
+use Rattle.casa_commit.proofs.room.Room.append.Goals as goal
 
 abbrev OfWorld : Over → Type 0
 OfWorld g = Entry g.row.W-Call.Denot g.row.W-Reply.Denot
 
 abbrev ReceiptOfWorld : Over → Type 0
 ReceiptOfWorld g = Receipt g.row.W-Call.Denot g.row.W-Reply.Denot
-
--- the prepared reply is that of the call: the state is good, and the view shows it
-pub returns-clause-reply : goal.returns-clause-reply
-returns-clause-reply g c =
-    let W = g.W.World in
-    let m = g.met.W.World in
-    let w = c.args.self.now.world in
-    let es = entries c.args.self.now.history in
-    let fine = good_state W.good W.after m.good_after W.opening m.good_opening es (W.state w) c.args.self.now.replayed in
-    ∥∥₁_elim c.args.prepared.holds (Coded-set g.row.W-Reply.coded _ _)
-    (λ h. (h (W.state w) fine (c.requires.shown fine)).0)
 
 -- the room and the pass are those after the entry
 pub returns-clause-accepted : goal.returns-clause-accepted
@@ -39,29 +28,28 @@ returns-clause-accepted g c =
     let room = c.args.self.now in
     let w = room.world in
     let es = entries room.history in
-    let p = c.args.prepared in
+    let p = c.args in
     let pass = c.args.pass.now in
     let fine = good_state W.good W.after m.good_after W.opening m.good_opening es (W.state w) room.replayed in
     let says : p.reply ≡ W.reply (W.state w) p.call =
-    ∥∥₁_elim p.holds (Coded-set g.row.W-Reply.coded _ _)
-    (λ h. (h (W.state w) fine (c.requires.shown fine)).0) in
+    (c.requires.right fine).0 in
     let e : OfWorld g = entry c.desk-desk.result p.call p.reply in
     let desk : c.desk-desk.result ≡ pass.desk = search (rules) in
     let same : e ≡ entry pass.desk p.call (W.reply (W.state w) p.call) =
     ap (λ (d : ℕ). entry d p.call p.reply) desk ∙ ap (entry pass.desk p.call) says in
-    let items = pushed_behind (entries c.push.new.self) _ es e c.push.ensures c.grow-grown.ensures.history in
+    let items = pushed_behind (entries c.push.new.self) _ es e c.push.ensures c.grow.ensures.history in
     let number : c.in-Ok.second.position ≡ length es + 1 =
     ap (λ (r : ReceiptOfWorld g). r.position) c.in-Ok.ensures.second in
     let applied =
-    m.alike_applied w c.grow-grown.new.self.world c.in-Ok.second.position p.change c.apply.new.self
-    c.grow-grown.ensures.world c.apply.ensures in
+    m.alike_applied w c.grow.new.self.world c.in-Ok.second.position p.change c.apply.new.self
+    c.grow.ensures.world c.apply.ensures in
     record {
       admitted = c.requires.admitted;
       history = items ∙ ap (λ (x : OfWorld g). es ++ x ∷ []) same;
       legal = search (rules);
       receipt_is = c.in-Ok.ensures.first ∙ ap (λ x. receipt (length es + 1) (entry pass.desk p.call x)) says;
       pass_with = search (rules);
-      written = ∥∥₁_map p.holds (λ h. (h (W.state w) fine (c.requires.shown fine)).1);
+      written = (c.requires.right fine).1;
       applied = subst (λ (k : ℕ). W.applied w k p.change c.apply.new.self) number applied;
       replayed = search (rules);
       number = search (rules);
@@ -75,21 +63,21 @@ invariant_of-self-clause-replayed g c =
     let m = g.met.W.World in
     let w = c.args.self.now.world in
     let es = entries c.args.self.now.history in
-    let p = c.args.prepared in
+    let p = c.args in
     let n = c.in-Ok.second.position in
     let w' = c.apply.new.self in
     let e : OfWorld g = entry c.desk-desk.result p.call p.reply in
     let was : W.state w ≡ replay W.after W.opening es = c.args.self.now.replayed in
     let fine = good_state W.good W.after m.good_after W.opening m.good_opening es (W.state w) was in
     let applied =
-    m.alike_applied w c.grow-grown.new.self.world n p.change w' c.grow-grown.ensures.world c.apply.ensures in
+    m.alike_applied w c.grow.new.self.world n p.change w' c.grow.ensures.world c.apply.ensures in
     let number : n ≡ length es + 1 = ap (λ (r : ReceiptOfWorld g). r.position) c.in-Ok.ensures.second in
     let next : W.state w' ≡ W.after n (W.state w) p.call =
-    ∥∥₁_elim p.holds (W.state_set _ _)
-    (λ h. m.applied_after w n p.call p.change w' fine (h (W.state w) fine (c.requires.shown fine)).1 applied) in
+    ∥∥₁_elim (c.requires.right fine).1 (W.state_set _ _)
+    (λ h. m.applied_after w n p.call p.change w' fine h applied) in
     let goes : W.state w' ≡ replay W.after W.opening (es ++ e ∷ []) =
     next ∙ replay_push W.after W.opening es e n (W.state w) number was in
-    let items = pushed_behind (entries c.push.new.self) _ es e c.push.ensures c.grow-grown.ensures.history in
+    let items = pushed_behind (entries c.push.new.self) _ es e c.push.ensures c.grow.ensures.history in
     subst (λ (xs : List (OfWorld g)). W.state w' ≡ replay W.after W.opening xs) (sym items) goes
 
 -- each earlier reply stands, and the new one is that of its call
@@ -99,14 +87,13 @@ invariant_of-self-clause-legal g c =
     let m = g.met.W.World in
     let w = c.args.self.now.world in
     let es = entries c.args.self.now.history in
-    let p = c.args.prepared in
+    let p = c.args in
     let e : OfWorld g = entry c.desk-desk.result p.call p.reply in
     let was : W.state w ≡ replay W.after W.opening es = c.args.self.now.replayed in
     let fine = good_state W.good W.after m.good_after W.opening m.good_opening es (W.state w) was in
     let says : p.reply ≡ W.reply (W.state w) p.call =
-    ∥∥₁_elim p.holds (Coded-set g.row.W-Reply.coded _ _)
-    (λ h. (h (W.state w) fine (c.requires.shown fine)).0) in
-    let items = pushed_behind (entries c.push.new.self) _ es e c.push.ensures c.grow-grown.ensures.history in
+    (c.requires.right fine).0 in
+    let items = pushed_behind (entries c.push.new.self) _ es e c.push.ensures c.grow.ensures.history in
     subst (λ (xs : List (OfWorld g)). IsLegal W.after W.reply W.opening xs) (sym items)
     (legal_push W.after W.reply W.opening es e c.args.self.now.legal
     (says ∙ ap (λ (s : W.state_type). W.reply s p.call) was))
@@ -115,18 +102,18 @@ invariant_of-self-clause-legal g c =
 pub invariant_of-self-clause-tallied : goal.invariant_of-self-clause-tallied
 invariant_of-self-clause-tallied g c =
     let es = entries c.args.self.now.history in
-    let p = c.args.prepared in
+    let p = c.args in
     let d = c.desk-desk.result in
     let n = c.in-Ok.second.position in
     let t = c.index_mut-tally.result.now in
-    let was = c.grow-grown.new.self.desks.items in
+    let was = c.grow.new.self.desks.items in
     let e : OfWorld g = entry d p.call p.reply in
     let number : n ≡ length es + 1 = ap (λ (r : ReceiptOfWorld g). r.position) c.in-Ok.ensures.second in
-    let desks = ap (λ (v : Vec Tally Global). v.items) c.grow-grown.ensures.desks in
+    let desks = ap (λ (v : Vec Tally Global). v.items) c.grow.ensures.desks in
     let tallied : AreTallies was es =
     subst (λ (ts : List Tally). AreTallies ts es) (sym desks) c.args.self.now.tallied in
     let is_open : d < length was = search (rules) in
     let here = slice_get_read was (length was) d t refl is_open c.index_mut-tally.ensures.value in
-    let items = pushed_behind (entries c.push.new.self) _ es e c.push.ensures c.grow-grown.ensures.history in
+    let items = pushed_behind (entries c.push.new.self) _ es e c.push.ensures c.grow.ensures.history in
     subst (λ (xs : List (OfWorld g)). AreTallies (set was d (record { calls = t.calls + 1; last = n })) xs) (sym items)
     (tallies_push was es e t n tallied is_open (sym (get_or_from_slice_get was d t no_calls here)) number)
