@@ -43,7 +43,8 @@ use Rattle.casa_answer.proofs.Entries.{HasLists, Entries, entries, entries_order
 use Rattle.casa_answer.proofs.Among.{among_over, any_flights, distinct_over}
 use Rattle.casa_answer.proofs.Shared.{shown_with_all, has_list, there_with_all, crossed_subject}
 use Rattle.casa_answer.proofs.Freed.{list-closed, row-closed, freed_ungoverned, governed_in_list}
-use Rattle.casa_answer.proofs.Opens.{values-by_id, measure_none, measure_some}
+use Rattle.casa_answer.proofs.Opens.{values-by_id}
+use Rattle.casa_answer.proofs.NewRates.{measure_none, measure_some}
 
 -- the catalogue without a regulation
 catalogue-without : (id : Text) (regs : List (Text × Measure))

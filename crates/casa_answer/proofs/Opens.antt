@@ -45,6 +45,7 @@ use Rattle.casa_answer.proofs.Messages.{messages_are}
 use Rattle.casa_answer.proofs.Entered.{IsUngoverned}
 use Rattle.casa_answer.proofs.Entries.{HasLists, Entries, entries, entries_ordered}
 use Rattle.casa_answer.proofs.Among.{among_over, distinct_over}
+use Rattle.casa_answer.proofs.NewRates.{measure_none, measure_some}
 
 -- a regulation that is not open governs nobody
 governs_nobody : (m : State) (key id : Text) (row : Row) → IsGood m → row_of m key ≡ Some row → measure_of m id ≡ None → is_governed_by id row ≡ false
@@ -215,21 +216,6 @@ opens m id loc profile v good is absent room =
     has = all-flights_over (HasLists started begin) (may_compete m.clock) r m.rows
         (all-each (λ (e : Text × Row). row_of m e.0 ≡ Some e.1) (λ (e : Text × Row). may_compete m.clock e.1 ≡ true → is_some (subject e.1.plan r) ≡ true → HasLists started begin e.0)
         (λ e f a b row there q sub. let both : Some e.1 ≡ Some row = sym f ∙ there in let same : e.1 ≡ row = cc in own e.0 e.1 f a q (subst (λ (x : Row). is_subject started x.plan q ≡ true) (sym same) sub)) m.rows found)
-
--- a regulation is open exactly if it has a list
-pub measure_none : (m : State) (id : Text) → list_of m id ≡ None → measure_of m id ≡ None
-measure_none m id e = by (measure_of m id) e
-  where
-    by : (w : Option Measure) → option_map (listing m.rows id) w ≡ None → w ≡ None
-    by None e = refl
-    by (Some measure) e = cc
-
-pub measure_some : (m : State) (id : Text) (l : Listing) → list_of m id ≡ Some l → (measure : Measure) × (measure_of m id ≡ Some measure) × (listing m.rows id measure ≡ l)
-measure_some m id l e = by (measure_of m id) refl e
-  where
-    by : (w : Option Measure) → measure_of m id ≡ w → option_map (listing m.rows id) w ≡ Some l → (measure : Measure) × (measure_of m id ≡ Some measure) × (listing m.rows id measure ≡ l)
-    by None p e = cc
-    by (Some measure) p e = (measure, p, cc)
 
 pub open_planned : (v : Sight) (id loc : Text) (profile : List Period) → IsPlanned v (OpenReg id loc profile) (open_reg v id loc profile)
 open_planned v id loc profile m good is = by (v.list id) (nat_le most_regulations (length (regulations_in v))) refl refl

@@ -15,3 +15,4 @@ pub mod OpenClose
 pub mod EachCall
 pub mod Stamps
 mod Footprints
+pub mod Written

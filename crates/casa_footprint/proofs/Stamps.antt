@@ -21,11 +21,11 @@ use Rattle.casa_footprint.proofs.Catalogue.{absent_same}
 use Rattle.casa_footprint.proofs.EachCall.{spares}
 
 -- the state after more entries
-abbrev run : State → List (Entry Call Reply) → State
+abbrev pub run : State → List (Entry Call Reply) → State
 run m [] = m
 run m (e ∷ es) = run (next m e.call) es
 
-run-append : (m : State) (xs ys : List (Entry Call Reply)) → run m (xs ++ ys) ≡ run (run m xs) ys
+pub run-append : (m : State) (xs ys : List (Entry Call Reply)) → run m (xs ++ ys) ≡ run (run m xs) ys
 run-append m [] ys = refl
 run-append m (e ∷ xs) ys = run-append (next m e.call) xs ys
 
@@ -34,19 +34,19 @@ replay_from-run : (n : ℕ) (m : State) (es : List (Entry Call Reply)) → repla
 replay_from-run n m [] = refl
 replay_from-run n m (e ∷ es) = replay_from-run (n + 1) (next m e.call) es
 
-after-run : (history : List (Entry Call Reply)) → state_after history ≡ run empty history
+pub after-run : (history : List (Entry Call Reply)) → state_after history ≡ run empty history
 after-run history = replay_from-run 1 empty history
 
-run-good : (m : State) (es : List (Entry Call Reply)) → IsGood m → IsGood (run m es)
+pub run-good : (m : State) (es : List (Entry Call Reply)) → IsGood m → IsGood (run m es)
 run-good m [] good = good
 run-good m (e ∷ es) good = run-good (next m e.call) es (next-good m e.call good)
 
-new_last : (b : Bool) (count last : ℕ) → last ≤ count → cond b (count + 1) last ≤ count + 1
+pub new_last : (b : Bool) (count last : ℕ) → last ≤ count → cond b (count + 1) last ≤ count + 1
 new_last true count last h = omega arith
 new_last false count last h = omega arith
 
 -- numbers rise
-last_write-rises : (m : State) (count last : ℕ) (i : ItemName) (es : List (Entry Call Reply)) → last ≤ count → last ≤ last_write m count last i es
+pub last_write-rises : (m : State) (count last : ℕ) (i : ItemName) (es : List (Entry Call Reply)) → last ≤ count → last ≤ last_write m count last i es
 last_write-rises m count last i [] h = omega arith
 last_write-rises m count last i (e ∷ es) h =
     let rest = last_write-rises (next m e.call) (count + 1) (cond (writes m e.call i) (count + 1) last) i es (new_last (writes m e.call i) count last h) in
@@ -73,7 +73,7 @@ stays m count last i (x ∷ es) good h e =
     by false w further e = further e ∙ spares x.call m good i w
 
 -- the number after more entries goes on from the one before
-goes_on : (m : State) (count last : ℕ) (i : ItemName) (xs ys : List (Entry Call Reply)) → last ≤ count
+pub goes_on : (m : State) (count last : ℕ) (i : ItemName) (xs ys : List (Entry Call Reply)) → last ≤ count
     → (n : ℕ) × (last_write m count last i xs ≤ n) × (last_write m count last i (xs ++ ys) ≡ last_write (run m xs) n (last_write m count last i xs) i ys)
 goes_on m count last i [] ys h = (count, h, refl)
 goes_on m count last i (e ∷ xs) ys h =

@@ -3,3 +3,4 @@ pub mod Footprint
 pub mod Stamps
 pub mod Change
 pub mod Finding
+pub mod Written

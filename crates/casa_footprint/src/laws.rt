@@ -1,6 +1,6 @@
 //! Laws of the definitions, each on a function that does nothing: what a call needs to see and what it changes.
 
-ghost use Rattle.std.specs.Prelude.{◌≡◌, false, List, ◌++◌, None};
+ghost use Rattle.std.specs.Prelude.{◌≡◌, ◌≢◌, false, List, ◌++◌, None, if◌then◌else◌};
 ghost use Rattle.casa_flight.specs.declared.call.Call.{Call};
 ghost use Rattle.casa_flight.specs.declared.reply.Reply.{Reply};
 ghost use Rattle.casa_flight.specs.declared.state.State.{State};
@@ -13,6 +13,7 @@ ghost use Rattle.casa_history.specs.declared.entry.Entry.{Entry};
 ghost use Rattle.casa_footprint.specs.Items.{ItemName, the_catalogue, contents, AgreeOn};
 ghost use Rattle.casa_footprint.specs.Footprint.{reads, writes};
 ghost use Rattle.casa_footprint.specs.Stamps.{View, state_after, stamp, IsUnmoved};
+ghost use Rattle.casa_footprint.specs.Written.{view_after, IsWritten, IsAbsentStill};
 
 /// What a call reads decides its reply, which items it writes, and what these contain afterwards: two good states
 /// that agree on what the call reads in the first of them differ in none of these.
@@ -49,4 +50,28 @@ pub fn equal_stamps_show_equal_items()
     ensures absent { (history later : List (Entry Call Reply)) (id : Text) →
         stamp history the_catalogue ≡ stamp (history ++ later) the_catalogue →
         list_of (state_after history) id ≡ None → list_of (state_after (history ++ later)) id ≡ None }
+{}
+
+/// An item has another stamp after more entries exactly where one of these wrote it, but for an absent row that is
+/// absent again.
+pub fn stamps_change_where_written()
+    ensures unwritten { (history later : List (Entry Call Reply)) (i : ItemName) → ¬ (IsWritten history later i) →
+        stamp (history ++ later) i ≡ stamp history i }
+    ensures written { (history later : List (Entry Call Reply)) (i : ItemName) → IsWritten history later i →
+        ¬ (IsAbsentStill history later i) → stamp (history ++ later) i ≢ stamp history i }
+    ensures absent { (history later : List (Entry Call Reply)) (i : ItemName) → IsAbsentStill history later i →
+        stamp (history ++ later) i ≡ stamp history i }
+{}
+
+/// Where the view for a call is unmoved after more entries, the reply that was worked out on it is that of the present
+/// state; and the items that were worked out on it, in place of the present ones, give the state after the call.
+pub fn unmoved_views_decide()
+    ensures reply { (history later : List (Entry Call Reply)) (call : Call) →
+        IsUnmoved (view_after history call) (history ++ later) →
+        reply (state_after (history ++ later)) call ≡ reply (state_after history) call }
+    ensures written { (history later : List (Entry Call Reply)) (call : Call) →
+        IsUnmoved (view_after history call) (history ++ later) → (i : ItemName) →
+        contents (next (state_after (history ++ later)) call) i ≡
+        (if writes (state_after history) call i then contents (next (state_after history) call) i
+        else contents (state_after (history ++ later)) i) }
 {}
