@@ -57,16 +57,16 @@ some-push {X} {Y} f (y ∷ xs) x q b = more (is_eq (text_cmp q (f y).0)) (some-p
     more true h = or-true (same_text (f x).0 q)
     more false h = h
 
-pub any-push : {X Y : Type 0} (p : Y → Bool) (f : X → Y) (xs : List X) (x : X) (b : Bool) →
-    (p (f x) || (list_any p (map f xs) || b)) ≡ (list_any p (map f (xs ++ x ∷ [])) || b)
-any-push p f [] x b = one (p (f x))
+pub any-push : {X : Type 0} (p : X → Bool) (xs : List X) (x : X) (b : Bool) →
+    (p x || (list_any p xs || b)) ≡ (list_any p (xs ++ x ∷ []) || b)
+any-push p [] x b = one (p x)
   where
     one : (t : Bool) → (t || (false || b)) ≡ ((t || false) || b)
     one true = refl
     one false = refl
-any-push p f (y ∷ xs) x b = more (p (f y)) (any-push p f xs x b)
+any-push p (y ∷ xs) x b = more (p y) (any-push p xs x b)
   where
-    more : (t : Bool) → (p (f x) || (list_any p (map f xs) || b)) ≡ (list_any p (map f (xs ++ x ∷ [])) || b) →
-        (p (f x) || ((t || list_any p (map f xs)) || b)) ≡ ((t || list_any p (map f (xs ++ x ∷ []))) || b)
-    more true h = or-true (p (f x))
+    more : (t : Bool) → (p x || (list_any p xs || b)) ≡ (list_any p (xs ++ x ∷ []) || b) →
+        (p x || ((t || list_any p xs) || b)) ≡ ((t || list_any p (xs ++ x ∷ [])) || b)
+    more true h = or-true (p x)
     more false h = h

@@ -5,7 +5,7 @@ ghost use Rattle.casa_view.specs.Versions.{IsOrderly};
 
 use crate::catalogue::Catalogue;
 use crate::change::Change;
-use crate::contents::{clock_in, list_in, regulations_in, row_in};
+use crate::contents::{clock_in, list_in, regulations_in, row_in, shared_list_in};
 use crate::current::same_items;
 use crate::item::Item;
 use crate::items::Items;
@@ -15,7 +15,7 @@ use crate::view::View;
 use crate::writing::fit;
 use casa_commit::World;
 use casa_flight::{Call, Key, RegId, Regulation, Reply, Row};
-use casa_list::SlotList;
+use casa_list::{SharedList, SlotList};
 use casa_time::Moment;
 use std::alloc::{AllocError, Global};
 use std::sync::Arc;
@@ -91,6 +91,14 @@ impl<K: Kept> Board<K> {
     {
         list_in(self.items.lists.get(id)?.item())
     }
+
+    /// The same list as it is shared, so that others may have it too.
+    pub fn shared_list(&self, id: &RegId) -> Option<&SharedList>
+        ensures { option_copied result ≡
+            (standing K.Version.item_of K.Version.number (versions self.now.items)).list id.now }
+    {
+        shared_list_in(self.items.lists.get(id)?.item())
+    }
 }
 
 impl<K: Kept> World for Board<K> {
@@ -149,6 +157,10 @@ impl<K: Kept> World for Board<K> {
 
     fn same(&self, view: &View<K::Version>) -> bool {
         same_items(&self.items, view)
+    }
+
+    fn consolidate(&mut self) -> Result<(), AllocError> {
+        self.items.consolidate()
     }
 
     fn fits(&mut self, number: usize, change: &Change) -> Result<(), AllocError> {

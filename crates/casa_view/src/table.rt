@@ -242,7 +242,7 @@ impl<Kind: Copy, V: Version, I: Index<Kind, V>> Table<Kind, V, I> {
 
     /// Moves the changes that lie beside the base into it, if no view has it, or into a new one, if they are too many.
     /// `AllocError` where there is no memory for it.
-    fn settle(&mut self) -> Result<(), AllocError>
+    pub(crate) fn consolidate(&mut self) -> Result<(), AllocError>
         ensures { self.new.entries ≡ self.old.entries }
     {
         absorb_alone(&mut self.base, &mut self.recent)?;
@@ -260,7 +260,7 @@ impl<Kind: Copy, V: Version, I: Index<Kind, V>> Table<Kind, V, I> {
         ensures same { self.new.entries ≡ self.old.entries }
         ensures next { OnOk result (self.new.next ≡ laid changes.entries self.new.entries) }
     {
-        self.settle()?;
+        self.consolidate()?;
         let mut changes = changes;
         keep_others(&mut changes, &self.recent)?;
         self.coming = Arc::new(self.alloc, changes)?;

@@ -120,6 +120,15 @@ fn turn_to<V: Drop>(version: &mut V, next: &mut Option<V>)
 }
 
 impl<V: Version> Items<V> {
+    /// Moves in what lies beside the rows and the lists, where no view has them. `AllocError` where there is no memory for
+    /// it.
+    pub(crate) fn consolidate(&mut self) -> Result<(), AllocError>
+        ensures { versions self.new ≡ versions self.old }
+    {
+        self.rows.consolidate()?;
+        self.lists.consolidate()
+    }
+
     /// Turns to the versions that were made ready. It takes no memory, and no longer for many items than for one.
     pub(crate) fn turn(&mut self)
         ensures { versions self.new ≡ next_versions self.old }

@@ -1,69 +1,68 @@
 //! Catalogues.
 
-use crate::parts::{over, plan, regulation};
-use casa_flight::{Plan, RegId, Regulation};
+use crate::text::call_of;
+use casa_flight::{Call, Loc, Plan, RegId, Regulation};
+use casa_time::Moment;
 use casa_view::Catalogue;
-use std::alloc::Global;
+use std::alloc::{AllocError, Global};
 use std::test::Fail;
 
-/// The catalogue of these regulations, put in one by one.
-fn catalogue(alloc: Global, regulations: &[Regulation]) -> Result<Catalogue, Fail> {
-    let mut all = Catalogue::new(alloc);
-    for regulation in regulations {
-        all = all.with(alloc, *regulation)?;
-    }
-    Ok(all)
+/// A flight over LB and LA.
+const PLAN: &str =
+    r#"{"cmd":"file","key":"A","eobt":0,"taxi":0,"via":[{"loc":"LB","eto":36100},{"loc":"LA","eto":36700}]}"#;
+
+/// The regulation of a location, from 36000 to `end`.
+fn regulation(id: &[u8], name: &[u8], end: u32) -> Option<Regulation> {
+    Some(Regulation {
+        id: RegId::new(id)?,
+        loc: Loc::new(name)?,
+        start: Moment::new(36_000).ok()?,
+        end: Moment::new(end).ok()?,
+    })
 }
 
-/// The plan's times over the locations of these regulations, by their identifiers, in seconds.
-fn times_over(
-    alloc: Global,
-    catalogue: &Catalogue,
-    plan: &Plan,
-    ids: &[RegId; 3],
-) -> Result<[Option<u32>; 3], Fail> {
-    let found = catalogue.crossed(alloc, plan)?;
-    let [one, two, three] = ids;
-    Ok([
-        found.get(one).map(|at| at.secs()),
-        found.get(two).map(|at| at.secs()),
-        found.get(three).map(|at| at.secs()),
-    ])
+/// The identifiers of the regulations, each with the plan's time over its location if that is in its span.
+fn shown(alloc: Global, all: &Catalogue, plan: &Plan) -> Result<String, AllocError> {
+    let times = all.crossed(alloc, plan)?;
+    let mut text = String::new(alloc);
+    for regulation in all.as_slice() {
+        let id = regulation.id;
+        text.push_str(format!(in alloc; " {id}")?.as_str())?;
+        if let Some(at) = times.get(&id) {
+            text.push_str(format!(in alloc; " {at}")?.as_str())?;
+        }
+    }
+    Ok(text)
 }
 
 #[test]
 fn regulations_come_and_go(rt: HostRuntime) -> Result<(), Fail> {
     let alloc = rt.alloc();
-    let r1 = regulation(b"R1", b"LA", 37_200)?;
-    let r2 = regulation(b"R2", b"LB", 37_200)?;
-    let early = regulation(b"R3", b"LA", 36_600)?;
-    let late = regulation(b"R3", b"LA", 37_200)?;
-    let ids = [r1.id, r2.id, late.id];
-    let plan = plan(
-        alloc,
-        b"A",
-        30_000,
-        &[over(b"LB", 36_100)?, over(b"LA", 36_700)?],
-    )?;
-    let all = catalogue(alloc, &[early, r2, r1])?;
-    assert_eq!(rt; all.as_slice(), [r1, r2, early].as_slice());
+    let first = regulation(b"R1", b"LA", 37_200).ok_or("R1")?;
+    let second = regulation(b"R2", b"LB", 37_200).ok_or("R2")?;
+    let early = regulation(b"R3", b"LA", 36_600).ok_or("R3")?;
+    let late = regulation(b"R3", b"LA", 37_200).ok_or("R3")?;
+    let Some(Call::File(plan)) = call_of(alloc, PLAN) else {
+        return Err("a plan".into());
+    };
+    let none = Catalogue::new(alloc);
+    let two = none.with(alloc, early)?.with(alloc, second)?;
+    let three = two.with(alloc, first)?;
     assert_eq!(rt;
-        times_over(alloc, &all, &plan, &ids)?,
-        [Some(36_700), Some(36_100), None]
+        shown(alloc, &three, &plan)?.as_str(),
+        " R1 36700 R2 36100 R3"
     );
-    let all = all.with(alloc, late)?;
-    assert_eq!(rt; all.as_slice(), [r1, r2, late].as_slice());
+    let three = three.with(alloc, late)?;
     assert_eq!(rt;
-        times_over(alloc, &all, &plan, &ids)?,
-        [Some(36_700), Some(36_100), Some(36_700)]
+        shown(alloc, &three, &plan)?.as_str(),
+        " R1 36700 R2 36100 R3 36700"
     );
-    let fewer = all.without(alloc, &r1.id)?;
-    assert_eq!(rt; fewer.as_slice(), [r2, late].as_slice());
+    let fewer = three.without(alloc, &first.id)?;
+    assert_eq!(rt; shown(alloc, &fewer, &plan)?.as_str(), " R2 36100 R3 36700");
     assert_eq!(rt;
-        times_over(alloc, &fewer, &plan, &ids)?,
-        [None, Some(36_100), Some(36_700)]
+        (fewer.get(&first.id), fewer.get(&second.id)),
+        (None, Some(&second))
     );
-    assert_eq!(rt; (fewer.get(&r1.id), fewer.get(&r2.id)), (None, Some(&r2)));
-    assert!(rt; fewer == catalogue(alloc, &[late, r2])? && fewer != all);
+    assert!(rt; fewer == two.with(alloc, late)? && fewer != three);
     Ok(())
 }

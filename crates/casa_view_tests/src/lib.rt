@@ -4,18 +4,14 @@
 #![tactic(auto)]
 
 #[cfg(test)]
-mod asking;
+mod bench;
 #[cfg(test)]
 mod catalogue;
 #[cfg(test)]
-mod contents;
+mod items;
 #[cfg(test)]
-mod parts;
+mod scripts;
 #[cfg(test)]
-mod reading;
-#[cfg(test)]
-mod refused;
-#[cfg(test)]
-mod rows;
+mod text;
 #[cfg(test)]
 mod versions;

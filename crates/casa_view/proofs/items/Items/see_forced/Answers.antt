@@ -1,8 +1,7 @@
-use Rattle.std.proofs.Common.{rules, ◌≡◌, ◌||◌, ◌&&◌, Bool, List, map, ap, sym, ◌∙◌, Option}
+use Rattle.std.proofs.Common.{◌≡◌, ◌+◌, ◌||◌, ◌&&◌, ◌++◌, ◌∷◌, [], Bool, List, Option, take, ap, sym, ◌∙◌}
 use Rattle.std.specs.Option.{option_copied}
 use Rattle.std.specs.List.{list_any}
-use Rattle.std.specs.Map.Iter.{deref_pair}
-use Rattle.std.proofs.lemmas.Map.Iter.{iter_end}
+use Rattle.std.proofs.lemmas.List.{take_more, take_all}
 use Rattle.casa_flight.specs.declared.row.Stance.{Stance}
 use Rattle.casa_flight.specs.Listing.{Listing}
 use Rattle.casa_flight.specs.Text.{Text, same_text}
@@ -18,39 +17,43 @@ forced test e = is_forced e.1 && test e.0
 
 pub loop-key-preserved : goal.loop-key-preserved
 loop-key-preserved g c =
-    let past = c.loop-key.yielded in
+    let items : List (Text × Stance) = c.flights-key-items.result.now in
+    let past = take c.loop-key.key-index items in
+    let item : Text × Stance = c.loop-key-item.result in
+    let more : take (c.loop-key.key-index + 1) items ≡ past ++ item ∷ [] =
+    take_more items c.loop-key.key-index item c.loop-key-test.true ∙ ap (λ (e : Text × Stance). past ++ e ∷ []) (sym c.loop-key-item.is) in
     let row : Text → Text → Bool = λ q k. same_text k q in
     let list : Text → Text → Bool = λ q k. is_of (governing_at g.V.Version.item_of (versions c.args.self.now) k) q in (
-      tt,
-      tt,
       (λ t h.
           sees_same c.args.self.now.rows.entries _ _ _
-          (λ q. any-push (forced (row q)) deref_pair past (c.in-Some-2.key, c.in-Some-2.stance) (t q))
-          (c.in_ok-see_if_forced.ensures.rows (λ q. list_any (forced (row q)) (map deref_pair past) || t q)
-          (c.loop-key.invariant.2 t h))),
+          (λ q. any-push (forced (row q)) past item (t q) ∙ ap (λ es. list_any (forced (row q)) es || t q) (sym more))
+          (c.in_ok-see_if_forced.ensures.rows (λ q. list_any (forced (row q)) past || t q)
+          (c.loop-key.invariant.0 t h))),
       (λ t h.
           sees_same c.args.self.now.lists.entries _ _ _
-          (λ q. any-push (forced (list q)) deref_pair past (c.in-Some-2.key, c.in-Some-2.stance) (t q))
-          (c.in_ok-see_if_forced.ensures.lists (λ q. list_any (forced (list q)) (map deref_pair past) || t q)
-          (c.loop-key.invariant.3 t h))),
+          (λ q. any-push (forced (list q)) past item (t q) ∙ ap (λ es. list_any (forced (list q)) es || t q) (sym more))
+          (c.in_ok-see_if_forced.ensures.lists (λ q. list_any (forced (list q)) past || t q)
+          (c.loop-key.invariant.1 t h))),
     )
 
 pub returns-clause-rows : goal.returns-clause-rows
 returns-clause-rows g c = λ t h.
-    let whole : map deref_pair c.loop-key.yielded ≡ c.in-Some.list.now.flights =
-    search (rules, iter_end, c.flights-key-items.ensures.flights) in
+    let items : List (Text × Stance) = c.flights-key-items.result.now in
+    let whole : take c.loop-key.key-index items ≡ c.in-Some.list.now.flights =
+    take_all c.loop-key.key-index items c.loop-key-test.false ∙ c.flights-key-items.ensures.flights in
     let test : Text → Text → Bool = λ q k. same_text k q in
     sees_same c.args.self.now.rows.entries _ _ _
     (λ q. ap (λ (es : List (Text × Stance)). list_any (forced (test q)) es || t q) whole
     ∙ ap (λ (l : Option Listing). has_forced (test q) l || t q) (sym (ap option_copied c.in-Some.is)))
-    (c.loop-key.invariant.2 t h)
+    (c.loop-key.invariant.0 t h)
 
 pub returns-clause-lists : goal.returns-clause-lists
 returns-clause-lists g c = λ t h.
-    let whole : map deref_pair c.loop-key.yielded ≡ c.in-Some.list.now.flights =
-    search (rules, iter_end, c.flights-key-items.ensures.flights) in
+    let items : List (Text × Stance) = c.flights-key-items.result.now in
+    let whole : take c.loop-key.key-index items ≡ c.in-Some.list.now.flights =
+    take_all c.loop-key.key-index items c.loop-key-test.false ∙ c.flights-key-items.ensures.flights in
     let test : Text → Text → Bool = λ q k. is_of (governing_at g.V.Version.item_of (versions c.args.self.now) k) q in
     sees_same c.args.self.now.lists.entries _ _ _
     (λ q. ap (λ (es : List (Text × Stance)). list_any (forced (test q)) es || t q) whole
     ∙ ap (λ (l : Option Listing). has_forced (test q) l || t q) (sym (ap option_copied c.in-Some.is)))
-    (c.loop-key.invariant.3 t h)
+    (c.loop-key.invariant.1 t h)

@@ -1,6 +1,5 @@
-use Rattle.std.proofs.Common.{◌||◌, ◌&&◌, List, Bool, Option, map}
+use Rattle.std.proofs.Common.{◌||◌, ◌&&◌, List, Bool, Option, take}
 use Rattle.std.specs.List.{list_any}
-use Rattle.std.specs.Map.Iter.{deref_pair}
 use Rattle.casa_flight.specs.declared.row.Stance.{Stance}
 use Rattle.casa_flight.specs.Text.{Text, same_text}
 use Rattle.casa_footprint.specs.Footprint.{is_forced}
@@ -10,10 +9,9 @@ use Rattle.casa_view.proofs.items.Items.see_forced.Given as goal
 
 abbrev pub invariant-loop-key : goal.invariant-loop-key
 invariant-loop-key g l =
-    let past : List (Text × Stance) = map deref_pair l.yielded in
+    let past : List (Text × Stance) = take l.key-index l.key-items in
     let governing : Text → Option Text = governing_at g.V.Version.item_of (versions l.self) in
-    (goal.iterator-loop-key g).can_next l.key-iterator × (goal.iterator-loop-key g).is_finite l.key-iterator
-    × ((t : Text → Bool) → Sees l.self.rows.entries t l.initial.rows.entries →
+    ((t : Text → Bool) → Sees l.self.rows.entries t l.initial.rows.entries →
     Sees l.self.rows.entries
     (λ q. list_any (λ (e : Text × Stance). is_forced e.1 && same_text e.0 q) past || t q)
     l.rows.entries)

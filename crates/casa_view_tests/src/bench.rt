@@ -1,0 +1,188 @@
+//! A board with views of it, which the lines of a script write to, take and ask.
+
+use crate::items::item;
+use crate::text::{call_of, push_shown};
+use casa_commit::{Room, World};
+use casa_flight::{Call, Reply};
+use casa_history::Pass;
+use casa_plan::{answer, plan};
+use casa_view::{Board, Change, Copied, Copies, View};
+use std::alloc::{AllocError, Global};
+
+/// Room for a transcript, in bytes, so that it does not grow.
+const ROOM: usize = 10_000;
+
+/// Room for what a line shows, in bytes, so that it does not grow.
+const WIDTH: usize = 100;
+
+/// What is planned to be written for a call in a room.
+fn planned(alloc: Global, room: &Room<Board<Copies>>, call: &Call) -> Result<Change, AllocError> {
+    let view = room.world().view(call)?;
+    let (_, change) = plan(alloc, &view, call)?;
+    Ok(change)
+}
+
+/// Applies a change to a board as the entry with this number.
+fn apply(board: &mut Board<Copies>, number: usize, change: Change) -> Result<(), AllocError> {
+    board.fits(number, &change)?;
+    board.apply(number, change);
+    Ok(())
+}
+
+/// A view with its call.
+#[derive(Drop)]
+struct Taken {
+    call: Call,
+    view: View<Copied>,
+}
+
+/// A board, the views that were taken of it, and how many entries wrote to it.
+///
+/// What calls write is planned in a room beside it, which answers them too. What no call writes, the board alone has.
+#[derive(Drop)]
+struct Bench {
+    room: Room<Board<Copies>>,
+    pass: Pass<Call, Reply>,
+    board: Board<Copies>,
+    taken: Vec<Taken>,
+    entries: usize,
+}
+
+impl Bench {
+    /// The board on which nothing is written, with no view; `None` where memory is refused.
+    fn new(alloc: Global) -> Option<Bench> {
+        let mut room = Room::new(alloc, Board::new(alloc, Copies::new()).ok()?, 7);
+        Some(Bench {
+            pass: room.open_desk().ok()?,
+            room,
+            board: Board::new(alloc, Copies::new()).ok()?,
+            taken: Vec::new(alloc),
+            entries: 0,
+        })
+    }
+
+    /// Writes a letter for each view: `x` where it is not the same, and else a dot.
+    fn push_letters(&self, out: &mut String) -> Option<()> {
+        for taken in self.taken.as_slice() {
+            out.push(if self.board.same(&taken.view) {
+                '.'
+            } else {
+                'x'
+            })
+            .ok()?;
+        }
+        Some(())
+    }
+
+    /// How many views are the same.
+    fn count(&self) -> usize {
+        let mut count = 0usize;
+        for taken in self.taken.as_slice() {
+            count = count.saturating_add(usize::from(self.board.same(&taken.view)));
+        }
+        count
+    }
+
+    /// Applies a change as the next entry; `None` where memory is refused.
+    fn apply(&mut self, change: Change) -> Option<()> {
+        let number = self.entries.saturating_add(1);
+        apply(&mut self.board, number, change).ok()?;
+        self.entries = number;
+        Some(())
+    }
+
+    /// Makes a call, whose change is planned; `None` where memory is refused.
+    fn make(&mut self, alloc: Global, call: &Call) -> Option<()> {
+        let change = planned(alloc, &self.room, call).ok()?;
+        self.apply(change)?;
+        if answer(alloc, &mut self.room, &mut self.pass, call).is_err() {
+            answer(alloc, &mut self.room, &mut self.pass, call).ok()?;
+        }
+        Some(())
+    }
+
+    /// Takes a view for a call.
+    fn take(&mut self, call: Call) -> Option<()> {
+        let view = self.board.view(&call).ok()?;
+        self.taken.push(Taken { call, view }).ok()
+    }
+
+    /// Takes all views anew.
+    fn renew(&mut self) -> Option<()> {
+        for taken in self.taken.iter_mut() {
+            taken.view = match self.board.view(&taken.call) {
+                Ok(view) => view,
+                Err(AllocError) => self.board.view(&taken.call).ok()?,
+            };
+        }
+        Some(())
+    }
+
+    /// Writes the items with these names in one change, one after the other.
+    fn write(&mut self, alloc: Global, names: &str) -> Option<()> {
+        let mut change = Change::new(alloc);
+        for name in names.split_whitespace() {
+            if change.set(item(alloc, &self.board, name)?).is_err() {
+                change.set(item(alloc, &self.board, name)?).ok()?;
+            }
+        }
+        self.apply(change)
+    }
+
+    /// Does what a line asks for, and gives what it shows; where memory is refused, nothing has changed.
+    fn play(&mut self, alloc: Global, line: &str) -> Option<String> {
+        let mut out = String::with_capacity(alloc, WIDTH).ok()?;
+        let (word, rest) = line.split_once(' ')?;
+        match word {
+            "make" => self.make(alloc, &call_of(alloc, rest)?)?,
+            "view" => self.take(call_of(alloc, rest)?)?,
+            "all" => self.renew()?,
+            "write" => self.write(alloc, rest)?,
+            "drop" => drop(self.taken.pop()),
+            _ => {
+                let taken = self.taken.get(rest.parse::<usize>().ok()?)?;
+                push_shown(alloc, &mut out, &self.board, &taken.view, word)?;
+                return Some(out);
+            }
+        }
+        self.push_letters(&mut out)?;
+        Some(out)
+    }
+
+    /// The same, once more where memory is refused; `None` where it is refused twice, or a refusal changed which
+    /// views are the same.
+    fn shown(&mut self, alloc: Global, line: &str) -> Option<String> {
+        let count = self.count();
+        let shown = self.play(alloc, line);
+        if shown.is_some() {
+            return shown;
+        }
+        if self.count() == count {
+            self.play(alloc, line)
+        } else {
+            None
+        }
+    }
+}
+
+/// Each line of a script with what it shows; `None` where that is not to be had.
+pub fn transcript(alloc: Global, script: &str) -> Option<String> {
+    let mut out = match String::with_capacity(alloc, ROOM) {
+        Ok(out) => out,
+        Err(_) => String::with_capacity(alloc, ROOM).ok()?,
+    };
+    let mut bench = match Bench::new(alloc) {
+        Some(bench) => bench,
+        None => Bench::new(alloc)?,
+    };
+    for line in script.lines() {
+        if line.starts_with('=') {
+            continue;
+        }
+        out.push_str(line).ok()?;
+        out.push_str("\n=").ok()?;
+        out.push_str(bench.shown(alloc, line)?.as_str()).ok()?;
+        out.push('\n').ok()?;
+    }
+    Some(out)
+}
