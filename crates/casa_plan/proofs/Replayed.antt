@@ -1,21 +1,25 @@
 -- how a board stands after a history, by the replay of how it stands
-use Rattle.std.proofs.Common.{◌≡◌, ℕ, ◌+◌, List, [], ◌∷◌, Bool, true, false, refl, sym, ap, ◌∙◌, cond}
+use Rattle.std.proofs.Common.{◌≡◌, ℕ, ◌+◌, List, [], ◌∷◌, take, Bool, true, false, refl, sym, ap, ◌∙◌, cond}
 use Rattle.casa_flight.specs.declared.call.Call.{Call}
 use Rattle.casa_flight.specs.declared.reply.Reply.{Reply}
 use Rattle.casa_flight.specs.declared.state.State.{State}
 use Rattle.casa_flight.specs.State.{empty}
 use Rattle.casa_flight.specs.Good.{IsGood}
+use Rattle.casa_flight.specs.Listing.{competitors, occupancy}
+use Rattle.casa_flight.specs.Replies.{reply}
 use Rattle.casa_flight.specs.Steps.{next}
+use Rattle.casa_flight.proofs.Assignment.{assignment_right, comps-assignment}
 use Rattle.casa_flight.proofs.Good.{empty_good}
 use Rattle.casa_flight.proofs.GoodRegs.{next-good}
 use Rattle.casa_history.specs.declared.entry.Entry.{Entry}
-use Rattle.casa_commit.specs.Legal.{replay, replay_from}
+use Rattle.casa_commit.specs.Legal.{replay, replay_from, IsLegal}
 use Rattle.casa_footprint.specs.Items.{ItemName, the_clock, the_catalogue, a_row, a_list, contents}
 use Rattle.casa_footprint.specs.Footprint.{writes}
 use Rattle.casa_footprint.specs.Stamps.{state_after, last_write, is_absent_row, stamp}
 use Rattle.casa_footprint.proofs.EachCall.{spares}
 use Rattle.casa_view.specs.Change.{is_absence}
-use Rattle.casa_view.specs.Standing.{Standing, opening, after}
+use Rattle.casa_view.specs.Standing.{Standing, StandsWell, opening, after, reply as replied}
+use Rattle.casa_plan.specs.Rooms.{IsSequential, StandsAfter}
 
 abbrev Entries : Type 0
 Entries = List (Entry Call Reply)
@@ -74,3 +78,19 @@ stamp_from i count last s (e ∷ es) good h =
 
 pub stamp_replayed : (es : Entries) (i : ItemName) → (replay after opening es).stamp i ≡ stamp es i
 stamp_replayed es i = stamp_from i 0 0 opening es empty_good (none_stamped (is_absent_row empty i))
+
+-- a history that is legal on a board is one of one thread
+pub sequential : (es : Entries) → IsLegal after replied opening es → IsSequential es
+sequential es legal k e found =
+    legal k e found ∙ ap (λ (m : State). reply m e.call) (state_replayed (take k es))
+
+-- a board that is the replay of a history and stands well stands as after that history
+pub stands : (es : Entries) (s : Standing) → s ≡ replay after opening es → StandsWell s → StandsAfter es s
+stands es s is well = record {
+  state = ap (λ (x : Standing). x.state) is ∙ state_replayed es;
+  good = well.good;
+  catalogue_is = sym well.catalogue_is;
+  lists = λ id. sym (well.list_is id);
+  served = λ id l found. (assignment_right (occupancy l) (competitors l), comps-assignment (occupancy l) (competitors l));
+  stamps = λ i. ap (λ (x : Standing). x.stamp i) is ∙ stamp_replayed es i;
+}

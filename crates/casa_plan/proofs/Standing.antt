@@ -1,29 +1,15 @@
 -- a list without a flight, and with it again
-use Rattle.std.proofs.Common.{◌≡◌, ℕ, List, true, false, cond, refl, sym, ap, subst, ◌∙◌, Option, None, Some}
-use Rattle.std.specs.Ordering.{is_eq}
-use Rattle.std.specs.BTreeMap.{is_at}
+use Rattle.std.proofs.Common.{◌≡◌, ℕ, sym, ap, ◌∙◌, Option, None, Some}
 use Rattle.std.specs.Option.{option_and_then}
 use Rattle.casa_flight.specs.declared.row.Stance.{Stance}
 use Rattle.casa_flight.specs.declared.row.Stance.TheVariants.{Competing}
-use Rattle.casa_flight.specs.Text.{Text, at_name, put, without}
+use Rattle.casa_flight.specs.Text.{Text}
 use Rattle.casa_flight.specs.Listing.{Listing, stance_of, cto_as}
 use Rattle.casa_flight.specs.Entry.{with_competitor}
 use Rattle.casa_list.specs.Standings.{governed_cto_as, governed_cto}
 use Rattle.casa_flight.specs.Good.{AreInOrder}
-use Rattle.casa_flight.proofs.Entries.{text_cmp, same_name, at-put, sorted-put, sorted-remove, at-without_other}
-use Rattle.casa_flight.proofs.Kept.{at-without_same, without_absent, same_entries}
+use Rattle.casa_flight.proofs.Kept.{at-without_same, without_absent, put-without, put_same}
 use Rattle.casa_answer.specs.OneFlight.{with_flight}
-
--- what is put in place of an entry is put in as well where that was taken out before
-pub put-without : {X : Type 0} (k : Text) (x : X) (es : List (Text × X)) → AreInOrder es → put (without es k) k x ≡ put es k x
-put-without {X} k x es h =
-    same_entries (put (without es k) k x) (put es k x) (sorted-put k x (without es k) (sorted-remove (is_at (text_cmp k)) es h)) (sorted-put k x es h)
-    (λ q. at-put q k x (without es k)
-    ∙ (elim (is_eq (text_cmp q k)) as (λ b. is_eq (text_cmp q k) ≡ b → cond b (Some x) (at_name (without es k) q) ≡ cond b (Some x) (at_name es q)) [
-      | true ↦ λ t. refl
-      | false ↦ λ t. at-without_other q k es t
-    ] refl)
-    ∙ sym (at-put q k x es))
 
 pub without_none : (l : Listing) (key : Text) → stance_of l key ≡ None → l ≡ with_flight l key None
 without_none l key absent = ap (λ fs. record l { flights = fs }) (sym (without_absent key l.flights absent))
@@ -34,16 +20,6 @@ absent_without l k key sorted is = ap (λ (n : Listing). stance_of n key) is ∙
 pub put_again : (l k n : Listing) (key : Text) (s : Stance) → AreInOrder l.flights → k ≡ with_flight l key None → n ≡ with_flight k key (Some s) → n ≡ with_flight l key (Some s)
 put_again l k n key s sorted out back =
     back ∙ ap (λ (j : Listing). with_flight j key (Some s)) out ∙ ap (λ fs. record l { flights = fs }) (put-without key s l.flights sorted)
-
--- an entry that is put in again as it is
-pub put_same : {X : Type 0} (k : Text) (x : X) (es : List (Text × X)) → AreInOrder es → at_name es k ≡ Some x → put es k x ≡ es
-put_same {X} k x es h found =
-    same_entries (put es k x) es (sorted-put k x es h) h
-    (λ q. at-put q k x es
-    ∙ (elim (is_eq (text_cmp q k)) as (λ b. is_eq (text_cmp q k) ≡ b → cond b (Some x) (at_name es q) ≡ at_name es q) [
-      | true ↦ λ t. sym (subst (λ p. at_name es p ≡ Some x) (sym (same_name q k t)) found)
-      | false ↦ λ t. refl
-    ] refl))
 
 -- a flight that stands so already
 pub with_same : (l : Listing) (key : Text) (w : Option Stance) → AreInOrder l.flights → stance_of l key ≡ w → with_flight l key w ≡ l

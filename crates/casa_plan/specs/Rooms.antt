@@ -3,6 +3,7 @@ use Rattle.casa_flight.specs.declared.call.Call.{Call}
 use Rattle.casa_flight.specs.declared.comp.Assigned.{Assigned}
 use Rattle.casa_flight.specs.declared.reply.Reply.{Reply}
 use Rattle.casa_flight.specs.Text.{Text}
+use Rattle.casa_flight.specs.State.{catalogue}
 use Rattle.casa_flight.specs.Assignment.{IsRight}
 use Rattle.casa_flight.specs.Good.{IsGood}
 use Rattle.casa_flight.specs.Listing.{Listing, list_of, competitors, occupancy, places}
@@ -17,11 +18,12 @@ abbrev pub IsSequential : List (Entry Call Reply) → Type 0
 IsSequential history =
     (k : ℕ) (e : Entry Call Reply) → slice_get history k ≡ Some e → e.reply ≡ reply (state_after (take k history)) e.call
 
--- how a board stands after a history: its state is the one to which the history leads and is good, its lists are those of
--- that state, the slots in each list are of first planned, first served, and each item has its stamp
+-- how a board stands after a history: its state is the one to which the history leads and is good, its catalogue and its
+-- lists are those of that state, the slots in each list are of first planned, first served, and each item has its stamp
 pub record StandsAfter (history : List (Entry Call Reply)) (s : Standing) : Type 0 where
   pub state : s.state ≡ state_after history
   pub good : IsGood s.state
+  pub catalogue_is : s.catalogue ≡ catalogue s.state
   pub lists : (id : Text) → s.list id ≡ list_of s.state id
   pub served : (id : Text) (l : Listing) → s.list id ≡ Some l →
       IsRight (occupancy l) (places l) × (map (λ (a : Assigned). a.comp) (places l) ≡ competitors l)

@@ -2,58 +2,19 @@
 
 ghost use Rattle.std.specs.Prelude.{◌≡◌, IfOk, OnOk};
 ghost use Rattle.std.specs.Option.{option_map};
-ghost use Rattle.casa_flight.specs.Entry.{offer_in, most_penalising, entered};
-ghost use Rattle.casa_answer.specs.Sight.{row_with, list_with};
-ghost use Rattle.casa_answer.specs.OneFlight.{offers_of};
+ghost use Rattle.casa_flight.specs.Entry.{entered};
+ghost use Rattle.casa_answer.specs.Sight.{row_with};
 ghost use Rattle.casa_answer.specs.Enter.{situation_with, admitted, with_entered, with_reentry, with_entries};
 ghost use Rattle.casa_plan.specs.Seen.{sight};
 
 use crate::draft::Draft;
-use crate::flight_lists::{Crossings, take_out};
-use crate::offers::time_there;
-use casa_flight::{Comp, Key, Offer, RegId, Row, more_penalising};
+use crate::flight_lists::take_out;
+use crate::offers::best_offer;
+use casa_flight::{Comp, Key, Row};
 use casa_list::{SharedList, SlotList};
 use casa_time::Moment;
 use casa_view::{Catalogue, Version, View};
 use std::alloc::{AllocError, Global};
-
-/// What the regulation with this identifier offers a flight with this time over, by the list that is written or else shown;
-/// `None` without a list. `AllocError` where there is no memory to work it out.
-fn offer_of<V: Version>(
-    view: &View<V>,
-    draft: &Draft,
-    key: Key,
-    id: RegId,
-    eto: Moment,
-) -> Result<Option<Offer>, AllocError>
-    ensures { IfOk result (λ offer. offer ≡
-        offer_in id key (list_with (sight V.item_of view.now) draft.now id) (Some eto)) }
-{
-    let Some(list) = draft.list_with(view, &id) else {
-        return Ok(None);
-    };
-    let cto = time_there(list, &Comp { eto, key })?;
-    Ok(Some(Offer::of(id, eto, cto)))
-}
-
-/// The most penalising offer of these regulations. `AllocError` where there is no memory to work it out.
-fn best_offer<V: Version>(
-    view: &View<V>,
-    draft: &Draft,
-    key: Key,
-    over: &Crossings,
-) -> Result<Option<Offer>, AllocError>
-    ensures { IfOk result (λ best. best ≡
-        most_penalising (offers_of (list_with (sight V.item_of view.now) draft.now) key over.now.entries)) }
-{
-    let mut best = None;
-    for (id, eto) in over {
-        if let Some(offer) = offer_of(view, draft, key, *id, *eto)? {
-            best = Some(more_penalising(best, offer));
-        }
-    }
-    Ok(best)
-}
 
 /// An ungoverned flight as it stands once it has entered, where these regulations are open. `AllocError` where there is no
 /// memory to work it out.

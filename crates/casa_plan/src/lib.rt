@@ -12,6 +12,7 @@ mod new_rates;
 mod offers;
 mod one_flight;
 mod opening;
+mod planned;
 mod planning;
 mod replies;
 mod rooms;
@@ -20,5 +21,6 @@ mod sighted;
 mod telling;
 
 pub use laws::views_show_what_is_read;
+pub use planned::Planned;
 pub use planning::plan;
 pub use rooms::{answer, board_of};

@@ -6,17 +6,18 @@ ghost use Rattle.casa_flight.specs.declared.row.Stance.{Stance};
 ghost use Rattle.casa_flight.specs.Listing.{cto_as};
 ghost use Rattle.casa_flight.specs.Entry.{with_competitor, offer_in, most_penalising};
 ghost use Rattle.casa_footprint.specs.Finding.{crossed};
-ghost use Rattle.casa_answer.specs.Sight.{regulations_in};
+ghost use Rattle.casa_answer.specs.Sight.{list_with, regulations_in};
 ghost use Rattle.casa_answer.specs.OneFlight.{offers_of, entry_offer, with_offer, offered_delay};
 ghost use Rattle.casa_plan.specs.Seen.{sight};
 
+use crate::draft::Draft;
 use crate::flight_lists::{Crossings, take_out};
 use crate::sighted::clock;
 use casa_flight::{Comp, Key, Offer, RegId, Row, Stance, more_penalising};
 use casa_list::SlotList;
 use casa_time::Moment;
 use casa_view::{Version, View};
-use std::alloc::AllocError;
+use std::alloc::{AllocError, Global};
 
 /// The calculated time over that a flight would have as a competitor once it had left, worked out on a copy.
 /// `AllocError` where there is no memory for that.
@@ -53,17 +54,19 @@ pub(crate) fn time_there(list: &SlotList, comp: &Comp) -> Result<Moment, AllocEr
     }
 }
 
-/// What the regulation with this identifier offers a flight with this time over, by the list that the view shows; `None`
-/// where it shows none. `AllocError` where there is no memory to work it out.
+/// What the regulation with this identifier offers a flight with this time over, by the list that is written or else shown;
+/// `None` without a list. `AllocError` where there is no memory to work it out.
 fn offer_of<V: Version>(
     view: &View<V>,
+    draft: &Draft,
     key: Key,
     id: RegId,
     eto: Moment,
 ) -> Result<Option<Offer>, AllocError>
-    ensures { IfOk result (λ offer. offer ≡ offer_in id key ((sight V.item_of view.now).list id) (Some eto)) }
+    ensures { IfOk result (λ offer. offer ≡
+        offer_in id key (list_with (sight V.item_of view.now) draft.now id) (Some eto)) }
 {
-    let Some(list) = view.list(&id) else {
+    let Some(list) = draft.list_with(view, &id) else {
         return Ok(None);
     };
     let cto = time_there(list, &Comp { eto, key })?;
@@ -71,17 +74,18 @@ fn offer_of<V: Version>(
 }
 
 /// The most penalising offer of these regulations. `AllocError` where there is no memory to work it out.
-fn best_offer<V: Version>(
+pub(crate) fn best_offer<V: Version>(
     view: &View<V>,
+    draft: &Draft,
     key: Key,
     over: &Crossings,
 ) -> Result<Option<Offer>, AllocError>
-    ensures { IfOk result (λ best.
-        best ≡ most_penalising (offers_of (sight V.item_of view.now).list key over.now.entries)) }
+    ensures { IfOk result (λ best. best ≡
+        most_penalising (offers_of (list_with (sight V.item_of view.now) draft.now) key over.now.entries)) }
 {
     let mut best = None;
     for (id, eto) in over {
-        if let Some(offer) = offer_of(view, key, *id, *eto)? {
+        if let Some(offer) = offer_of(view, draft, key, *id, *eto)? {
             best = Some(more_penalising(best, offer));
         }
     }
@@ -91,6 +95,7 @@ fn best_offer<V: Version>(
 /// The offer that an ungoverned flight takes as it enters, of those of the regulations to which it is subject.
 /// `AllocError` where there is no memory to work it out.
 pub(crate) fn entry_offer<V: Version>(
+    alloc: Global,
     view: &View<V>,
     key: Key,
     row: &Row,
@@ -102,7 +107,7 @@ pub(crate) fn entry_offer<V: Version>(
     if row.is_exempt() || row.plan.is_gone(clock(view)) {
         return Ok(None);
     }
-    best_offer(view, key, over)
+    best_offer(view, &Draft::new(alloc), key, over)
 }
 
 /// The flight with the offer that it takes, if there is one.

@@ -83,7 +83,7 @@ fn entering<V: Version>(
         p ≡ entering (sight V.item_of view.now) key (option_copied was.entry) row) }
 {
     let has = crossed(alloc, view, &row.plan)?;
-    let offer = entry_offer(view, key, &row, &has)?;
+    let offer = entry_offer(alloc, view, key, &row, &has)?;
     taking(alloc, view, key, was, row, &offer, &has)
 }
 
@@ -168,7 +168,7 @@ pub(crate) fn revise<V: Version>(
     };
     let free = row.ungoverned()?;
     let has = crossed(alloc, view, &free.plan)?;
-    let offer = entry_offer(view, key, &free, &has)?;
+    let offer = entry_offer(alloc, view, key, &free, &has)?;
     if is_taken(view, key, row, &offer) {
         taking(alloc, view, key, Some(row), free, &offer, &has)
     } else {

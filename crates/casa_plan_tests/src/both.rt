@@ -1,65 +1,97 @@
-//! A room of a board and the slow sequential allocator, which is the reference.
+//! Scripts of command lines, answered by a desk on a room of a board and by the slow sequential allocator, which is the
+//! reference.
 
-use crate::words::shown;
-use casa_commit::{Room, World};
+use crate::desk::Desk;
+use crate::text::{call_of, reply_of};
 use casa_flight::{Call, Reply};
-use casa_history::Pass;
 use casa_plain::Plain;
-use casa_plan::{answer, board_of, plan};
 use casa_view::{Board, Copies};
-use std::alloc::Global;
-use std::process::Abort;
-use std::test::Fail;
+use std::alloc::{AllocError, Global};
 
-/// Both, before the same calls.
-#[derive(Drop)]
-pub struct Both {
-    room: Room<Board<Copies>>,
-    pass: Pass<Call, Reply>,
-    plain: Plain,
+/// Room for a transcript, in bytes: it does not grow.
+const ROOM: usize = 100_000;
+
+/// Whether a board has what a call got an answer about, and else has not.
+fn stands(board: &Board<Copies>, call: &Call, reply: &Reply) -> bool {
+    let is_answered = matches!(reply, Reply::Answered(..));
+    match call {
+        Call::Tick(at) => (board.clock() == *at) == is_answered,
+        Call::Show(key) => board.row(key).is_some() == is_answered,
+        Call::List(id) => board.list(id).is_some() == is_answered,
+        _ => true,
+    }
 }
 
-impl Both {
-    /// Both at midnight, with no regulation and no flight, and with one desk.
-    pub fn new(alloc: Global) -> Result<Both, Fail> {
-        let mut room = Room::new(alloc, Board::new(alloc, Copies::new())?, 7);
-        let pass = room.open_desk()?;
-        Ok(Both {
-            room,
-            pass,
-            plain: Plain::new(alloc),
-        })
-    }
+/// Whether both reply alike to a call, and as it was planned; what memory is refused for is done again.
+fn agree(
+    alloc: Global,
+    desk: &mut Desk,
+    plain: &mut Plain,
+    call: &Call,
+) -> Result<bool, AllocError> {
+    let planned = match desk.planned(alloc, call) {
+        Ok(reply) => reply,
+        Err(AllocError) => desk.planned(alloc, call)?,
+    };
+    let wanted = match plain.step(alloc, call) {
+        Ok(reply) => reply,
+        Err(AllocError) => plain.step(alloc, call)?,
+    };
+    let is_answered = desk.answers(alloc, call);
+    let given = desk.receipt().map(|receipt| &receipt.entry.reply);
+    Ok(
+        is_answered
+            && given == Some(&wanted)
+            && given == Some(&planned)
+            && stands(desk.board(), call, &wanted),
+    )
+}
 
-    /// The reply of both to a call.
-    pub fn reply(&mut self, rt: &impl Abort, alloc: Global, call: &Call) -> Result<Reply, Fail> {
-        let reply = self.plain.step(alloc, call)?;
-        let receipt = answer(alloc, &mut self.room, &mut self.pass, call)?;
-        let given = shown(alloc, &receipt.entry.reply).ok_or("a line")?;
-        let wanted = shown(alloc, &reply).ok_or("a line")?;
-        assert_eq!(rt;
-            given.as_str(),
-            wanted.as_str(),
-            "the reply to call {}",
-            receipt.position
-        );
-        assert!(rt;
-            receipt.entry.reply == reply,
-            "the reply to call {}",
-            receipt.position
-        );
-        Ok(reply)
+/// Answers a line, and writes it down with the reply; `None` where the two differ, or memory is refused twice.
+fn play(
+    alloc: Global,
+    desk: &mut Desk,
+    plain: &mut Plain,
+    line: &str,
+    out: &mut String,
+) -> Option<()> {
+    let call = match call_of(alloc, line) {
+        Some(call) => call,
+        None => call_of(alloc, line)?,
+    };
+    if !agree(alloc, desk, plain, &call).ok()? {
+        return None;
     }
+    out.push_str(line).ok()?;
+    out.push('\n').ok()?;
+    let receipt = desk.receipt()?;
+    match reply_of(alloc, receipt) {
+        Some(reply) => out.push_str(reply.as_str()).ok(),
+        None => out.push_str(reply_of(alloc, receipt)?.as_str()).ok(),
+    }
+}
 
-    /// The reply that is planned for a call, which is not made.
-    pub fn planned(&self, alloc: Global, call: &Call) -> Result<Reply, Fail> {
-        let view = self.room.world().view(call)?;
-        let (reply, _change) = plan(alloc, &view, call)?;
-        Ok(reply)
+/// The lines of a script with the reply to each command in place of those that stand there, up to the first command on
+/// which the two differ.
+pub fn transcript(alloc: Global, script: &str) -> Option<String> {
+    let mut desk = match Desk::new(alloc) {
+        Some(desk) => desk,
+        None => Desk::new(alloc)?,
+    };
+    let mut plain = Plain::new(alloc);
+    let mut out = match String::with_capacity(alloc, ROOM) {
+        Ok(out) => out,
+        Err(_) => String::with_capacity(alloc, ROOM).ok()?,
+    };
+    for line in script.lines() {
+        if line.starts_with("{'cmd':") {
+            if play(alloc, &mut desk, &mut plain, line, &mut out).is_none() {
+                break;
+            }
+        } else if !line.starts_with('{') {
+            out.push_str(line).ok()?;
+            out.push('\n').ok()?;
+        }
     }
-
-    /// The board.
-    pub fn board(&self) -> &Board<Copies> {
-        board_of(&self.room)
-    }
+    Some(out)
 }

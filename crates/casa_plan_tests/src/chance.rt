@@ -1,157 +1,67 @@
-//! Calls that look like chance, always the same ones: of few flights, locations and regulations, so that much happens.
+//! A script that looks like chance, always the same one: of few flights, locations and regulations, so that much happens.
 
 ghost use Rattle.std.specs.Prelude.{◌<◌};
 
-use crate::parts::{key, loc, period, profile, reg};
-use casa_flight::{Call, Crossing, Key, Loc, Plan, RegId, Sts};
-use casa_grid::Profile;
-use casa_time::Moment;
-use std::alloc::Global;
-use std::test::Fail;
+use std::alloc::{AllocError, Global};
 
-/// How many flights have keys.
-pub const FLIGHTS: u32 = 16;
+/// What its lines are made of: `#` is any digit, `?` one of 0 to 4, and `@` the clock.
+const FORMS: [&str; 24] = [
+    "{'cmd':'file','key':'F#','eobt':2###0,'taxi':6#0,'via':[{'loc':'L0','eto':36##0},{'loc':'L1','eto':37##0}]}",
+    "{'cmd':'file','key':'F#','eobt':2###0,'taxi':6#0,'via':[{'loc':'L1','eto':36##0},{'loc':'L2','eto':37##0}]}",
+    "{'cmd':'file','key':'F#','eobt':2###0,'taxi':6#0,'via':[{'loc':'L2','eto':36##0},{'loc':'L0','eto':36##0}]}",
+    "{'cmd':'file','key':'F#','eobt':2###0,'taxi':6#0,'via':[{'loc':'L?','eto':36##0}],'sts':'HEAD'}",
+    "{'cmd':'amend','key':'F#','eobt':2###0,'taxi':6#0,'via':[{'loc':'L1','eto':36##0},{'loc':'L0','eto':36##0}]}",
+    "{'cmd':'amend','key':'F#','eobt':2###0,'taxi':6#0,'via':[{'loc':'L?','eto':36##0}]}",
+    "{'cmd':'cancel','key':'F#'}",
+    "{'cmd':'revise','key':'F#'}",
+    "{'cmd':'revise','key':'F#'}",
+    "{'cmd':'revise','key':'F#'}",
+    "{'cmd':'revise','key':'F#'}",
+    "{'cmd':'exempt','key':'F#'}",
+    "{'cmd':'open','reg':'R?','loc':'L0','periods':[{'from':36000,'to':36900,'rate':1?},\
+        {'from':36900,'to':37200,'rate':2?}]}",
+    "{'cmd':'open','reg':'R?','loc':'L1','periods':[{'from':36000,'to':36900,'rate':1?},\
+        {'from':36900,'to':37200,'rate':?}]}",
+    "{'cmd':'rates','reg':'R?','periods':[{'from':36000,'to':36600,'rate':?},{'from':36600,'to':37?00,'rate':3#}]}",
+    "{'cmd':'rates','reg':'R?','periods':[{'from':36000,'to':36600,'rate':?},{'from':36600,'to':37200,'rate':3#}]}",
+    "{'cmd':'close','reg':'R?'}",
+    "{'cmd':'tick','at':@}",
+    "{'cmd':'tick','at':1####}",
+    "{'cmd':'show','key':'F#'}",
+    "{'cmd':'list','reg':'R?'}",
+    "{'cmd':'list','reg':'R?'}",
+    "{'cmd':'list','reg':'R?'}",
+    "{'cmd':'tick','at':@}",
+];
 
-/// How many regulations have identifiers.
-pub const REGULATIONS: u32 = 5;
-
-/// How many locations there are.
-const LOCATIONS: u32 = 3;
-
-/// The key of a flight by its number.
-pub fn flight(number: u32) -> Result<Key, Fail> {
-    key(&[b'A' + (number % FLIGHTS) as u8])
+/// The next number below `count`.
+fn below(seed: &mut u32, count: u32) -> u32
+    requires { 0 < count }
+    ensures { result < count }
+{
+    *seed = seed.wrapping_mul(1_664_525).wrapping_add(1_013_904_223);
+    (*seed >> 8) % count
 }
 
-/// A location by its number.
-fn location(number: u32) -> Result<Loc, Fail> {
-    loc(&[b'L', b'A' + (number % LOCATIONS) as u8])
-}
-
-/// The identifier of a regulation by its number.
-pub fn regulation(number: u32) -> Result<RegId, Fail> {
-    reg(&[b'R', b'0' + (number % REGULATIONS) as u8])
-}
-
-/// A source of calls, and the time of its clock.
-#[derive(Drop)]
-pub struct Chance {
-    seed: u32,
-    clock: u32,
-}
-
-impl Chance {
-    /// The calls by this seed, from this second on.
-    pub fn new(seed: u32, clock: u32) -> Chance {
-        Chance { seed, clock }
-    }
-
-    /// The second of the clock after the calls so far.
-    pub fn clock(&self) -> u32 {
-        self.clock
-    }
-
-    /// A number below `count`.
-    fn below(&mut self, count: u32) -> u32
-        requires { 0 < count }
-        ensures { result < count }
-    {
-        self.seed = self
-            .seed
-            .wrapping_mul(1_664_525)
-            .wrapping_add(1_013_904_223);
-        (self.seed >> 8) % count
-    }
-
-    /// The key of one of the flights.
-    fn key(&mut self) -> Result<Key, Fail> {
-        flight(self.below(FLIGHTS))
-    }
-
-    /// One of the locations.
-    fn place(&mut self) -> Result<Loc, Fail> {
-        location(self.below(LOCATIONS))
-    }
-
-    /// One of the identifiers.
-    fn id(&mut self) -> Result<RegId, Fail> {
-        regulation(self.below(REGULATIONS))
-    }
-
-    /// A plan: off-block from five minutes before the clock on, over up to three locations from 36000 on.
-    fn plan(&mut self, alloc: Global) -> Result<Plan, Fail> {
-        let eobt = self.clock.saturating_add(self.below(16_000));
-        let eobt = Moment::new(eobt.saturating_sub(1_000).min(34_000))?;
-        let taxi = 300 * self.below(4);
-        let (first, count) = (self.below(LOCATIONS), self.below(8).min(3));
-        let mut via = Vec::new(alloc);
-        for n in 0..count {
-            let eto = Moment::new(36_000 + self.below(3_000))?;
-            let loc = location(first + n)?;
-            via.push(Crossing { loc, eto })?;
+/// The 300 lines, 45 seconds of the clock apart.
+pub fn script(alloc: Global) -> Result<String, AllocError> {
+    let mut script = String::new(alloc);
+    let (mut seed, mut clock) = (40, 12_000u32);
+    for _ in 0..300 {
+        let form = FORMS[below(&mut seed, 24) as usize];
+        for mark in form.chars() {
+            match mark {
+                '#' => script.push(char::from(b'0' + below(&mut seed, 10) as u8))?,
+                '?' => script.push(char::from(b'0' + below(&mut seed, 5) as u8))?,
+                '@' => {
+                    let clock = format!(in alloc; "{clock}")?;
+                    script.push_str(clock.as_str())?;
+                }
+                _ => script.push(mark)?,
+            }
         }
-        let sts = if self.below(16) == 0 {
-            Sts::Head
-        } else {
-            Sts::Plain
-        };
-        let key = self.key()?;
-        Ok(Plan::new(alloc, key.as_bytes(), eobt, taxi, via.as_slice(), sts)?)
+        script.push('\n')?;
+        clock = clock.wrapping_add(45);
     }
-
-    /// A profile of two periods, mostly with the span that the regulation with this number always has.
-    fn profile(&mut self, alloc: Global, number: u32) -> Result<Profile, Fail> {
-        let begin = 36_000 + 300 * (number % REGULATIONS);
-        let end = begin + if self.below(8) == 0 { 1_800 } else { 2_400 };
-        let rates = [0, 4, 8, 15, 30];
-        let early = rates[self.below(5) as usize];
-        let late = rates[self.below(5) as usize];
-        profile(
-            alloc,
-            &[
-                period(begin, begin + 600, early)?,
-                period(begin + 600, end, late)?,
-            ],
-        )
-    }
-
-    /// A move of the clock, one in eight of them back.
-    fn tick(&mut self) -> Result<Call, Fail> {
-        if self.below(8) == 0 {
-            return Ok(Call::Tick(Moment::new(self.clock.saturating_sub(1))?));
-        }
-        let at = Moment::new(self.clock.saturating_add(self.below(700)))?;
-        self.clock = at.secs();
-        Ok(Call::Tick(at))
-    }
-
-    /// The opening of a regulation.
-    fn open(&mut self, alloc: Global) -> Result<Call, Fail> {
-        let number = self.below(REGULATIONS);
-        let profile = self.profile(alloc, number)?;
-        Ok(Call::OpenReg(regulation(number)?, self.place()?, profile))
-    }
-
-    /// New rates of a regulation.
-    fn rates(&mut self, alloc: Global) -> Result<Call, Fail> {
-        let number = self.below(REGULATIONS);
-        Ok(Call::Rates(regulation(number)?, self.profile(alloc, number)?))
-    }
-
-    /// The next call.
-    pub fn call(&mut self, alloc: Global) -> Result<Call, Fail> {
-        match self.below(32) {
-            0..=6 => Ok(Call::File(self.plan(alloc)?)),
-            7..=9 => Ok(Call::Amend(self.plan(alloc)?)),
-            10..=12 => Ok(Call::Cancel(self.key()?)),
-            13..=17 => Ok(Call::Revise(self.key()?)),
-            18 => Ok(Call::Exempt(self.key()?)),
-            19..=20 => self.open(alloc),
-            21 => Ok(Call::CloseReg(self.id()?)),
-            22..=23 => self.rates(alloc),
-            24..=26 => self.tick(),
-            27 => Ok(Call::Show(self.key()?)),
-            _ => Ok(Call::List(self.id()?)),
-        }
-    }
+    Ok(script)
 }

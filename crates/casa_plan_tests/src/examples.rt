@@ -1,449 +1,325 @@
-//! Worked examples: each call with the reply that it must get, from the rules alone.
+//! Worked examples: each command line with the reply that it must get, from the rules alone.
 
-use crate::both::Both;
-use crate::words::{asked, shown};
-use std::alloc::Global;
-use std::process::Abort;
-use std::test::Fail;
+/// The examples, each with a heading and an empty line behind it.
+const EXAMPLES: &str = "\
+Two flights get slots two minutes apart.
+{'cmd':'open','reg':'R1','loc':'LA','periods':[{'from':36000,'to':37200,'rate':30}]}
+{done:true,msgs:[],n:1}
+{'cmd':'file','key':'A','eobt':30000,'taxi':600,'via':[{'loc':'LA','eto':36010}]}
+{flight:{ctot:30600,delay:0,eobt:30000,etot:30600,exempt:false,issued:false,key:A,reg:R1},msgs:[],n:2}
+{'cmd':'file','key':'B','eobt':30000,'taxi':600,'via':[{'loc':'LA','eto':36005}]}
+{flight:{ctot:30600,delay:0,eobt:30000,etot:30600,exempt:false,issued:false,key:B,reg:R1},msgs:[],n:3}
+{'cmd':'list','reg':'R1'}
+{list:{end:37200,loc:LA,reg:R1,rows:[{cto:36005,eto:36005,key:B,kind:pre,slot:0},\
+    {cto:36120,eto:36010,key:A,kind:pre,slot:1}],slots:10,start:36000},msgs:[],n:4}
+{'cmd':'tick','at':22800}
+{done:true,msgs:[{ctot:30710,key:A,kind:SAM,reg:R1},{ctot:30600,key:B,kind:SAM,reg:R1}],n:5}
 
-/// The calls of an example with their replies.
-type Example = &'static [[&'static str; 2]];
+Flights at equal times stand by key.
+{'cmd':'open','reg':'R1','loc':'LA','periods':[{'from':36000,'to':37200,'rate':30}]}
+{done:true,msgs:[],n:1}
+{'cmd':'file','key':'BBB2','eobt':30000,'taxi':600,'via':[{'loc':'LA','eto':36010}]}
+{flight:{ctot:30600,delay:0,eobt:30000,etot:30600,exempt:false,issued:false,key:BBB2,reg:R1},msgs:[],n:2}
+{'cmd':'file','key':'AAA1','eobt':30000,'taxi':600,'via':[{'loc':'LA','eto':36010}]}
+{flight:{ctot:30600,delay:0,eobt:30000,etot:30600,exempt:false,issued:false,key:AAA1,reg:R1},msgs:[],n:3}
+{'cmd':'list','reg':'R1'}
+{list:{end:37200,loc:LA,reg:R1,rows:[{cto:36010,eto:36010,key:AAA1,kind:pre,slot:0},\
+    {cto:36120,eto:36010,key:BBB2,kind:pre,slot:1}],slots:10,start:36000},msgs:[],n:4}
 
-/// Two flights get slots two minutes apart.
-const TWO_FLIGHTS: Example = &[
-    ["open R1 LA 36000 37200 30", "done"],
-    [
-        "file A plain 30000 600 LA 36010",
-        "A 30000 30600 30600 0 R1",
-    ],
-    [
-        "file B plain 30000 600 LA 36005",
-        "B 30000 30600 30600 0 R1",
-    ],
-    [
-        "list R1",
-        "R1 LA 36000 37200 10, B 36005 36005 pre 0, A 36010 36120 pre 1",
-    ],
-    ["tick 22800", "done; SAM A 30710 R1; SAM B 30600 R1"],
-];
+The same where they are filed the other way round.
+{'cmd':'open','reg':'R1','loc':'LA','periods':[{'from':36000,'to':37200,'rate':30}]}
+{done:true,msgs:[],n:1}
+{'cmd':'file','key':'AAA1','eobt':30000,'taxi':600,'via':[{'loc':'LA','eto':36010}]}
+{flight:{ctot:30600,delay:0,eobt:30000,etot:30600,exempt:false,issued:false,key:AAA1,reg:R1},msgs:[],n:2}
+{'cmd':'file','key':'BBB2','eobt':30000,'taxi':600,'via':[{'loc':'LA','eto':36010}]}
+{flight:{ctot:30710,delay:110,eobt:30000,etot:30600,exempt:false,issued:false,key:BBB2,reg:R1},msgs:[],n:3}
+{'cmd':'list','reg':'R1'}
+{list:{end:37200,loc:LA,reg:R1,rows:[{cto:36010,eto:36010,key:AAA1,kind:pre,slot:0},\
+    {cto:36120,eto:36010,key:BBB2,kind:pre,slot:1}],slots:10,start:36000},msgs:[],n:4}
 
-/// Flights at equal times stand by key.
-const EQUAL_TIMES_ONE_WAY: Example = &[
-    ["open R1 LA 36000 37200 30", "done"],
-    [
-        "file BBB2 plain 30000 600 LA 36010",
-        "BBB2 30000 30600 30600 0 R1",
-    ],
-    [
-        "file AAA1 plain 30000 600 LA 36010",
-        "AAA1 30000 30600 30600 0 R1",
-    ],
-    [
-        "list R1",
-        "R1 LA 36000 37200 10, AAA1 36010 36010 pre 0, BBB2 36010 36120 pre 1",
-    ],
-];
+An issued slot is kept, and others go around it.
+{'cmd':'open','reg':'R1','loc':'LA','periods':[{'from':36000,'to':37200,'rate':30}]}
+{done:true,msgs:[],n:1}
+{'cmd':'file','key':'C','eobt':20000,'taxi':600,'via':[{'loc':'LA','eto':36130}]}
+{flight:{ctot:20600,delay:0,eobt:20000,etot:20600,exempt:false,issued:false,key:C,reg:R1},msgs:[],n:2}
+{'cmd':'tick','at':12800}
+{done:true,msgs:[{ctot:20600,key:C,kind:SAM,reg:R1}],n:3}
+{'cmd':'file','key':'A','eobt':30000,'taxi':600,'via':[{'loc':'LA','eto':36010}]}
+{flight:{ctot:30600,delay:0,eobt:30000,etot:30600,exempt:false,issued:false,key:A,reg:R1},msgs:[],n:4}
+{'cmd':'file','key':'B','eobt':30000,'taxi':600,'via':[{'loc':'LA','eto':36005}]}
+{flight:{ctot:30600,delay:0,eobt:30000,etot:30600,exempt:false,issued:false,key:B,reg:R1},msgs:[],n:5}
+{'cmd':'list','reg':'R1'}
+{list:{end:37200,loc:LA,reg:R1,rows:[{cto:36005,eto:36005,key:B,kind:pre,slot:0},\
+    {cto:36130,eto:36130,key:C,kind:issued,slot:1},\
+    {cto:36240,eto:36010,key:A,kind:pre,slot:2}],slots:10,start:36000},msgs:[],n:6}
 
-/// The same where they are filed the other way round.
-const EQUAL_TIMES_OTHER_WAY: Example = &[
-    ["open R1 LA 36000 37200 30", "done"],
-    [
-        "file AAA1 plain 30000 600 LA 36010",
-        "AAA1 30000 30600 30600 0 R1",
-    ],
-    [
-        "file BBB2 plain 30000 600 LA 36010",
-        "BBB2 30000 30600 30710 110 R1",
-    ],
-    [
-        "list R1",
-        "R1 LA 36000 37200 10, AAA1 36010 36010 pre 0, BBB2 36010 36120 pre 1",
-    ],
-];
+The third of three flights is over.
+{'cmd':'open','reg':'R1','loc':'LA','periods':[{'from':36000,'to':36240,'rate':30}]}
+{done:true,msgs:[],n:1}
+{'cmd':'file','key':'A','eobt':30000,'taxi':600,'via':[{'loc':'LA','eto':36010}]}
+{flight:{ctot:30600,delay:0,eobt:30000,etot:30600,exempt:false,issued:false,key:A,reg:R1},msgs:[],n:2}
+{'cmd':'file','key':'B','eobt':30000,'taxi':600,'via':[{'loc':'LA','eto':36020}]}
+{flight:{ctot:30700,delay:100,eobt:30000,etot:30600,exempt:false,issued:false,key:B,reg:R1},msgs:[],n:3}
+{'cmd':'file','key':'C','eobt':30000,'taxi':600,'via':[{'loc':'LA','eto':36030}]}
+{flight:{ctot:30810,delay:210,eobt:30000,etot:30600,exempt:false,issued:false,key:C,reg:R1},msgs:[],n:4}
+{'cmd':'list','reg':'R1'}
+{list:{end:36240,loc:LA,reg:R1,rows:[{cto:36010,eto:36010,key:A,kind:pre,slot:0},\
+    {cto:36120,eto:36020,key:B,kind:pre,slot:1},\
+    {cto:36240,eto:36030,key:C,kind:pre,slot:null}],slots:2,start:36000},msgs:[],n:5}
 
-/// An issued slot is kept, and others go around it.
-const AROUND_AN_ISSUED_SLOT: Example = &[
-    ["open R1 LA 36000 37200 30", "done"],
-    [
-        "file C plain 20000 600 LA 36130",
-        "C 20000 20600 20600 0 R1",
-    ],
-    ["tick 12800", "done; SAM C 20600 R1"],
-    [
-        "file A plain 30000 600 LA 36010",
-        "A 30000 30600 30600 0 R1",
-    ],
-    [
-        "file B plain 30000 600 LA 36005",
-        "B 30000 30600 30600 0 R1",
-    ],
-    [
-        "list R1",
-        "R1 LA 36000 37200 10, B 36005 36005 pre 0, C 36130 36130 issued 1, A 36010 36240 pre 2",
-    ],
-];
+A first period without slots.
+{'cmd':'open','reg':'R1','loc':'LA','periods':[{'from':36000,'to':36600,'rate':0},{'from':36600,'to':37200,'rate':30}]}
+{done:true,msgs:[],n:1}
+{'cmd':'file','key':'A','eobt':30000,'taxi':600,'via':[{'loc':'LA','eto':36100}]}
+{flight:{ctot:31100,delay:500,eobt:30000,etot:30600,exempt:false,issued:false,key:A,reg:R1},msgs:[],n:2}
+{'cmd':'list','reg':'R1'}
+{list:{end:37200,loc:LA,reg:R1,rows:[{cto:36600,eto:36100,key:A,kind:pre,slot:0}],slots:5,start:36000},msgs:[],n:3}
 
-/// The third of three flights is over.
-const THREE_FLIGHTS_TWO_SLOTS: Example = &[
-    ["open R1 LA 36000 36240 30", "done"],
-    [
-        "file A plain 30000 600 LA 36010",
-        "A 30000 30600 30600 0 R1",
-    ],
-    [
-        "file B plain 30000 600 LA 36020",
-        "B 30000 30600 30700 100 R1",
-    ],
-    [
-        "file C plain 30000 600 LA 36030",
-        "C 30000 30600 30810 210 R1",
-    ],
-    [
-        "list R1",
-        "R1 LA 36000 36240 2, A 36010 36010 pre 0, B 36020 36120 pre 1, C 36030 36240 pre -",
-    ],
-];
+A last period without slots.
+{'cmd':'open','reg':'R1','loc':'LA','periods':[{'from':36000,'to':36600,'rate':30},{'from':36600,'to':37200,'rate':0}]}
+{done:true,msgs:[],n:1}
+{'cmd':'file','key':'A','eobt':30000,'taxi':600,'via':[{'loc':'LA','eto':36700}]}
+{flight:{ctot:31100,delay:500,eobt:30000,etot:30600,exempt:false,issued:false,key:A,reg:R1},msgs:[],n:2}
+{'cmd':'list','reg':'R1'}
+{list:{end:37200,loc:LA,reg:R1,rows:[{cto:37200,eto:36700,key:A,kind:pre,slot:null}],slots:5,start:36000},msgs:[],n:3}
 
-/// A first period without slots.
-const NO_SLOT_AT_FIRST: Example = &[
-    ["open R1 LA 36000 36600 0 36600 37200 30", "done"],
-    [
-        "file A plain 30000 600 LA 36100",
-        "A 30000 30600 31100 500 R1",
-    ],
-    ["list R1", "R1 LA 36000 37200 5, A 36100 36600 pre 0"],
-];
+The regulation that delays most governs, and the flight stands forced in the other.
+{'cmd':'open','reg':'R1','loc':'LA','periods':[{'from':36000,'to':37200,'rate':30}]}
+{done:true,msgs:[],n:1}
+{'cmd':'open','reg':'R2','loc':'LB','periods':[{'from':39600,'to':40800,'rate':12}]}
+{done:true,msgs:[],n:2}
+{'cmd':'file','key':'P','eobt':30000,'taxi':600,'via':[{'loc':'LA','eto':36005}]}
+{flight:{ctot:30600,delay:0,eobt:30000,etot:30600,exempt:false,issued:false,key:P,reg:R1},msgs:[],n:3}
+{'cmd':'file','key':'Q','eobt':30000,'taxi':600,'via':[{'loc':'LB','eto':39600}]}
+{flight:{ctot:30600,delay:0,eobt:30000,etot:30600,exempt:false,issued:false,key:Q,reg:R2},msgs:[],n:4}
+{'cmd':'file','key':'X','eobt':30000,'taxi':600,'via':[{'loc':'LA','eto':36010},{'loc':'LB','eto':39600}]}
+{flight:{ctot:30900,delay:300,eobt:30000,etot:30600,exempt:false,issued:false,key:X,reg:R2},msgs:[],n:5}
+{'cmd':'file','key':'Y','eobt':30000,'taxi':600,'via':[{'loc':'LA','eto':36020}]}
+{flight:{ctot:30700,delay:100,eobt:30000,etot:30600,exempt:false,issued:false,key:Y,reg:R1},msgs:[],n:6}
+{'cmd':'list','reg':'R1'}
+{list:{end:37200,loc:LA,reg:R1,rows:[{cto:36005,eto:36005,key:P,kind:pre,slot:0},\
+    {cto:36120,eto:36020,key:Y,kind:pre,slot:1},\
+    {cto:36310,eto:36010,key:X,kind:forced,slot:null}],slots:10,start:36000},msgs:[],n:7}
+{'cmd':'list','reg':'R2'}
+{list:{end:40800,loc:LB,reg:R2,rows:[{cto:39600,eto:39600,key:Q,kind:pre,slot:0},\
+    {cto:39900,eto:39600,key:X,kind:pre,slot:1}],slots:4,start:39600},msgs:[],n:8}
 
-/// A last period without slots.
-const NO_SLOT_AT_LAST: Example = &[
-    ["open R1 LA 36000 36600 30 36600 37200 0", "done"],
-    [
-        "file A plain 30000 600 LA 36700",
-        "A 30000 30600 31100 500 R1",
-    ],
-    ["list R1", "R1 LA 36000 37200 5, A 36700 37200 pre -"],
-];
+The first of two regulations that delay as much governs.
+{'cmd':'open','reg':'R1','loc':'LA','periods':[{'from':36000,'to':37200,'rate':30}]}
+{done:true,msgs:[],n:1}
+{'cmd':'open','reg':'R2','loc':'LB','periods':[{'from':39600,'to':40800,'rate':12}]}
+{done:true,msgs:[],n:2}
+{'cmd':'file','key':'X','eobt':30000,'taxi':600,'via':[{'loc':'LA','eto':36010},{'loc':'LB','eto':39700}]}
+{flight:{ctot:30600,delay:0,eobt:30000,etot:30600,exempt:false,issued:false,key:X,reg:R1},msgs:[],n:3}
+{'cmd':'list','reg':'R1'}
+{list:{end:37200,loc:LA,reg:R1,rows:[{cto:36010,eto:36010,key:X,kind:pre,slot:0}],slots:10,start:36000},msgs:[],n:4}
+{'cmd':'list','reg':'R2'}
+{list:{end:40800,loc:LB,reg:R2,rows:[{cto:39700,eto:39700,key:X,kind:forced,slot:null}],slots:4,start:39600},\
+    msgs:[],n:5}
 
-/// The regulation that delays most governs, and the flight stands forced in the other.
-const MOST_PENALISING: Example = &[
-    ["open R1 LA 36000 37200 30", "done"],
-    ["open R2 LB 39600 40800 12", "done"],
-    [
-        "file P plain 30000 600 LA 36005",
-        "P 30000 30600 30600 0 R1",
-    ],
-    [
-        "file Q plain 30000 600 LB 39600",
-        "Q 30000 30600 30600 0 R2",
-    ],
-    [
-        "file X plain 30000 600 LA 36010 LB 39600",
-        "X 30000 30600 30900 300 R2",
-    ],
-    [
-        "file Y plain 30000 600 LA 36020",
-        "Y 30000 30600 30700 100 R1",
-    ],
-    [
-        "list R1",
-        "R1 LA 36000 37200 10, P 36005 36005 pre 0, Y 36020 36120 pre 1, X 36010 36310 forced -",
-    ],
-    [
-        "list R2",
-        "R2 LB 39600 40800 4, Q 39600 39600 pre 0, X 39600 39900 pre 1",
-    ],
-];
+Another regulation governs after a revision.
+{'cmd':'open','reg':'R1','loc':'LA','periods':[{'from':36000,'to':37200,'rate':30}]}
+{done:true,msgs:[],n:1}
+{'cmd':'open','reg':'R2','loc':'LB','periods':[{'from':39600,'to':40800,'rate':12}]}
+{done:true,msgs:[],n:2}
+{'cmd':'file','key':'A','eobt':10000,'taxi':600,'via':[{'loc':'LA','eto':36005}]}
+{flight:{ctot:10600,delay:0,eobt:10000,etot:10600,exempt:false,issued:false,key:A,reg:R1},msgs:[],n:3}
+{'cmd':'file','key':'Q','eobt':10000,'taxi':600,'via':[{'loc':'LB','eto':39600}]}
+{flight:{ctot:10600,delay:0,eobt:10000,etot:10600,exempt:false,issued:false,key:Q,reg:R2},msgs:[],n:4}
+{'cmd':'file','key':'X','eobt':10000,'taxi':600,'via':[{'loc':'LA','eto':36010},{'loc':'LB','eto':39850}]}
+{flight:{ctot:10710,delay:110,eobt:10000,etot:10600,exempt:false,issued:false,key:X,reg:R1},msgs:[],n:5}
+{'cmd':'tick','at':2800}
+{done:true,msgs:[{ctot:10600,key:A,kind:SAM,reg:R1},{ctot:10600,key:Q,kind:SAM,reg:R2},\
+    {ctot:10710,key:X,kind:SAM,reg:R1}],n:6}
+{'cmd':'cancel','key':'A'}
+{done:true,msgs:[],n:7}
+{'cmd':'revise','key':'X'}
+{flight:{ctot:10650,delay:50,eobt:10000,etot:10600,exempt:false,issued:true,key:X,reg:R2},msgs:[{ctot:10650,key:X,\
+    kind:SRM,reg:R2}],n:8}
+{'cmd':'list','reg':'R2'}
+{list:{end:40800,loc:LB,reg:R2,rows:[{cto:39600,eto:39600,key:Q,kind:issued,slot:0},\
+    {cto:39900,eto:39850,key:X,kind:issued,slot:1}],slots:4,start:39600},msgs:[],n:9}
 
-/// The first of two regulations that delay as much governs.
-const EQUAL_OFFERS: Example = &[
-    ["open R1 LA 36000 37200 30", "done"],
-    ["open R2 LB 39600 40800 12", "done"],
-    [
-        "file X plain 30000 600 LA 36010 LB 39700",
-        "X 30000 30600 30600 0 R1",
-    ],
-    ["list R1", "R1 LA 36000 37200 10, X 36010 36010 pre 0"],
-    ["list R2", "R2 LB 39600 40800 4, X 39700 39700 forced -"],
-];
+A flight of a special status takes no slot.
+{'cmd':'open','reg':'R1','loc':'LA','periods':[{'from':36000,'to':36240,'rate':30}]}
+{done:true,msgs:[],n:1}
+{'cmd':'file','key':'A','eobt':30000,'taxi':600,'via':[{'loc':'LA','eto':36010}]}
+{flight:{ctot:30600,delay:0,eobt:30000,etot:30600,exempt:false,issued:false,key:A,reg:R1},msgs:[],n:2}
+{'cmd':'file','key':'B','eobt':30000,'taxi':600,'via':[{'loc':'LA','eto':36020}]}
+{flight:{ctot:30700,delay:100,eobt:30000,etot:30600,exempt:false,issued:false,key:B,reg:R1},msgs:[],n:3}
+{'cmd':'file','key':'C','eobt':30000,'taxi':600,'via':[{'loc':'LA','eto':36030}]}
+{flight:{ctot:30810,delay:210,eobt:30000,etot:30600,exempt:false,issued:false,key:C,reg:R1},msgs:[],n:4}
+{'cmd':'file','key':'H','eobt':30000,'taxi':600,'via':[{'loc':'LA','eto':36005}],'sts':'HEAD'}
+{flight:{ctot:30600,delay:0,eobt:30000,etot:30600,exempt:true,issued:false,key:H,reg:null},msgs:[],n:5}
+{'cmd':'list','reg':'R1'}
+{list:{end:36240,loc:LA,reg:R1,rows:[{cto:36005,eto:36005,key:H,kind:forced,slot:null},\
+    {cto:36010,eto:36010,key:A,kind:pre,slot:0},{cto:36120,eto:36020,key:B,kind:pre,slot:1},\
+    {cto:36240,eto:36030,key:C,kind:pre,slot:null}],slots:2,start:36000},msgs:[],n:6}
+{'cmd':'exempt','key':'H'}
+{code:4,n:7,refused:AlreadyExempt}
 
-/// Another regulation governs after a revision.
-const REVISED_TO_ANOTHER_REGULATION: Example = &[
-    ["open R1 LA 36000 37200 30", "done"],
-    ["open R2 LB 39600 40800 12", "done"],
-    [
-        "file A plain 10000 600 LA 36005",
-        "A 10000 10600 10600 0 R1",
-    ],
-    [
-        "file Q plain 10000 600 LB 39600",
-        "Q 10000 10600 10600 0 R2",
-    ],
-    [
-        "file X plain 10000 600 LA 36010 LB 39850",
-        "X 10000 10600 10710 110 R1",
-    ],
-    [
-        "tick 2800",
-        "done; SAM A 10600 R1; SAM Q 10600 R2; SAM X 10710 R1",
-    ],
-    ["cancel A", "done"],
-    [
-        "revise X",
-        "X 10000 10600 10650 50 R2 issued; SRM X 10650 R2",
-    ],
-    [
-        "list R2",
-        "R2 LB 39600 40800 4, Q 39600 39600 issued 0, X 39850 39900 issued 1",
-    ],
-];
+A flight is issued once, two hours ahead.
+{'cmd':'open','reg':'R1','loc':'LA','periods':[{'from':36000,'to':37200,'rate':30}]}
+{done:true,msgs:[],n:1}
+{'cmd':'file','key':'A','eobt':30000,'taxi':600,'via':[{'loc':'LA','eto':36010}]}
+{flight:{ctot:30600,delay:0,eobt:30000,etot:30600,exempt:false,issued:false,key:A,reg:R1},msgs:[],n:2}
+{'cmd':'tick','at':22799}
+{done:true,msgs:[],n:3}
+{'cmd':'tick','at':22800}
+{done:true,msgs:[{ctot:30600,key:A,kind:SAM,reg:R1}],n:4}
+{'cmd':'tick','at':22800}
+{done:true,msgs:[],n:5}
+{'cmd':'tick','at':22799}
+{code:9,n:6,refused:BackInTime}
 
-/// A flight of a special status takes no slot.
-const EXEMPT: Example = &[
-    ["open R1 LA 36000 36240 30", "done"],
-    [
-        "file A plain 30000 600 LA 36010",
-        "A 30000 30600 30600 0 R1",
-    ],
-    [
-        "file B plain 30000 600 LA 36020",
-        "B 30000 30600 30700 100 R1",
-    ],
-    [
-        "file C plain 30000 600 LA 36030",
-        "C 30000 30600 30810 210 R1",
-    ],
-    [
-        "file H head 30000 600 LA 36005",
-        "H 30000 30600 30600 0 - exempt",
-    ],
-    [
-        "list R1",
-        "R1 LA 36000 36240 2, H 36005 36005 forced -, A 36010 36010 pre 0, B 36020 36120 pre 1, C 36030 36240 pre -",
-    ],
-    ["exempt H", "AlreadyExempt"],
-];
+A flight that is filed late is issued at once, behind what is issued.
+{'cmd':'open','reg':'R1','loc':'LA','periods':[{'from':36000,'to':37200,'rate':30}]}
+{done:true,msgs:[],n:1}
+{'cmd':'file','key':'Z','eobt':10000,'taxi':600,'via':[{'loc':'LA','eto':36010}]}
+{flight:{ctot:10600,delay:0,eobt:10000,etot:10600,exempt:false,issued:false,key:Z,reg:R1},msgs:[],n:2}
+{'cmd':'tick','at':2800}
+{done:true,msgs:[{ctot:10600,key:Z,kind:SAM,reg:R1}],n:3}
+{'cmd':'file','key':'E','eobt':9000,'taxi':600,'via':[{'loc':'LA','eto':36001}]}
+{flight:{ctot:9719,delay:119,eobt:9000,etot:9600,exempt:false,issued:true,key:E,reg:R1},msgs:[{ctot:9719,key:E,\
+    kind:SAM,reg:R1}],n:4}
+{'cmd':'list','reg':'R1'}
+{list:{end:37200,loc:LA,reg:R1,rows:[{cto:36010,eto:36010,key:Z,kind:issued,slot:0},\
+    {cto:36120,eto:36001,key:E,kind:issued,slot:1}],slots:10,start:36000},msgs:[],n:5}
 
-/// A flight is issued once, two hours ahead.
-const ISSUED_ONCE: Example = &[
-    ["open R1 LA 36000 37200 30", "done"],
-    [
-        "file A plain 30000 600 LA 36010",
-        "A 30000 30600 30600 0 R1",
-    ],
-    ["tick 22799", "done"],
-    ["tick 22800", "done; SAM A 30600 R1"],
-    ["tick 22800", "done"],
-    ["tick 22799", "BackInTime"],
-];
+Others move up where a flight is cancelled.
+{'cmd':'open','reg':'R1','loc':'LA','periods':[{'from':36000,'to':36240,'rate':30}]}
+{done:true,msgs:[],n:1}
+{'cmd':'file','key':'A','eobt':30000,'taxi':600,'via':[{'loc':'LA','eto':36010}]}
+{flight:{ctot:30600,delay:0,eobt:30000,etot:30600,exempt:false,issued:false,key:A,reg:R1},msgs:[],n:2}
+{'cmd':'file','key':'B','eobt':30000,'taxi':600,'via':[{'loc':'LA','eto':36020}]}
+{flight:{ctot:30700,delay:100,eobt:30000,etot:30600,exempt:false,issued:false,key:B,reg:R1},msgs:[],n:3}
+{'cmd':'file','key':'C','eobt':30000,'taxi':600,'via':[{'loc':'LA','eto':36030}]}
+{flight:{ctot:30810,delay:210,eobt:30000,etot:30600,exempt:false,issued:false,key:C,reg:R1},msgs:[],n:4}
+{'cmd':'cancel','key':'A'}
+{done:true,msgs:[],n:5}
+{'cmd':'list','reg':'R1'}
+{list:{end:36240,loc:LA,reg:R1,rows:[{cto:36020,eto:36020,key:B,kind:pre,slot:0},\
+    {cto:36120,eto:36030,key:C,kind:pre,slot:1}],slots:2,start:36000},msgs:[],n:6}
+{'cmd':'cancel','key':'A'}
+{code:2,n:7,refused:NoFlight}
 
-/// A flight that is filed late is issued at once, behind what is issued.
-const LATE_FILING: Example = &[
-    ["open R1 LA 36000 37200 30", "done"],
-    [
-        "file Z plain 10000 600 LA 36010",
-        "Z 10000 10600 10600 0 R1",
-    ],
-    ["tick 2800", "done; SAM Z 10600 R1"],
-    [
-        "file E plain 9000 600 LA 36001",
-        "E 9000 9600 9719 119 R1 issued; SAM E 9719 R1",
-    ],
-    [
-        "list R1",
-        "R1 LA 36000 37200 10, Z 36010 36010 issued 0, E 36001 36120 issued 1",
-    ],
-];
+New rates make new slots; an issued time stays.
+{'cmd':'open','reg':'R1','loc':'LA','periods':[{'from':36000,'to':37200,'rate':30}]}
+{done:true,msgs:[],n:1}
+{'cmd':'file','key':'Z','eobt':10000,'taxi':600,'via':[{'loc':'LA','eto':36120}]}
+{flight:{ctot:10600,delay:0,eobt:10000,etot:10600,exempt:false,issued:false,key:Z,reg:R1},msgs:[],n:2}
+{'cmd':'tick','at':2800}
+{done:true,msgs:[{ctot:10600,key:Z,kind:SAM,reg:R1}],n:3}
+{'cmd':'file','key':'F','eobt':30000,'taxi':600,'via':[{'loc':'LA','eto':36005}]}
+{flight:{ctot:30600,delay:0,eobt:30000,etot:30600,exempt:false,issued:false,key:F,reg:R1},msgs:[],n:4}
+{'cmd':'rates','reg':'R1','periods':[{'from':36000,'to':37200,'rate':15}]}
+{done:true,msgs:[],n:5}
+{'cmd':'list','reg':'R1'}
+{list:{end:37200,loc:LA,reg:R1,rows:[{cto:36120,eto:36120,key:Z,kind:issued,slot:0},\
+    {cto:36240,eto:36005,key:F,kind:pre,slot:1}],slots:5,start:36000},msgs:[],n:6}
+{'cmd':'rates','reg':'R1','periods':[{'from':36000,'to':36900,'rate':15}]}
+{code:8,n:7,refused:SpanChanged}
 
-/// Others move up where a flight is cancelled.
-const CANCELLED: Example = &[
-    ["open R1 LA 36000 36240 30", "done"],
-    [
-        "file A plain 30000 600 LA 36010",
-        "A 30000 30600 30600 0 R1",
-    ],
-    [
-        "file B plain 30000 600 LA 36020",
-        "B 30000 30600 30700 100 R1",
-    ],
-    [
-        "file C plain 30000 600 LA 36030",
-        "C 30000 30600 30810 210 R1",
-    ],
-    ["cancel A", "done"],
-    [
-        "list R1",
-        "R1 LA 36000 36240 2, B 36020 36020 pre 0, C 36030 36120 pre 1",
-    ],
-    ["cancel A", "NoFlight"],
-];
+An issued flight is better off after a revision, once.
+{'cmd':'open','reg':'R1','loc':'LA','periods':[{'from':36000,'to':37200,'rate':30}]}
+{done:true,msgs:[],n:1}
+{'cmd':'file','key':'A','eobt':10000,'taxi':600,'via':[{'loc':'LA','eto':36005}]}
+{flight:{ctot:10600,delay:0,eobt:10000,etot:10600,exempt:false,issued:false,key:A,reg:R1},msgs:[],n:2}
+{'cmd':'file','key':'B','eobt':10000,'taxi':600,'via':[{'loc':'LA','eto':36010}]}
+{flight:{ctot:10710,delay:110,eobt:10000,etot:10600,exempt:false,issued:false,key:B,reg:R1},msgs:[],n:3}
+{'cmd':'tick','at':2800}
+{done:true,msgs:[{ctot:10600,key:A,kind:SAM,reg:R1},{ctot:10710,key:B,kind:SAM,reg:R1}],n:4}
+{'cmd':'cancel','key':'A'}
+{done:true,msgs:[],n:5}
+{'cmd':'revise','key':'B'}
+{flight:{ctot:10600,delay:0,eobt:10000,etot:10600,exempt:false,issued:true,key:B,reg:R1},msgs:[{ctot:10600,key:B,\
+    kind:SRM,reg:R1}],n:6}
+{'cmd':'revise','key':'B'}
+{flight:{ctot:10600,delay:0,eobt:10000,etot:10600,exempt:false,issued:true,key:B,reg:R1},msgs:[],n:7}
+{'cmd':'list','reg':'R1'}
+{list:{end:37200,loc:LA,reg:R1,rows:[{cto:36010,eto:36010,key:B,kind:issued,slot:0}],slots:10,start:36000},msgs:[],\
+    n:8}
 
-/// New rates make new slots; an issued time stays.
-const NEW_RATES: Example = &[
-    ["open R1 LA 36000 37200 30", "done"],
-    [
-        "file Z plain 10000 600 LA 36120",
-        "Z 10000 10600 10600 0 R1",
-    ],
-    ["tick 2800", "done; SAM Z 10600 R1"],
-    [
-        "file F plain 30000 600 LA 36005",
-        "F 30000 30600 30600 0 R1",
-    ],
-    ["rates R1 36000 37200 15", "done"],
-    [
-        "list R1",
-        "R1 LA 36000 37200 5, Z 36120 36120 issued 0, F 36005 36240 pre 1",
-    ],
-    ["rates R1 36000 36900 15", "SpanChanged"],
-];
+An issued flight stays where another leaves.
+{'cmd':'open','reg':'R1','loc':'LA','periods':[{'from':36000,'to':37200,'rate':30}]}
+{done:true,msgs:[],n:1}
+{'cmd':'file','key':'A','eobt':10000,'taxi':600,'via':[{'loc':'LA','eto':36005}]}
+{flight:{ctot:10600,delay:0,eobt:10000,etot:10600,exempt:false,issued:false,key:A,reg:R1},msgs:[],n:2}
+{'cmd':'file','key':'B','eobt':10000,'taxi':600,'via':[{'loc':'LA','eto':36010}]}
+{flight:{ctot:10710,delay:110,eobt:10000,etot:10600,exempt:false,issued:false,key:B,reg:R1},msgs:[],n:3}
+{'cmd':'tick','at':2800}
+{done:true,msgs:[{ctot:10600,key:A,kind:SAM,reg:R1},{ctot:10710,key:B,kind:SAM,reg:R1}],n:4}
+{'cmd':'cancel','key':'A'}
+{done:true,msgs:[],n:5}
+{'cmd':'list','reg':'R1'}
+{list:{end:37200,loc:LA,reg:R1,rows:[{cto:36120,eto:36010,key:B,kind:issued,slot:1}],slots:10,start:36000},msgs:[],\
+    n:6}
+{'cmd':'show','key':'A'}
+{code:2,n:7,refused:NoFlight}
 
-/// An issued flight is better off after a revision, once.
-const REVISED: Example = &[
-    ["open R1 LA 36000 37200 30", "done"],
-    [
-        "file A plain 10000 600 LA 36005",
-        "A 10000 10600 10600 0 R1",
-    ],
-    [
-        "file B plain 10000 600 LA 36010",
-        "B 10000 10600 10710 110 R1",
-    ],
-    ["tick 2800", "done; SAM A 10600 R1; SAM B 10710 R1"],
-    ["cancel A", "done"],
-    [
-        "revise B",
-        "B 10000 10600 10600 0 R1 issued; SRM B 10600 R1",
-    ],
-    ["revise B", "B 10000 10600 10600 0 R1 issued"],
-    ["list R1", "R1 LA 36000 37200 10, B 36010 36010 issued 0"],
-];
+An issued slot is taken back where the regulation closes.
+{'cmd':'open','reg':'R1','loc':'LA','periods':[{'from':36000,'to':37200,'rate':30}]}
+{done:true,msgs:[],n:1}
+{'cmd':'file','key':'A','eobt':10000,'taxi':600,'via':[{'loc':'LA','eto':36005}]}
+{flight:{ctot:10600,delay:0,eobt:10000,etot:10600,exempt:false,issued:false,key:A,reg:R1},msgs:[],n:2}
+{'cmd':'file','key':'B','eobt':10000,'taxi':600,'via':[{'loc':'LA','eto':36010}]}
+{flight:{ctot:10710,delay:110,eobt:10000,etot:10600,exempt:false,issued:false,key:B,reg:R1},msgs:[],n:3}
+{'cmd':'tick','at':2800}
+{done:true,msgs:[{ctot:10600,key:A,kind:SAM,reg:R1},{ctot:10710,key:B,kind:SAM,reg:R1}],n:4}
+{'cmd':'cancel','key':'A'}
+{done:true,msgs:[],n:5}
+{'cmd':'revise','key':'B'}
+{flight:{ctot:10600,delay:0,eobt:10000,etot:10600,exempt:false,issued:true,key:B,reg:R1},msgs:[{ctot:10600,key:B,\
+    kind:SRM,reg:R1}],n:6}
+{'cmd':'revise','key':'B'}
+{flight:{ctot:10600,delay:0,eobt:10000,etot:10600,exempt:false,issued:true,key:B,reg:R1},msgs:[],n:7}
+{'cmd':'close','reg':'R1'}
+{done:true,msgs:[{key:B,kind:SLC}],n:8}
+{'cmd':'show','key':'B'}
+{flight:{ctot:10600,delay:0,eobt:10000,etot:10600,exempt:false,issued:false,key:B,reg:null},msgs:[],n:9}
+{'cmd':'close','reg':'R1'}
+{code:6,n:10,refused:NoRegulation}
 
-/// An issued flight stays where another leaves.
-const ISSUED_STAYS_WHEN_ANOTHER_LEAVES: Example = &[
-    ["open R1 LA 36000 37200 30", "done"],
-    [
-        "file A plain 10000 600 LA 36005",
-        "A 10000 10600 10600 0 R1",
-    ],
-    [
-        "file B plain 10000 600 LA 36010",
-        "B 10000 10600 10710 110 R1",
-    ],
-    ["tick 2800", "done; SAM A 10600 R1; SAM B 10710 R1"],
-    ["cancel A", "done"],
-    ["list R1", "R1 LA 36000 37200 10, B 36010 36120 issued 1"],
-    ["show A", "NoFlight"],
-];
+An issued slot is taken back where the flight comes later or is exempted.
+{'cmd':'open','reg':'R1','loc':'LA','periods':[{'from':36000,'to':37200,'rate':30}]}
+{done:true,msgs:[],n:1}
+{'cmd':'file','key':'A','eobt':10000,'taxi':600,'via':[{'loc':'LA','eto':36005}]}
+{flight:{ctot:10600,delay:0,eobt:10000,etot:10600,exempt:false,issued:false,key:A,reg:R1},msgs:[],n:2}
+{'cmd':'tick','at':2800}
+{done:true,msgs:[{ctot:10600,key:A,kind:SAM,reg:R1}],n:3}
+{'cmd':'amend','key':'A','eobt':20000,'taxi':600,'via':[{'loc':'LA','eto':36605}]}
+{flight:{ctot:20600,delay:0,eobt:20000,etot:20600,exempt:false,issued:false,key:A,reg:R1},msgs:[{key:A,kind:SLC}],n:4}
+{'cmd':'file','key':'B','eobt':10000,'taxi':600,'via':[{'loc':'LA','eto':36005}]}
+{flight:{ctot:10600,delay:0,eobt:10000,etot:10600,exempt:false,issued:true,key:B,reg:R1},msgs:[{ctot:10600,key:B,\
+    kind:SAM,reg:R1}],n:5}
+{'cmd':'exempt','key':'B'}
+{flight:{ctot:10600,delay:0,eobt:10000,etot:10600,exempt:true,issued:false,key:B,reg:null},msgs:[{key:B,kind:SLC}],\
+    n:6}
 
-/// An issued slot is taken back where the regulation closes.
-const CLOSED: Example = &[
-    ["open R1 LA 36000 37200 30", "done"],
-    [
-        "file A plain 10000 600 LA 36005",
-        "A 10000 10600 10600 0 R1",
-    ],
-    [
-        "file B plain 10000 600 LA 36010",
-        "B 10000 10600 10710 110 R1",
-    ],
-    ["tick 2800", "done; SAM A 10600 R1; SAM B 10710 R1"],
-    ["cancel A", "done"],
-    [
-        "revise B",
-        "B 10000 10600 10600 0 R1 issued; SRM B 10600 R1",
-    ],
-    ["revise B", "B 10000 10600 10600 0 R1 issued"],
-    ["close R1", "done; SLC B"],
-    ["show B", "B 10000 10600 10600 0 -"],
-    ["close R1", "NoRegulation"],
-];
+A plan may not be before the clock.
+{'cmd':'tick','at':20000}
+{done:true,msgs:[],n:1}
+{'cmd':'file','key':'L','eobt':19999,'taxi':600,'via':[]}
+{code:3,n:2,refused:Late}
+{'cmd':'file','key':'L','eobt':20000,'taxi':600,'via':[]}
+{flight:{ctot:20600,delay:0,eobt:20000,etot:20600,exempt:false,issued:false,key:L,reg:null},msgs:[],n:3}
+{'cmd':'amend','key':'M','eobt':19999,'taxi':600,'via':[]}
+{code:2,n:4,refused:NoFlight}
+{'cmd':'amend','key':'L','eobt':19999,'taxi':600,'via':[]}
+{code:3,n:5,refused:Late}
 
-/// An issued slot is taken back where the flight comes later or is exempted.
-const AMENDED_AND_EXEMPTED: Example = &[
-    ["open R1 LA 36000 37200 30", "done"],
-    [
-        "file A plain 10000 600 LA 36005",
-        "A 10000 10600 10600 0 R1",
-    ],
-    ["tick 2800", "done; SAM A 10600 R1"],
-    [
-        "amend A plain 20000 600 LA 36605",
-        "A 20000 20600 20600 0 R1; SLC A",
-    ],
-    [
-        "file B plain 10000 600 LA 36005",
-        "B 10000 10600 10600 0 R1 issued; SAM B 10600 R1",
-    ],
-    ["exempt B", "B 10000 10600 10600 0 - exempt; SLC B"],
-];
+An identifier is open once, or not at all.
+{'cmd':'open','reg':'R1','loc':'LA','periods':[{'from':36000,'to':37200,'rate':30}]}
+{done:true,msgs:[],n:1}
+{'cmd':'open','reg':'R1','loc':'LA','periods':[{'from':36000,'to':37200,'rate':30}]}
+{code:5,n:2,refused:DuplicateRegulation}
+{'cmd':'list','reg':'R2'}
+{code:6,n:3,refused:NoRegulation}
+{'cmd':'rates','reg':'R2','periods':[{'from':36000,'to':37200,'rate':30}]}
+{code:6,n:4,refused:NoRegulation}
+";
 
-/// A plan may not be before the clock.
-const LATE: Example = &[
-    ["tick 20000", "done"],
-    ["file L plain 19999 600", "Late"],
-    ["file L plain 20000 600", "L 20000 20600 20600 0 -"],
-    ["amend M plain 19999 600", "NoFlight"],
-    ["amend L plain 19999 600", "Late"],
-];
-
-/// An identifier is open once, or not at all.
-const NO_REGULATION: Example = &[
-    ["open R1 LA 36000 37200 30", "done"],
-    ["open R1 LA 36000 37200 30", "DuplicateRegulation"],
-    ["list R2", "NoRegulation"],
-    ["rates R2 36000 37200 30", "NoRegulation"],
-];
-
-/// A second regulation opens.
-const TWO_REGULATIONS: Example = &[
-    ["open R1 LA 36000 37200 30", "done"],
-    ["open R1 LA 36000 37200 30", "DuplicateRegulation"],
-    ["list R2", "NoRegulation"],
-    ["open R2 LB 39600 40800 12", "done"],
-];
-
-const EXAMPLES: [Example; 22] = [
-    TWO_FLIGHTS,
-    EQUAL_TIMES_ONE_WAY,
-    EQUAL_TIMES_OTHER_WAY,
-    AROUND_AN_ISSUED_SLOT,
-    THREE_FLIGHTS_TWO_SLOTS,
-    NO_SLOT_AT_FIRST,
-    NO_SLOT_AT_LAST,
-    MOST_PENALISING,
-    EQUAL_OFFERS,
-    REVISED_TO_ANOTHER_REGULATION,
-    EXEMPT,
-    ISSUED_ONCE,
-    LATE_FILING,
-    CANCELLED,
-    NEW_RATES,
-    REVISED,
-    ISSUED_STAYS_WHEN_ANOTHER_LEAVES,
-    CLOSED,
-    AMENDED_AND_EXEMPTED,
-    LATE,
-    NO_REGULATION,
-    TWO_REGULATIONS,
-];
-
-/// Makes the calls of an example, each with the reply that was worked out for it.
-fn answered(rt: &impl Abort, alloc: Global, example: &[[&str; 2]]) -> Result<(), Fail> {
-    let mut both = Both::new(alloc)?;
-    for [call, reply] in example {
-        let asked = asked(alloc, call).ok_or("a call")?;
-        let given = both.reply(rt, alloc, &asked)?;
-        let given = shown(alloc, &given).ok_or("a line")?;
-        assert_eq!(rt; given.as_str(), *reply, "{call}");
-    }
-    Ok(())
-}
-
-#[test]
-fn examples_are_answered_as_worked_out(rt: HostRuntime) -> Result<(), Fail> {
-    let alloc = rt.alloc();
-    for example in EXAMPLES {
-        answered(&rt, alloc, example)?;
-    }
-    Ok(())
+/// The examples, each from an empty board on, with an empty line between them.
+pub fn examples() -> &'static str {
+    EXAMPLES
 }

@@ -8,16 +8,12 @@ mod both;
 #[cfg(test)]
 mod chance;
 #[cfg(test)]
-mod each;
+mod desk;
 #[cfg(test)]
 mod examples;
-#[cfg(test)]
-mod parts;
 #[cfg(test)]
 mod refused;
 #[cfg(test)]
 mod script;
 #[cfg(test)]
-mod tally;
-#[cfg(test)]
-mod words;
+mod text;

@@ -1,4 +1,4 @@
-use Rattle.std.proofs.Common.{◌≡◌, ◌++◌}
+use Rattle.std.proofs.Common.{◌≡◌, ◌++◌, drop}
 use Rattle.std.specs.List.{filter_map}
 use Rattle.casa_flight.specs.declared.row.Stance.{Stance}
 use Rattle.casa_flight.specs.Text.{Text}
@@ -7,5 +7,5 @@ use Rattle.casa_plan.proofs.closing.governed_flights.Given as goal
 
 abbrev pub invariant-loop-key : goal.invariant-loop-key
 invariant-loop-key l =
-    l.comps.items ++ filter_map (λ (e : Text × Stance). governed_comp e.0 e.1) l.key-iterator
+    l.comps.items ++ filter_map (λ (e : Text × Stance). governed_comp e.0 e.1) (drop l.key-index l.key-items)
     ≡ filter_map (λ (e : Text × Stance). governed_comp e.0 e.1) l.list.flights
