@@ -1,0 +1,4 @@
+pub mod Values
+pub mod Plain
+pub mod Fields
+pub mod Behind

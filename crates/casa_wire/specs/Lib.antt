@@ -1,0 +1,6 @@
+pub mod Fields
+pub mod Faults
+pub mod Members
+pub mod Commands
+pub mod LineTexts
+pub mod Parts
