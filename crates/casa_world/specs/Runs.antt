@@ -1,0 +1,20 @@
+use Rattle.std.specs.Prelude.{ℕ, List, Option}
+use Rattle.casa_history.specs.declared.entry.Entry.{Entry}
+use Rattle.casa_commit.specs.declared.world.World.{Ghosts as WorldOf}
+use Rattle.casa_commit.specs.Rooms.{world_of, entries_of}
+use Rattle.casa_world.specs.declared.event.Outcome.{Outcome}
+use Rattle.casa_world.specs.declared.run.Run.{Run}
+use Rattle.casa_world.specs.Standing.{outcome_at}
+
+module _ {W C V D R : Type 0} {world : WorldOf W C V D R} where
+  -- the history of a run
+  abbrev pub run_history : Run W C V D R world → List (Entry C R)
+  run_history run = entries_of run.room
+
+  -- the world as it is left
+  abbrev pub run_world : Run W C V D R world → W
+  run_world run = world_of run.room
+
+  -- the outcome of each worker's last commit
+  abbrev pub run_outcomes : Run W C V D R world → ℕ → Option Outcome
+  run_outcomes run = outcome_at run.desks.items

@@ -1,0 +1,18 @@
+//! Interleavings: what any number of workers do, one event at a time, on one room.
+#![tactic(auto)]
+
+mod board;
+mod desk;
+mod desks;
+mod event;
+mod handing;
+mod laws;
+mod playing;
+mod run;
+mod stamped;
+mod turns;
+
+pub use event::{Event, Outcome};
+pub use laws::events_lead_to_one_scene;
+pub use playing::play;
+pub use run::Run;

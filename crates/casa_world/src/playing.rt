@@ -1,0 +1,66 @@
+//! Playing a list of events on a board.
+
+ghost use Rattle.std.specs.Prelude.{◌≡◌, IfOk};
+ghost use Rattle.casa_history.specs.Entries.{entries};
+ghost use Rattle.casa_plan.specs.Rooms.{IsSequential, StandsAfter};
+ghost use Rattle.casa_world.specs.Scenes.{IsRun};
+ghost use Rattle.casa_world.specs.Board.{sequential_reply, HasSameStamps, RefusalsHaveCauses};
+ghost use Rattle.casa_world.specs.Causes.{AreCommitted, AreAtTheirPositions};
+ghost use Rattle.casa_world.specs.Runs.{run_history, run_world, run_outcomes};
+
+use crate::event::{Event, Outcome};
+use crate::run::{Run, play_on};
+use casa_commit::World;
+use casa_flight::{Call, Reply};
+use casa_history::History;
+use casa_plan::board_of;
+use casa_view::{Board, Kept};
+use std::alloc::{AllocError, Global};
+
+impl<K: Kept> Run<Board<K>> {
+    /// The history: one of a single thread.
+    pub fn history(&self) -> &History<Call, Reply>
+        ensures same { entries result.now ≡ run_history self.now }
+        ensures sequential { IsSequential (entries result.now) }
+    {
+        let _board = board_of(&self.room);
+        self.room.history()
+    }
+
+    /// The board, as it stands after the history.
+    pub fn state(&self) -> &Board<K>
+        ensures same { result.now ≡ run_world self.now }
+        ensures stands { StandsAfter (run_history self.now) (⟦<Board<K> as World>⟧.state result.now) }
+    {
+        board_of(&self.room)
+    }
+
+    /// The outcome of the worker's last commit; `None` where it made none.
+    pub fn done_of(&self, worker: u32) -> Option<Outcome>
+        ensures { result ≡ run_outcomes self.now worker }
+    {
+        match self.desks.get(worker as usize) {
+            Some(desk) => desk.outcome,
+            None => None,
+        }
+    }
+}
+
+/// Plays the events, one after the other, from the empty board over this store. Workers are numbered from 0 to 1,023; an
+/// event of another worker, or out of its place, changes nothing. `AllocError` where there is no memory for an event.
+pub fn play<K: Kept>(
+    alloc: Global,
+    store: K,
+    events: &[Event<Call>],
+) -> Result<Run<Board<K>>, AllocError>
+    ensures run { IfOk result (λ run. IsRun sequential_reply HasSameStamps events.now (run_history run) (run_outcomes run)) }
+    ensures sequential { IfOk result (λ run. IsSequential (run_history run)) }
+    ensures stands { IfOk result (λ run. StandsAfter (run_history run) (⟦<Board<K> as World>⟧.state (run_world run))) }
+    ensures committed { IfOk result (λ run. AreCommitted sequential_reply HasSameStamps events.now (run_history run)) }
+    ensures accepted { IfOk result (λ run. AreAtTheirPositions (run_history run) (run_outcomes run)) }
+    ensures refused { IfOk result (λ run. RefusalsHaveCauses events.now (run_outcomes run)) }
+{
+    let board = Board::new(alloc, store)?;
+    let played = play_on(alloc, board, events)?;
+    Ok(played)
+}

@@ -1,0 +1,84 @@
+//! Events whose calls are command lines, and what comes of them, in lines.
+
+use casa_flight::{Call, Reply};
+use casa_history::{Entry, History, Receipt};
+use casa_view::Copies;
+use casa_wire::{read_call, reply_line};
+use casa_world::{Event, play};
+use std::alloc::Global;
+use std::process::Abort;
+
+/// The event whose call a command line is.
+fn called(rt: &impl Abort, alloc: Global, event: &Event<&str>) -> Event<Call> {
+    match event {
+        Event::Read(worker, line) => {
+            Event::Read(
+                *worker,
+                read_call(alloc, line.as_bytes()).expect(rt, "a command"),
+            )
+        }
+        Event::Compute(worker) => Event::Compute(*worker),
+        Event::Commit(worker) => Event::Commit(*worker),
+        Event::Abandon(worker) => Event::Abandon(*worker),
+    }
+}
+
+/// Writes the desk of an entry and the line of its reply.
+fn push_entry(
+    rt: &impl Abort,
+    alloc: Global,
+    told: &mut String,
+    position: usize,
+    entry: &Entry<Call, Reply>,
+) {
+    let entry = Entry {
+        desk: entry.desk,
+        call: entry.call.try_clone().expect(rt, "memory"),
+        reply: entry.reply.try_clone().expect(rt, "memory"),
+    };
+    let receipt = Receipt { position, entry };
+    let line = reply_line(alloc, &receipt).expect(rt, "memory");
+    let text = str::from_utf8(&line).expect(rt, "a text");
+    write!(told, "{} {text}", receipt.entry.desk).expect(rt, "memory");
+}
+
+/// Writes the entries of a history.
+fn push_history(rt: &impl Abort, alloc: Global, told: &mut String, history: &History<Call, Reply>) {
+    for position in 1..history.len() + 1 {
+        let entry = history.entry(position).expect(rt, "an entry");
+        push_entry(rt, alloc, told, position, entry);
+    }
+}
+
+/// Plays the events up to a worker's commit, and writes the outcome.
+fn push_outcome(
+    rt: &impl Abort,
+    alloc: Global,
+    told: &mut String,
+    events: &[Event<Call>],
+    worker: u32,
+) {
+    let run = play(alloc, Copies::new(), events).expect(rt, "memory");
+    writeln!(told, "{worker} {:?}", run.done_of(worker)).expect(rt, "memory");
+}
+
+/// Plays the events, and writes the clock and the history.
+fn push_end(rt: &impl Abort, alloc: Global, told: &mut String, events: &[Event<Call>]) {
+    let run = play(alloc, Copies::new(), events).expect(rt, "memory");
+    writeln!(told, "clock {}", run.state().clock().secs()).expect(rt, "memory");
+    push_history(rt, alloc, told, run.history());
+}
+
+/// These events come to this: after each commit the worker's outcome, and at the end the clock and the history.
+pub fn comes_to(rt: &impl Abort, alloc: Global, lines: &[Event<&str>], wanted: &str) {
+    let mut told = String::new(alloc);
+    let mut events = Vec::new(alloc);
+    for line in lines {
+        events.push(called(rt, alloc, line)).expect(rt, "memory");
+        if let Event::Commit(worker) = line {
+            push_outcome(rt, alloc, &mut told, events.as_slice(), *worker);
+        }
+    }
+    push_end(rt, alloc, &mut told, events.as_slice());
+    assert_eq!(rt; told.as_str(), wanted);
+}
