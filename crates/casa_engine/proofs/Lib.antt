@@ -1,0 +1,5 @@
+pub mod Delayed
+pub mod Listed
+pub mod Positions
+pub mod Standing
+pub mod Sums

@@ -1,0 +1,5 @@
+pub mod Delays
+pub mod Equality
+pub mod Ledgers
+pub mod Passes
+pub mod Receipts

@@ -1,0 +1,177 @@
+ghost use Rattle.std.specs.Prelude.{◌≡◌, ◌+◌, ◌<◌, ℕ, List, [], length, IfOk, IfErr, OnErr};
+ghost use Rattle.casa_flight.specs.declared.call.Call.{Call};
+ghost use Rattle.casa_flight.specs.declared.reply.Reply.{Reply};
+ghost use Rattle.casa_history.specs.declared.entry.Entry.{Entry};
+ghost use Rattle.casa_history.specs.Entries.{entries, receipts};
+ghost use Rattle.casa_history.specs.Settlement.{IsSettled};
+ghost use Rattle.casa_commit.specs.Answers.{TakesViews, OwesAnswers};
+ghost use Rattle.casa_commit.specs.Legal.{IsLegal};
+ghost use Rattle.casa_commit.specs.Passes.{SamePass};
+ghost use Rattle.casa_commit.specs.Prepared.{call_of, view_of};
+ghost use Rattle.casa_commit.specs.Rooms.{world_of, entries_of, open_desks};
+ghost use Rattle.casa_footprint.specs.Stamps.{state_after};
+ghost use Rattle.casa_plan.specs.Rooms.{IsSequential};
+ghost use Rattle.casa_engine.specs.Delays.{lists_in};
+ghost use Rattle.casa_engine.specs.Ledgers.{all_parts, IsBlankOf};
+ghost use Rattle.casa_engine.specs.Passes.{pass_of, passes_in, calls_in};
+ghost use Rattle.casa_engine.specs.Receipts.{Stands};
+
+use crate::lists::shared_lists;
+use crate::pass::CountedPass;
+use crate::shared::Shareable;
+use casa_commit::{CallFault, CommitFault, DeskFault, Prepared, Room, World, commit, locked};
+use casa_history::{History, Receipt, Settled, Torn, settle};
+use casa_list::SharedList;
+use casa_view::{Board, Kept};
+use std::alloc::{AllocError, Global};
+use std::sync::ledger::{Blank, Book, Ledger, Share};
+
+/// What the lock holds: the room, and the ledger in which its entries are counted.
+///
+/// Of the ledger's parts each open desk has one; the others are spare.
+#[derive(Drop)]
+pub(crate) struct CountedRoom<W: World, L: Ledger> {
+    room: Room<W>,
+    book: Book<L>,
+    spare: Share<L>,
+    ghost counted: { book.total ≡ length (entries_of room) },
+    ghost nothing: { spare.amount ≡ 0 },
+    ghost parts: { spare.parts + open_desks room ≡ all_parts },
+}
+
+impl<W: World, L: Ledger> CountedRoom<W, L> {
+    /// The room over a world in the opening state, with no desk and no entry.
+    pub(crate) fn new(alloc: Global, world: W, number: u32, blank: Blank) -> CountedRoom<W, L>
+        requires opening { W.state world ≡ W.opening }
+        requires ledger { IsBlankOf L.name L.parts blank.name blank.parts }
+    {
+        let (book, spare) = blank.open::<L>();
+        CountedRoom {
+            room: Room::new(alloc, world, number),
+            book,
+            spare,
+        }
+    }
+
+    /// The room.
+    pub(crate) fn room(&self) -> &Room<W>
+        ensures { result.now ≡ self.now.room }
+    {
+        &self.room
+    }
+
+    /// What a call reads, with the present versions, once what was kept apart for views that are gone is moved in.
+    /// `AllocError` where there is no memory for it.
+    pub(crate) fn view(&mut self, call: &W::Call) -> Result<W::View, AllocError>
+        ensures { IfOk result (λ view. W.is_for view call.now) }
+    {
+        self.room.consolidate()?;
+        self.room.world().view(call)
+    }
+
+    /// Opens the next desk and gives its pass.
+    pub(crate) fn open_desk(&mut self) -> Result<CountedPass<W, L>, DeskFault>
+        ensures { IfOk result (λ desk. receipts (pass_of desk) ≡ []) }
+    {
+        let pass = self.room.open_desk()?;
+        let share = self.spare.split_off(1, 0);
+        Ok(CountedPass { pass, share })
+    }
+
+    /// Accepts a prepared answer, and counts it.
+    pub(crate) fn commit(
+        &mut self,
+        desk: &mut CountedPass<W, L>,
+        prepared: Prepared<W>,
+    ) -> Result<Receipt<W::Call, W::Reply>, (CommitFault, Prepared<W>)>
+        requires { W.is_of (view_of prepared) (world_of self.old.room) }
+        ensures stands { IfOk result (λ r. Stands W.World (pass_of desk.old) (call_of prepared) r (pass_of desk.new)) }
+        ensures same_pass { OnErr result (SamePass (pass_of desk.old) (pass_of desk.new)) }
+    {
+        let CountedRoom {
+            room,
+            book,
+            spare: _,
+        } = self;
+        let CountedPass { pass, share } = desk;
+        let receipt = commit(room, pass, prepared)?;
+        book.add(share, 1);
+        Ok(receipt)
+    }
+
+    /// Answers a call in one section, and counts it.
+    pub(crate) fn locked<F: Fn(&W::View, &W::Call) -> Result<(W::Reply, W::Change), AllocError>>(
+        &mut self,
+        desk: &mut CountedPass<W, L>,
+        call: &W::Call,
+        plan: &F,
+    ) -> Result<Receipt<W::Call, W::Reply>, CallFault>
+        requires callable { TakesViews W.World (F.pre plan.now) }
+        requires owes { OwesAnswers W.World (F.post plan.now) }
+        ensures stands { IfOk result (λ r. Stands W.World (pass_of desk.old) call.now r (pass_of desk.new)) }
+        ensures same_pass { OnErr result (SamePass (pass_of desk.old) (pass_of desk.new)) }
+    {
+        let CountedRoom {
+            room,
+            book,
+            spare: _,
+        } = self;
+        let CountedPass { pass, share } = desk;
+        let receipt = locked::<W, F>(room, pass, call, plan)?;
+        book.add(share, 1);
+        Ok(receipt)
+    }
+}
+
+impl<K: Kept, L: Ledger> CountedRoom<Board<K>, L> {
+    /// The lists of all open regulations, shared, as a history of one thread leads to them.
+    pub(crate) fn lists(&self, alloc: Global) -> Result<Vec<SharedList>, AllocError>
+        ensures { IfOk result (λ lists. (history : List (Entry Call Reply)) × IsSequential history
+            × (lists.items ≡ lists_in (state_after history))) }
+    {
+        shared_lists(alloc, &self.room)
+    }
+}
+
+impl<W: Shareable + Drop, L: Ledger> CountedRoom<W, L> {
+    /// The history, how many desks were opened, and whether these passes and the history tell the same story.
+    pub(crate) fn close(
+        self,
+        passes: Vec<CountedPass<W, L>>,
+    ) -> (History<W::Call, W::Reply>, u32, Result<Settled, Torn>)
+        requires parts { L.parts ≡ all_parts }
+        ensures legal { IsLegal W.after W.reply W.opening (entries result.0) }
+        ensures settled { IfOk result.2 (λ s. (d : ℕ) → IsSettled d (entries result.0) (passes_in passes.items)) }
+        ensures counts { IfOk result.2 (λ s. (s.desks ≡ length passes.items) × (s.entries ≡ length (entries result.0))) }
+        ensures torn { IfErr result.2 (λ t. ¬ (IsSettled t.0 (entries result.0) (passes_in passes.items))) }
+        ensures least { IfErr result.2 (λ t. (d : ℕ) → d < t.0 →
+            IsSettled d (entries result.0) (passes_in passes.items)) }
+        ensures all_calls { length passes.items ≡ result.1 →
+            calls_in passes.items ≡ length (entries result.0) }
+    {
+        let CountedRoom {
+            room,
+            mut book,
+            spare,
+        } = self;
+        let desks = room.desks();
+        let history = room.into_history();
+        let settled = settle(&history, passes.as_slice());
+        let mut all = gathered(spare, passes);
+        book.audit(&mut all);
+        (history, desks, settled)
+    }
+}
+
+/// The share with those of all these passes.
+fn gathered<W: World, L: Ledger>(spare: Share<L>, passes: Vec<CountedPass<W, L>>) -> Share<L>
+    ensures parts { result.parts ≡ spare.parts + length passes.items }
+    ensures amount { result.amount ≡ spare.amount + calls_in passes.items }
+{
+    let mut all = spare;
+    for desk in passes {
+        let CountedPass { pass: _, share } = desk;
+        all.merge(share);
+    }
+    all
+}

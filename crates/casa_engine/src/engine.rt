@@ -1,0 +1,68 @@
+//! Engines: shared rooms of boards.
+
+ghost use Rattle.std.specs.Prelude.{List, IfOk};
+ghost use Rattle.casa_flight.specs.declared.call.Call.{Call};
+ghost use Rattle.casa_flight.specs.declared.reply.Reply.{Reply};
+ghost use Rattle.casa_history.specs.declared.entry.Entry.{Entry};
+ghost use Rattle.casa_footprint.specs.Stamps.{state_after};
+ghost use Rattle.casa_plan.specs.Rooms.{IsSequential};
+ghost use Rattle.casa_engine.specs.Delays.{lists_in, IsAuditOf};
+ghost use Rattle.casa_engine.specs.Equality.{call_equality, reply_equality};
+ghost use Rattle.casa_engine.specs.Ledgers.{IsBlankOf};
+
+use crate::audit::{Audit, audit_shared};
+use crate::desk::SharedDesk;
+use crate::gate::Gate;
+use crate::pass::CountedPass;
+use crate::shared::{Shareable, SharedRoom};
+use casa_view::{Board, Copies};
+use std::alloc::{AllocError, Global};
+use std::sync::Wait;
+use std::sync::ledger::{Blank, Ledger};
+use std::thread::Threads;
+
+/// A room of a board, shared by the desks of many threads. L names its ledger, and G is its gate.
+pub type Engine<L, G> = SharedRoom<Board<Copies>, L, G>;
+
+/// The pass of an engine's desk.
+pub type DeskPass<L> = CountedPass<Board<Copies>, L>;
+
+/// A desk of an engine, which answers by its pass.
+pub type EngineDesk<'a, L, G, R> = SharedDesk<'a, Board<Copies>, L, G, R>;
+
+impl Shareable for Board<Copies> {
+    ghost one_world = { λ v w. tt };
+
+    ghost equal_calls = { call_equality };
+
+    ghost equal_replies = { reply_equality };
+}
+
+impl<L: Ledger, G: Gate<Board<Copies>> + Drop> SharedRoom<Board<Copies>, L, G> {
+    /// The engine with this number over an empty board; no desk is open. `AllocError` where there is no memory for it.
+    pub fn new(
+        alloc: Global,
+        blank: Blank,
+        number: u32,
+        gate: G,
+    ) -> Result<Engine<L, G>, AllocError>
+        requires { IsBlankOf L.name L.parts blank.name blank.parts }
+    {
+        let board = Board::new(alloc, Copies::new())?;
+        Ok(SharedRoom::over(alloc, board, blank, number, gate))
+    }
+
+    /// How many regulations are open, and the sum of the delays of the flights that they govern. `AllocError` where there
+    /// is no memory for it.
+    ///
+    /// The lists are shared under the lock and their delays added without it, by several threads.
+    pub fn audit<R: Threads + Wait + Sync>(&self, rt: &R) -> Result<Audit, AllocError>
+        ensures { IfOk result (λ audit. (history : List (Entry Call Reply)) × IsSequential history
+            × IsAuditOf (lists_in (state_after history)) audit) }
+    {
+        let alloc = self.alloc;
+        let shared = self.room.lock(rt).lists(alloc);
+        let lists = shared?;
+        audit_shared(rt, alloc, lists.as_slice())
+    }
+}

@@ -1,0 +1,22 @@
+//! Desks in threads: a room of a board behind a lock, and the passes of the desks that make calls there.
+//!
+//! What the lock holds is a history with its board, as casa_commit keeps it. Answers are worked out outside the lock, on a
+//! view; inside it they are accepted or refused. No receipt is had without an entry: that is counted.
+#![tactic(auto)]
+
+mod audit;
+mod counted;
+mod desk;
+mod engine;
+mod gate;
+mod laws;
+mod lists;
+mod parts;
+mod pass;
+mod shared;
+
+pub use audit::{Audit, audit_lists};
+pub use engine::{DeskPass, Engine, EngineDesk};
+pub use gate::{Direct, Gate};
+pub use laws::legal_histories_are_sequential;
+pub use parts::blank;

@@ -1,0 +1,179 @@
+ghost use Rattle.std.specs.Prelude.{◌≡◌, ◌<◌, ◌↔◌, ℕ, true, [], length, IfOk, IfErr, OnErr};
+ghost use Rattle.casa_history.specs.Entries.{entries, receipts};
+ghost use Rattle.casa_history.specs.Settlement.{IsSettled};
+ghost use Rattle.casa_commit.specs.Answers.{IsAnswer};
+ghost use Rattle.casa_commit.specs.Legal.{IsLegal};
+ghost use Rattle.casa_commit.specs.Passes.{SamePass};
+ghost use Rattle.casa_engine.specs.Ledgers.{IsBlankOf};
+ghost use Rattle.casa_engine.specs.Passes.{pass_of, passes_in, calls_in};
+ghost use Rattle.casa_engine.specs.Receipts.{Stands};
+
+use crate::counted::CountedRoom;
+use crate::gate::Gate;
+use crate::parts::AllParts;
+use crate::pass::CountedPass;
+use casa_commit::{CallFault, CommitFault, DeskFault, prepare};
+use casa_history::{History, Receipt, Settled, Torn};
+use casa_plan::Planned;
+use std::alloc::{AllocError, Global};
+use std::sync::ledger::{Blank, Ledger};
+use std::sync::{Mutex, Wait};
+
+/// How often a call's answer is worked out outside the lock before it is worked out under it.
+const TRIES: u32 = 3;
+
+/// A world that desks in many threads may share: its calls are planned, and each of its views is of the one world that
+/// there is.
+///
+/// Where there are several worlds of one kind, its type names the one, and so do those of its views.
+pub trait Shareable: Planned<Call: PartialEq, Reply: PartialEq> {
+    /// Each view is of each world of this type.
+    ghost one_world: { (v : Self.View) (w : Self) → Self.is_of v w };
+
+    /// `==` of calls and of replies is equality.
+    ghost equal_calls: { (x y : Self.Call) → Self.Call.eq x y ≡ true ↔ x ≡ y };
+
+    ghost equal_replies: { (x y : Self.Reply) → Self.Reply.eq x y ≡ true ↔ x ≡ y };
+}
+
+/// A room behind a lock, for the desks of many threads.
+#[derive(Drop)]
+pub struct SharedRoom<W: Shareable, L: Ledger, G> {
+    pub(crate) room: Mutex<CountedRoom<W, L>>,
+    gate: G,
+    pub(crate) alloc: Global,
+    parts: AllParts<L>,
+}
+
+impl<W: Shareable, L: Ledger, G: Gate<W>> SharedRoom<W, L, G> {
+    /// The room with this number over a world in the opening state; no desk is open.
+    pub(crate) fn over(
+        alloc: Global,
+        world: W,
+        blank: Blank,
+        number: u32,
+        gate: G,
+    ) -> SharedRoom<W, L, G>
+        requires opening { W.state world ≡ W.opening }
+        requires ledger { IsBlankOf L.name L.parts blank.name blank.parts }
+    {
+        SharedRoom {
+            room: Mutex::new(CountedRoom::new(alloc, world, number, blank)),
+            gate,
+            alloc,
+            parts: AllParts::new(),
+        }
+    }
+
+    /// Opens the next desk and gives its pass, which has no receipt; `TooManyDesks` where 1,024 are open, else `NoMemory`
+    /// where there is no memory for it.
+    pub fn desk<R: Wait>(&self, rt: &R) -> Result<CountedPass<W, L>, DeskFault>
+        ensures { IfOk result (λ desk. receipts (pass_of desk) ≡ []) }
+    {
+        self.room.lock(rt).open_desk()
+    }
+
+    /// Answers a call and gives its receipt.
+    ///
+    /// A view is taken under the lock, the answer is worked out by the gate with the lock free, and accepted under it.
+    /// Where it is stale this is done again; after the third time all of it is done in one section, without the gate.
+    /// `NoMemory` or `ForeignPass` of a try is answered at once, and the pass is then as it was: `ForeignPass` where the
+    /// pass is not this room's, `NoMemory` where memory was refused.
+    pub fn call<R: Wait>(
+        &self,
+        rt: &R,
+        desk: &mut CountedPass<W, L>,
+        call: &W::Call,
+    ) -> Result<Receipt<W::Call, W::Reply>, CallFault>
+        ensures stands { IfOk result (λ r. Stands W.World (pass_of desk.old) call.now r (pass_of desk.new)) }
+        ensures same_pass { OnErr result (SamePass (pass_of desk.old) (pass_of desk.new)) }
+    {
+        for turn in 0..TRIES {
+            match self.attempt(rt, desk, call, turn) {
+                Ok(receipt) => return Ok(receipt),
+                Err(CommitFault::Stale) => {}
+                Err(CommitFault::ForeignPass) => return Err(CallFault::ForeignPass),
+                Err(CommitFault::NoMemory) => return Err(CallFault::NoMemory),
+            }
+        }
+        self.in_one_section(rt, desk, call)
+    }
+
+    /// One try of a call: takes a view under the lock, works the answer out by the gate, and hands it in.
+    fn attempt<R: Wait>(
+        &self,
+        rt: &R,
+        desk: &mut CountedPass<W, L>,
+        call: &W::Call,
+        turn: u32,
+    ) -> Result<Receipt<W::Call, W::Reply>, CommitFault>
+        ensures stands { IfOk result (λ r. Stands W.World (pass_of desk.old) call.now r (pass_of desk.new)) }
+        ensures same_pass { OnErr result (SamePass (pass_of desk.old) (pass_of desk.new)) }
+    {
+        let Ok(copy) = W::copy_call(call) else {
+            return Err(CommitFault::NoMemory);
+        };
+        let seen = self.room.lock(rt).view(call);
+        let Ok(view) = seen else {
+            return Err(CommitFault::NoMemory);
+        };
+        let number = desk.pass.desk();
+        let alloc = self.alloc;
+        let gate = &self.gate;
+        let plan = |view: &W::View, call: &W::Call| -> Result<(W::Reply, W::Change), AllocError>
+            requires { W.is_for view.now call.now }
+            ensures { IfOk result (λ answer. IsAnswer W.World view.now call.now answer.0 answer.1) }
+        { gate.plan(alloc, number, turn, view, call) };
+        let Ok(prepared) = prepare::<W, _>(view, copy, &plan) else {
+            return Err(CommitFault::NoMemory);
+        };
+        // The lock is free again before a stale answer is dropped.
+        let committed = self.room.lock(rt).commit(desk, prepared);
+        committed.map_err(|(fault, _)| fault)
+    }
+
+    /// Answers a call under the lock, so that nothing can come in between.
+    fn in_one_section<R: Wait>(
+        &self,
+        rt: &R,
+        desk: &mut CountedPass<W, L>,
+        call: &W::Call,
+    ) -> Result<Receipt<W::Call, W::Reply>, CallFault>
+        ensures stands { IfOk result (λ r. Stands W.World (pass_of desk.old) call.now r (pass_of desk.new)) }
+        ensures same_pass { OnErr result (SamePass (pass_of desk.old) (pass_of desk.new)) }
+    {
+        let alloc = self.alloc;
+        let plan = |view: &W::View, call: &W::Call| -> Result<(W::Reply, W::Change), AllocError>
+            requires { W.is_for view.now call.now }
+            ensures { IfOk result (λ answer. IsAnswer W.World view.now call.now answer.0 answer.1) }
+        { W::plan(alloc, view, call) };
+        self.room.lock(rt).locked(desk, call, &plan)
+    }
+}
+
+impl<W: Shareable + Drop, L: Ledger, G: Drop> SharedRoom<W, L, G> {
+    /// Ends the room. Gives the history, which is legal, how many desks were opened, and whether these passes tell the
+    /// same story.
+    pub fn close(
+        self,
+        passes: Vec<CountedPass<W, L>>,
+    ) -> (History<W::Call, W::Reply>, u32, Result<Settled, Torn>)
+        ensures legal { IsLegal W.after W.reply W.opening (entries result.0) }
+        ensures settled { IfOk result.2 (λ s. (d : ℕ) → IsSettled d (entries result.0) (passes_in passes.items)) }
+        ensures counts { IfOk result.2 (λ s. (s.desks ≡ length passes.items) × (s.entries ≡ length (entries result.0))) }
+        ensures torn { IfErr result.2 (λ t. ¬ (IsSettled t.0 (entries result.0) (passes_in passes.items))) }
+        ensures least { IfErr result.2 (λ t. (d : ℕ) → d < t.0 →
+            IsSettled d (entries result.0) (passes_in passes.items)) }
+        ensures all_calls { length passes.items ≡ result.1 →
+            calls_in passes.items ≡ length (entries result.0) }
+    {
+        let SharedRoom {
+            room,
+            gate: _,
+            alloc: _,
+            parts,
+        } = self;
+        parts.tell();
+        room.into_inner().close(passes)
+    }
+}
