@@ -1,0 +1,24 @@
+ghost use Rattle.std.specs.Prelude.{◌≡◌, ◌∷◌, [], ◌++◌, Err, IfOk, OnErr};
+ghost use Rattle.casa_session.specs.Transcript.{Receipts};
+
+use casa_commit::CallFault;
+use casa_flight::{Call, Reply};
+use casa_history::Receipt;
+use std::alloc::Global;
+
+/// Answers calls, one at a time.
+pub trait Desk {
+    // The receipts so far.
+    ghost answered: { Self → Receipts };
+
+    // Desks of this type may be another allocator's.
+    ghost may_be_foreign: { Type 0 };
+
+    /// The receipt of the call. After a fault the desk has answered nothing more; `ForeignPass` only comes of a
+    /// desk that may be foreign.
+    fn answer(&mut self, alloc: Global, call: &Call) -> Result<Receipt<Call, Reply>, CallFault>
+        ensures ok { IfOk result (λ receipt. answered self.new ≡ answered self.old ++ receipt ∷ []) }
+        ensures called { IfOk result (λ receipt. receipt.entry.call ≡ call.now) }
+        ensures err { OnErr result (answered self.new ≡ answered self.old) }
+        ensures foreign { result ≡ Err CallFault.ForeignPass → may_be_foreign };
+}

@@ -1,0 +1,93 @@
+//! A desk that is alone on a board.
+
+ghost use Rattle.std.specs.Prelude.{◌≡◌, ◌≢◌, ◌∷◌, [], ◌++◌, Err, IfOk, OnErr};
+ghost use Rattle.casa_session.specs.Alone.{LoneEnds};
+ghost use Rattle.casa_session.specs.Played.{receipts_played};
+
+use crate::desk::Desk;
+use crate::fault::SessionFault;
+use crate::session::run;
+use casa_commit::{CallFault, Room};
+use casa_flight::{Call, Reply};
+use casa_history::{Pass, Receipt};
+use casa_plan::answer;
+use casa_view::{Board, Copies};
+use std::alloc::{AllocError, Global};
+use std::io::{Read, Write};
+use std::marker::Model;
+
+/// The number of the room. There is no other from which it would have to be told.
+const ROOM: u32 = 0;
+
+/// A desk that is alone on a board, so that each call is answered as the sequential allocator does after the calls
+/// before it.
+///
+/// Contracts see it as the calls that it has answered.
+#[derive(Drop)]
+pub struct Lone {
+    room: Room<Board<Copies>>,
+    pass: Pass<Call, Reply>,
+}
+
+impl Model for Lone {
+    ghost use Rattle.std.specs.Prelude.{List};
+    ghost use Rattle.casa_flight.specs.declared.call.Call.{Call};
+    ghost use Rattle.casa_commit.specs.Rooms.{entries_of};
+    ghost use Rattle.casa_session.specs.Alone.{IsAlone};
+    ghost use Rattle.casa_session.specs.Played.{calls_in};
+
+    ghost Value = { List Call };
+
+    ghost view = { λ l. calls_in (entries_of l.room) };
+
+    ghost invariant = { λ l. IsAlone l.room l.pass };
+}
+
+impl Lone {
+    /// A desk on an empty board, with the clock at midnight. `AllocError` where there is no memory for it.
+    pub fn new(alloc: Global) -> Result<Lone, AllocError>
+        ensures { IfOk result (λ lone. lone ≡ []) }
+    {
+        let mut room = Room::new(alloc, Board::new(alloc, Copies::new())?, ROOM);
+        match room.open_desk() {
+            Ok(pass) => Ok(Lone { room, pass }),
+            Err(_) => Err(AllocError),
+        }
+    }
+
+    /// Answers each line of the reader at the writer, and says how many there were.
+    ///
+    /// Replies are gathered and written together, but none waits for input. The session ends at its first fault,
+    /// which is never `ForeignPass`.
+    pub fn run<R: Read, W: Write>(
+        &mut self,
+        alloc: Global,
+        reader: &mut R,
+        writer: &mut W,
+    ) -> Result<u64, SessionFault>
+        ensures { LoneEnds self.old result (R.remaining reader.old) (R.remaining reader.new)
+            (W.contents writer.old) (W.contents writer.new) }
+    {
+        run(alloc, reader, writer, self)
+    }
+
+    /// The receipt of the call; where memory is refused, nothing was answered.
+    fn receipt(&mut self, alloc: Global, call: &Call) -> Result<Receipt<Call, Reply>, CallFault>
+        ensures ok { IfOk result (λ receipt. receipts_played self.new ≡ receipts_played self.old ++ receipt ∷ []) }
+        ensures called { IfOk result (λ receipt. receipt.entry.call ≡ call.now) }
+        ensures err { OnErr result (self.new ≡ self.old) }
+        ensures foreign { result ≢ Err CallFault.ForeignPass }
+    {
+        answer(alloc, &mut self.room, &mut self.pass, call)
+    }
+}
+
+impl Desk for Lone {
+    ghost answered = { λ calls. receipts_played calls };
+
+    ghost may_be_foreign = { ⊥ };
+
+    fn answer(&mut self, alloc: Global, call: &Call) -> Result<Receipt<Call, Reply>, CallFault> {
+        self.receipt(alloc, call)
+    }
+}

@@ -1,0 +1,138 @@
+//! Gathers replies, and writes many at once.
+
+ghost use Rattle.std.specs.Prelude.{◌≡◌, ℕ, ◌+◌, ◌<◌, ◌^◌, [], ◌++◌, List, length, OnOk, OnErr, IfErr};
+ghost use Rattle.std.specs.Io.KnownBytes.{Appends};
+ghost use Rattle.casa_output.specs.Sending.{counted};
+ghost use Rattle.casa_wire.specs.Commands.{line_call};
+
+use crate::desk::Desk;
+use crate::fault::SessionFault;
+use casa_commit::CallFault;
+use casa_output::send;
+use casa_wire::{WireFault, push_fault, push_reply, read_call, too_long_line};
+use std::alloc::Global;
+use std::io::Write;
+
+/// So many bytes of replies are written at once, where the next read comes later.
+const MANY: usize = 65_536;
+
+/// The replies that were made and not yet written, and how many bytes the writer has taken.
+#[derive(Drop)]
+pub struct Replies {
+    bytes: Vec<u8>,
+    written: u64,
+    ghost in_range: { written < 2 ^ 64 },
+}
+
+impl Replies {
+    ghost use Rattle.casa_session.specs.Replies.{Answers, EndsBy, Fails, IsRefused, IsUnwritten, MayReply, Replied, TooLongEnds};
+
+    /// None, and nothing written.
+    pub fn new(alloc: Global) -> Replies
+        ensures none { result.bytes.items ≡ [] }
+        ensures written { result.written ≡ 0 }
+    {
+        Replies {
+            bytes: Vec::new(alloc),
+            written: 0,
+        }
+    }
+
+    /// Answers a line, and writes what was gathered where that is much.
+    ///
+    /// Where the line has no reply, what was gathered before it is written first.
+    pub fn answer<W: Write, D: Desk>(
+        &mut self,
+        alloc: Global,
+        line: &[u8],
+        desk: &mut D,
+        writer: &mut W,
+    ) -> Result<(), SessionFault>
+        ensures ok { OnOk result (Answers (line_call line.now) (D.answered desk.old) (D.answered desk.new)
+            self.old self.new (W.contents writer.old) (W.contents writer.new)) }
+        ensures err { IfErr result (λ fault. Fails D.may_be_foreign fault (line_call line.now)
+            (D.answered desk.old) (D.answered desk.new) self.old (W.contents writer.old) (W.contents writer.new)) }
+    {
+        if let Err(fault) = self.gather(alloc, line, desk) {
+            return Err(self.end(writer, fault));
+        }
+        if self.bytes.len() >= MANY {
+            return self.write(writer);
+        }
+        Ok(())
+    }
+
+    /// Makes the reply to a line.
+    fn gather<D: Desk>(
+        &mut self,
+        alloc: Global,
+        line: &[u8],
+        desk: &mut D,
+    ) -> Result<(), SessionFault>
+        ensures ok { OnOk result ((text : List ℕ) ×
+            Replied (D.answered desk.old) (D.answered desk.new) (line_call line.now) text ×
+            (self.new.bytes.items ≡ self.old.bytes.items ++ text)) }
+        ensures err { OnErr result ((text : List ℕ) ×
+            MayReply (D.answered desk.old) (D.answered desk.new) (line_call line.now) text) }
+        ensures kept { OnErr result (self.new.bytes.items ≡ self.old.bytes.items) }
+        ensures written { self.new.written ≡ self.old.written }
+        ensures refused { IfErr result (IsRefused D.may_be_foreign) }
+    {
+        match read_call(alloc, line) {
+            Ok(call) => match desk.answer(alloc, &call) {
+                Ok(receipt) => match push_reply(&mut self.bytes, &receipt) {
+                    Ok(()) => Ok(()),
+                    Err(_) => Err(SessionFault::NoMemory),
+                },
+                Err(CallFault::ForeignPass) => Err(SessionFault::ForeignPass),
+                Err(CallFault::NoMemory) => Err(SessionFault::NoMemory),
+            },
+            Err(WireFault::NoMemory) => Err(SessionFault::NoMemory),
+            Err(fault) => match push_fault(&mut self.bytes, fault) {
+                Ok(()) => Ok(()),
+                Err(_) => Err(SessionFault::NoMemory),
+            },
+        }
+    }
+
+    /// Writes what was gathered.
+    pub fn write<W: Write>(&mut self, writer: &mut W) -> Result<(), SessionFault>
+        ensures ok { OnOk result (Appends (W.contents writer.old) (W.contents writer.new) self.old.bytes.items) }
+        ensures none { OnOk result (self.new.bytes.items ≡ []) }
+        ensures count { OnOk result (self.new.written ≡ counted (self.old.written + length self.old.bytes.items)) }
+        ensures err { IfErr result (λ fault.
+            IsUnwritten fault self.old (W.contents writer.old) (W.contents writer.new)) }
+    {
+        match send(writer, &self.bytes, self.written) {
+            Ok(written) => {
+                self.bytes.clear();
+                self.written = written;
+                Ok(())
+            }
+            Err(unsent) => Err(SessionFault::WriteFailed(unsent.written)),
+        }
+    }
+
+    /// Writes what was gathered, at a fault. The fault of the session: this one, or that a write failed before it.
+    pub fn end<W: Write>(&mut self, writer: &mut W, fault: SessionFault) -> SessionFault
+        ensures { EndsBy result fault self.old (W.contents writer.old) (W.contents writer.new) }
+    {
+        match self.write(writer) {
+            Ok(()) => fault,
+            Err(unwritten) => unwritten,
+        }
+    }
+
+    /// Writes what was gathered and the text for a line that is too long. The fault of the session.
+    pub fn end_too_long<W: Write>(&mut self, writer: &mut W) -> SessionFault
+        ensures { TooLongEnds result self.old (W.contents writer.old) (W.contents writer.new) }
+    {
+        if let Err(unwritten) = self.write(writer) {
+            return unwritten;
+        }
+        match send(writer, too_long_line(), self.written) {
+            Ok(_) => SessionFault::LineTooLong,
+            Err(unsent) => SessionFault::WriteFailed(unsent.written),
+        }
+    }
+}

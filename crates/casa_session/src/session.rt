@@ -1,0 +1,57 @@
+//! Answers the lines of an input, one after the other.
+
+ghost use Rattle.casa_session.specs.Transcript.{Ends};
+
+use crate::desk::Desk;
+use crate::fault::SessionFault;
+use crate::lines::{Chunk, LineFault, LineReader};
+use crate::replies::Replies;
+use std::alloc::Global;
+use std::io::{Read, Write};
+
+/// Answers each line of the reader at the writer, and says how many there were.
+///
+/// Replies are gathered and written together, but none waits for input: before each read all are written. A
+/// session ends at its first fault: what it had answered by then is written and stands; so may a call whose reply
+/// could not be made or written.
+pub fn run<R: Read, W: Write, D: Desk>(
+    alloc: Global,
+    reader: &mut R,
+    writer: &mut W,
+    desk: &mut D,
+) -> Result<u64, SessionFault>
+    ensures { Ends D.may_be_foreign result
+        (R.remaining reader.old) (R.remaining reader.new) (D.answered desk.old) (D.answered desk.new)
+        (W.contents writer.old) (W.contents writer.new) }
+{
+    let mut lines = LineReader::new();
+    let mut line = Vec::new(alloc);
+    let mut replies = Replies::new(alloc);
+    let mut count = 0;
+    'lines: loop {
+        match lines.take_part(&mut line) {
+            Ok(true) => {
+                replies.answer(alloc, &line, desk, writer)?;
+                line.clear();
+                count += 1;
+            }
+            Ok(false) => {
+                replies.write(writer)?;
+                match lines.read(reader) {
+                    Chunk::More => {}
+                    Chunk::End => {
+                        if line.is_empty() {
+                            return Ok(count);
+                        }
+                        replies.answer(alloc, &line, desk, writer)?;
+                        replies.write(writer)?;
+                        return Ok(count + 1);
+                    }
+                    Chunk::Failed => return Err(SessionFault::ReadFailed),
+                }
+            }
+            Err(LineFault::LineTooLong) => return Err(replies.end_too_long(writer)),
+            Err(LineFault::NoMemory) => return Err(replies.end(writer, SessionFault::NoMemory)),
+        }
+    }
+}

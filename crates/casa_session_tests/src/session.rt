@@ -1,0 +1,270 @@
+//! Sessions over a desk that refuses all calls.
+
+ghost use Rattle.std.specs.Prelude.{◌≡◌, IfOk};
+ghost use Rattle.casa_history.specs.Entries.{receipt};
+ghost use Rattle.casa_commit.specs.Legal.{entry};
+
+use casa_commit::CallFault;
+use casa_flight::{Call, Refusal, Reply};
+use casa_history::{Entry, Receipt};
+use casa_session::{Desk, SessionFault, run};
+use std::alloc::{AllocError, Global};
+use std::cell::Cell;
+use std::io;
+use std::io::{ErrorKind, Read, Write};
+use std::test::Fail;
+
+/// A desk that refuses all calls.
+#[derive(Drop)]
+struct Refusing {
+    receipts: Vec<Receipt<Call, Reply>>,
+}
+
+fn refused(call: &Call, position: usize) -> Result<Receipt<Call, Reply>, AllocError>
+    ensures { IfOk result (λ r. r ≡ receipt position (entry 0 call.now (Reply.Refused Refusal.Late))) }
+{
+    let entry = Entry {
+        desk: 0,
+        call: call.try_clone()?,
+        reply: Reply::Refused(Refusal::Late),
+    };
+    Ok(Receipt { position, entry })
+}
+
+impl Desk for Refusing {
+    ghost answered = { λ desk. desk.receipts.items };
+
+    ghost may_be_foreign = { ⊥ };
+
+    fn answer(&mut self, alloc: Global, call: &Call) -> Result<Receipt<Call, Reply>, CallFault> {
+        let _ = alloc;
+        let position = self.receipts.len().saturating_add(1);
+        let (Ok(kept), Ok(given)) = (refused(call, position), refused(call, position)) else {
+            return Err(CallFault::NoMemory);
+        };
+        match self.receipts.push(kept) {
+            Ok(()) => Ok(given),
+            Err(_) => Err(CallFault::NoMemory),
+        }
+    }
+}
+
+const INPUT: &[u8] =
+    b"{\"cmd\":\"tick\",\"at\":5}\n\n{\"cmd\":\"fly\"}\n{\"cmd\":\"tick\",\"at\":7}";
+
+const OUTPUT: &[u8] =
+    b"{\"code\":3,\"n\":1,\"refused\":\"Late\"}\n{\"fault\":\"NotJson\"}\n{\"fault\":\"NoCommand\"}\n{\"code\":3,\"n\":2,\"refused\":\"Late\"}\n";
+
+#[test]
+fn a_session_answers_each_line(rt: HostRuntime) {
+    let mut desk = Refusing {
+        receipts: Vec::new(rt.alloc()),
+    };
+    let mut input = INPUT;
+    let mut output = Vec::new(rt.alloc());
+    let ended = run(rt.alloc(), &mut input, &mut output, &mut desk);
+    assert!(rt; ended == Ok(4) && output.as_slice() == OUTPUT && desk.receipts.len() == 2);
+}
+
+/// Run also with each allocation refused in turn: the session then ends after whole replies, without memory
+/// or, where it is the output that can't grow, with a failed write.
+#[test]
+fn a_refused_growth_ends_a_session(rt: HostRuntime) {
+    let mut desk = Refusing {
+        receipts: Vec::new(rt.alloc()),
+    };
+    let mut input = INPUT;
+    let mut output = Vec::new(rt.alloc());
+    let ended = run(rt.alloc(), &mut input, &mut output, &mut desk);
+    let (is_whole, length) = (ended == Ok(4), output.len() as u64);
+    assert!(rt;
+        is_whole
+            || ended == Err(SessionFault::NoMemory)
+            || ended == Err(SessionFault::WriteFailed(length))
+    );
+    assert!(rt; OUTPUT.starts_with(&output) && is_whole == (output.len() == OUTPUT.len()));
+    assert!(rt; output.is_empty() || output.ends_with(b"\n"));
+}
+
+/// Gives one byte at a time, interrupted before each, and fails at its last call.
+#[derive(Drop)]
+struct Slow<'a> {
+    rest: &'a [u8],
+    calls: u32,
+}
+
+impl Read for Slow<'_> {
+    fn read(&mut self, buf: &mut [u8]) -> io::Result<usize> {
+        if self.calls == 0 {
+            return Err(io::Error::from(ErrorKind::Other));
+        }
+        self.calls -= 1;
+        if self.calls % 2 == 1 {
+            return Err(io::Error::from(ErrorKind::Interrupted));
+        }
+        let count = self.rest.len().min(buf.len()).min(1);
+        buf[..count].copy_from_slice(&self.rest[..count]);
+        self.rest = &self.rest[count..];
+        Ok(count)
+    }
+}
+
+#[test]
+fn a_reader_may_be_slow_and_fail(rt: HostRuntime) {
+    for (calls, ended) in [(1000, Ok(4)), (100, Err(SessionFault::ReadFailed))] {
+        let mut desk = Refusing {
+            receipts: Vec::new(rt.alloc()),
+        };
+        let mut slow = Slow { rest: INPUT, calls };
+        let mut output = Vec::new(rt.alloc());
+        assert!(rt; run(rt.alloc(), &mut slow, &mut output, &mut desk) == ended);
+        assert!(rt; OUTPUT.starts_with(&output));
+    }
+}
+
+/// Takes three bytes at a time, interrupted before each, and in all as many as it has room for.
+#[derive(Drop)]
+struct Narrow {
+    room: usize,
+    is_interrupted: bool,
+}
+
+impl Write for Narrow {
+    fn write(&mut self, buf: &[u8]) -> io::Result<usize> {
+        self.is_interrupted = !self.is_interrupted;
+        if self.is_interrupted {
+            return Err(io::Error::from(ErrorKind::Interrupted));
+        }
+        let count = buf.len().min(self.room).min(3);
+        self.room -= count;
+        Ok(count)
+    }
+
+    fn flush(&mut self) -> io::Result<()> {
+        Ok(())
+    }
+}
+
+#[test]
+fn a_writer_may_take_no_more(rt: HostRuntime) {
+    for (room, ended) in [(1000, Ok(4)), (40, Err(SessionFault::WriteFailed(40)))] {
+        let mut desk = Refusing {
+            receipts: Vec::new(rt.alloc()),
+        };
+        let mut input = INPUT;
+        let mut narrow = Narrow {
+            room,
+            is_interrupted: false,
+        };
+        assert!(rt; run(rt.alloc(), &mut input, &mut narrow, &mut desk) == ended);
+    }
+}
+
+/// Gives a line a time, and fails where one of the lines before has no reply yet.
+#[derive(Drop)]
+struct Waiting<'a> {
+    rest: &'a [u8],
+    given: usize,
+    replies: &'a Cell<usize>,
+}
+
+impl Read for Waiting<'_> {
+    fn read(&mut self, buf: &mut [u8]) -> io::Result<usize> {
+        if self.replies.get() != self.given {
+            return Err(io::Error::from(ErrorKind::Other));
+        }
+        let end = match self.rest.iter().position(|byte| *byte == b'\n') {
+            Some(at) => at + 1,
+            None => self.rest.len(),
+        };
+        let count = end.min(buf.len());
+        buf[..count].copy_from_slice(&self.rest[..count]);
+        self.rest = &self.rest[count..];
+        self.given = self.given.saturating_add(1);
+        Ok(count)
+    }
+}
+
+/// Counts the replies, and how often it was written to.
+#[derive(Drop)]
+struct Counting<'a> {
+    replies: &'a Cell<usize>,
+    writes: usize,
+}
+
+impl Write for Counting<'_> {
+    fn write(&mut self, buf: &[u8]) -> io::Result<usize> {
+        let ends = buf.iter().filter(|byte| **byte == b'\n').count();
+        self.replies.set(self.replies.get().saturating_add(ends));
+        self.writes = self.writes.saturating_add(1);
+        Ok(buf.len())
+    }
+
+    fn flush(&mut self) -> io::Result<()> {
+        Ok(())
+    }
+}
+
+#[test]
+fn no_reply_waits_for_a_read(rt: HostRuntime) {
+    let replies = Cell::new(0);
+    let mut desk = Refusing {
+        receipts: Vec::new(rt.alloc()),
+    };
+    let mut waiting = Waiting {
+        rest: INPUT,
+        given: 0,
+        replies: &replies,
+    };
+    let mut counting = Counting {
+        replies: &replies,
+        writes: 0,
+    };
+    assert!(rt;
+        run(rt.alloc(), &mut waiting, &mut counting, &mut desk) == Err(SessionFault::ReadFailed)
+    );
+    assert_eq!(rt; (replies.get(), counting.writes), (3, 3));
+}
+
+#[test]
+fn replies_are_written_together(rt: HostRuntime) {
+    let replies = Cell::new(0);
+    let mut desk = Refusing {
+        receipts: Vec::new(rt.alloc()),
+    };
+    let mut input = INPUT;
+    let mut counting = Counting {
+        replies: &replies,
+        writes: 0,
+    };
+    assert!(rt; run(rt.alloc(), &mut input, &mut counting, &mut desk) == Ok(4));
+    assert_eq!(rt; (replies.get(), counting.writes), (4, 2));
+}
+
+#[test]
+fn a_line_may_be_too_long(rt: HostRuntime) -> Result<(), Fail> {
+    for (len, ended, text) in [
+        (
+            65_536,
+            Ok(2),
+            b"{\"fault\":\"NotJson\"}\n{\"fault\":\"NotJson\"}\n".as_slice(),
+        ),
+        (
+            65_537,
+            Err(SessionFault::LineTooLong),
+            b"{\"fault\":\"LineTooLong\"}\n",
+        ),
+    ] {
+        let mut desk = Refusing {
+            receipts: Vec::new(rt.alloc()),
+        };
+        let mut line = Vec::with_capacity(rt.alloc(), len)?;
+        line.resize(len, b'x')?;
+        line.extend_from_slice(b"\n\n")?;
+        let mut input = line.as_slice();
+        let mut output = Vec::new(rt.alloc());
+        assert!(rt; run(rt.alloc(), &mut input, &mut output, &mut desk) == ended);
+        assert!(rt; output.as_slice() == text);
+    }
+    Ok(())
+}
