@@ -1,0 +1,8 @@
+use Rattle.std.specs.Prelude.{[], ◌∷◌, ◌++◌, codes}
+use Rattle.jiff.specs.Words.{date_text}
+use Rattle.jiff_core.specs.declared.civil.date.Date.{Date}
+use Rattle.casa_flight.specs.Text.{Text}
+
+-- the line above a table: the regulation and the day
+abbrev pub heading_line : Text → Date → Text
+heading_line reg day = codes "CASA " ++ (reg ++ (codes " " ++ (date_text day ++ 10 ∷ [])))

@@ -1,0 +1,40 @@
+-- the reply of the last receipt is that of its call after the calls before it
+use Rattle.std.proofs.Common.{◌≡◌, ℕ, ◌+◌, List, [], ◌∷◌, ◌++◌, refl, sym, ap, subst, ◌∙◌}
+use Rattle.std.specs.Prelude.{fold}
+use Rattle.casa_flight.specs.declared.call.Call.{Call}
+use Rattle.casa_flight.specs.declared.reply.Reply.{Reply}
+use Rattle.casa_flight.specs.declared.state.State.{State}
+use Rattle.casa_flight.specs.State.{empty}
+use Rattle.casa_flight.specs.Steps.{next}
+use Rattle.casa_flight.specs.Replies.{reply}
+use Rattle.casa_flight.specs.Good.{IsGood}
+use Rattle.casa_flight.proofs.Good.{empty_good}
+use Rattle.casa_flight.proofs.GoodRegs.{next-good}
+use Rattle.casa_history.specs.declared.entry.Receipt.{Receipt}
+use Rattle.casa_history.specs.Entries.{receipt, receipts_from}
+use Rattle.casa_commit.specs.Legal.{entry}
+use Rattle.casa_session.specs.Played.{only_desk, played, receipts_played, state_after}
+
+reply_from : (m : State) (n : ℕ) (before now : List Call) (r : Receipt Call Reply) → receipts_from n (played m now) ≡ receipts_from n (played m before) ++ r ∷ []
+    → r.entry.reply ≡ reply (fold next m before) r.entry.call
+reply_from m n [] [] r h = absurd (cc)
+reply_from m n [] (c ∷ now) r h =
+    let head : receipt n (entry only_desk c (reply m c)) ≡ r = cc in
+    subst (λ (x : Receipt Call Reply). x.entry.reply ≡ reply m x.entry.call) head refl
+reply_from m n (b ∷ before) [] r h = absurd (cc)
+reply_from m n (b ∷ before) (c ∷ now) r h =
+    let head : receipt n (entry only_desk c (reply m c)) ≡ receipt n (entry only_desk b (reply m b)) = cc in
+    let call_is : c ≡ b = ap (λ (x : Receipt Call Reply). x.entry.call) head in
+    let tail : receipts_from (n + 1) (played (next m c) now) ≡ receipts_from (n + 1) (played (next m b) before) ++ r ∷ [] = cc in
+    reply_from (next m b) (n + 1) before now r (subst (λ d. receipts_from (n + 1) (played (next m d) now) ≡ receipts_from (n + 1) (played (next m b) before) ++ r ∷ []) call_is tail)
+
+pub last_reply : (before now : List Call) (r : Receipt Call Reply) → receipts_played now ≡ receipts_played before ++ r ∷ [] → r.entry.reply ≡ reply (state_after before) r.entry.call
+last_reply before now r h = reply_from empty 1 before now r h
+
+good_from : (m : State) (calls : List Call) → IsGood m → IsGood (fold next m calls)
+good_from m [] good = good
+good_from m (c ∷ calls) good = good_from (next m c) calls (next-good m c good)
+
+-- every session leads to a good state
+pub good_after : (calls : List Call) → IsGood (state_after calls)
+good_after calls = good_from empty calls empty_good

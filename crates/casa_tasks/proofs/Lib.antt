@@ -1,0 +1,2 @@
+pub mod ListTimes
+pub mod LastReply

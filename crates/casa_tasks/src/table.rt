@@ -1,0 +1,69 @@
+ghost use Rattle.std.specs.Prelude.{◌≡◌, ◌≤◌, All, IfErr, IfOk};
+ghost use Rattle.std.specs.Option.{option_copied};
+ghost use Rattle.casa_session.specs.Played.{receipts_played};
+ghost use Rattle.casa_tasks.specs.Listed.{list_in};
+
+use crate::fault::ProgramFault;
+use casa_commit::CallFault;
+use casa_flight::{Answer, Call, ListReply, RegId, Reply};
+use casa_report::{heading, list_table};
+use casa_session::{Desk, Lone, SessionFault};
+use jiff::civil::Date;
+use std::alloc::Global;
+use std::io;
+use std::io::{Read, Write};
+
+/// Answers the command lines of the reader as a session does, without its replies, and then writes the regulation's
+/// list as a table under a heading with the day.
+///
+/// The session's fault comes first, then `NoRegulation` where the regulation is not open after the lines, and nothing
+/// is written at either; then a fault of the report.
+pub fn report<R: Read, W: Write>(
+    alloc: Global,
+    reg: &RegId,
+    day: Date,
+    reader: &mut R,
+    writer: &mut W,
+) -> Result<(), ProgramFault>
+    ensures session { IfErr result (λ fault. (cause : SessionFault) → fault ≡ ProgramFault.Session cause →
+        W.contents writer.new ≡ W.contents writer.old) }
+    ensures no_regulation { IfErr result (λ fault. fault ≡ ProgramFault.NoRegulation →
+        W.contents writer.new ≡ W.contents writer.old) }
+{
+    let mut lone = Lone::new(alloc)?;
+    lone.run(alloc, reader, &mut io::sink())?;
+    let list = listed(alloc, &mut lone, *reg)?;
+    heading(alloc, day, reg, writer)?;
+    list_table(&list, writer)?;
+    Ok(())
+}
+
+/// The list of a regulation as the desk shows it.
+fn listed(alloc: Global, lone: &mut Lone, reg: RegId) -> Result<ListReply, ProgramFault>
+    ensures { IfOk result (λ list. All (λ row. row.eto ≤ row.cto) list.rows) }
+{
+    let receipt = match lone.answer(alloc, &Call::List(reg)) {
+        Ok(receipt) => receipt,
+        Err(CallFault::NoMemory) => return Err(ProgramFault::NoMemory),
+        Err(CallFault::ForeignPass) => {
+            return Err(ProgramFault::Session(SessionFault::ForeignPass));
+        }
+    };
+    match list_in(&receipt.entry.reply) {
+        Some(list) => Ok(list.try_clone()?),
+        None => Err(ProgramFault::NoRegulation),
+    }
+}
+
+/// The list that a reply tells, if it tells one.
+fn list_in(reply: &Reply) -> Option<&ListReply>
+    ensures { option_copied result ≡ list_in reply.now }
+{
+    match reply {
+        Reply::Answered(answer, _) => match answer {
+            Answer::List(list) => Some(list),
+            _ => None,
+        },
+        Reply::Refused(_) => None,
+    }
+}

@@ -1,0 +1,26 @@
+use casa_flight::RegId;
+use jiff::civil::Date;
+use thiserror::Error;
+
+/// What the words of the command line ask for.
+#[derive(Clone, Copy, PartialEq, Eq, Debug)]
+pub enum Task {
+    /// `casa run`: a session on standard input and output.
+    Run,
+    /// `casa report`: the list of a regulation as a table, under a heading with the day.
+    Report(RegId, Date),
+}
+
+/// Why the words ask for nothing, in the order of the checks.
+#[derive(Debug, Drop, Error)]
+pub enum TaskFault {
+    /// The words are none that the program knows, ask for help or the version, or there is no memory to read them.
+    #[error("{0}")]
+    Words(clap::Error),
+    /// What stands after `--reg` is no identifier: 1 to 10 characters of A to Z and 0 to 9.
+    #[error("the regulation is not 1 to 10 characters of A to Z and 0 to 9")]
+    BadReg,
+    /// What stands after `--day` is no date in the form `YYYY-MM-DD`.
+    #[error("the day is no date in the form YYYY-MM-DD")]
+    BadDay,
+}
