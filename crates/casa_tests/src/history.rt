@@ -66,34 +66,48 @@ fn a_history_and_a_pass_grow(rt: HostRuntime) -> Result<(), Fail> {
     Ok(())
 }
 
+/// What is settled of the history of `three_calls` with these passes.
+fn settled(alloc: Global, passes: &[Pass<u32, u32>]) -> Result<Result<Settled, Torn>, AllocError> {
+    Ok(settle(&three_calls(alloc)?, passes))
+}
+
+/// The same where desk 2 has this receipt.
+fn settled_with(
+    alloc: Global,
+    position: usize,
+    reply: u32,
+) -> Result<Result<Settled, Torn>, AllocError> {
+    let second = second_pass(alloc, position, reply)?;
+    let passes = vec![in alloc; second, first_pass(alloc)?]?;
+    settled(alloc, passes.as_slice())
+}
+
+/// The passes of the desks 0 and 2, and one of a desk without calls.
+fn passes(alloc: Global, idle_desk: u32) -> Result<Vec<Pass<u32, u32>>, AllocError> {
+    let (first, second) = (first_pass(alloc)?, second_pass(alloc, 2, 20)?);
+    Ok(vec![in alloc; first, second, Pass::new(alloc, 7, idle_desk)]?)
+}
+
 #[test]
 fn desks_are_settled_or_torn(rt: HostRuntime) -> Result<(), Fail> {
     let alloc = rt.alloc();
-    let history = three_calls(alloc)?;
-    let all = vec![in alloc;
-        first_pass(alloc)?,
-        second_pass(alloc, 2, 20)?,
-        Pass::new(alloc, 7, 1),
-    ]?;
-    assert_eq!(rt;
-        settle(&history, all.as_slice()),
-        Ok(Settled {
-            desks: 3,
-            entries: 3
-        })
-    );
-    assert_eq!(rt; settle(&history, &all.as_slice()[..1]), Err(Torn(2)));
-    assert_eq!(rt; settle(&history, &all.as_slice()[1..]), Err(Torn(0)));
-    for (position, reply) in [(2, 21), (1, 20)] {
-        let wrong = vec![in alloc; second_pass(alloc, position, reply)?, first_pass(alloc)?]?;
-        assert_eq!(rt; settle(&history, wrong.as_slice()), Err(Torn(2)));
-    }
-    let twice = vec![in alloc;
-        Pass::new(alloc, 7, 0),
-        second_pass(alloc, 2, 20)?,
-        first_pass(alloc)?,
-    ]?;
-    assert_eq!(rt; settle(&history, twice.as_slice()), Err(Torn(0)));
+    let (desks, entries) = (3, 3);
+    let all = passes(alloc, 1)?;
+    let all = all.as_slice();
+    assert_eq!(rt; all.len(), 3);
+    assert_eq!(rt; settled(alloc, all)?, Ok(Settled { desks, entries }));
+    assert_eq!(rt; settled(alloc, &all[..1])?, Err(Torn(2)));
+    assert_eq!(rt; settled(alloc, &all[1..])?, Err(Torn(0)));
+    Ok(())
+}
+
+#[test]
+fn desks_with_other_receipts_are_torn(rt: HostRuntime) -> Result<(), Fail> {
+    let alloc = rt.alloc();
+    assert_eq!(rt; settled_with(alloc, 2, 21)?, Err(Torn(2)));
+    assert_eq!(rt; settled_with(alloc, 1, 20)?, Err(Torn(2)));
+    let twice = passes(alloc, 0)?;
+    assert_eq!(rt; settled(alloc, twice.as_slice())?, Err(Torn(0)));
     Ok(())
 }
 

@@ -70,76 +70,77 @@ fn list(alloc: Global, rows: &[ListRow]) -> Result<Answer, Fail> {
     }))
 }
 
-/// The allocator once R1 is open and the flights A and B are filed.
-fn two_filed(alloc: Global) -> Result<Plain, Fail> {
-    let mut plain = Plain::new(alloc);
-    plain.step(alloc, &open(alloc)?)?;
-    plain.step(alloc, &file(alloc, b"A", 36_010)?)?;
-    plain.step(alloc, &file(alloc, b"B", 36_005)?)?;
-    Ok(plain)
+/// The calls of a day by number: R1 is opened, A and B are filed and listed, both are issued, and R1 is closed.
+fn call(alloc: Global, number: usize) -> Result<Call, Fail> {
+    match number {
+        0 => open(alloc),
+        1 => file(alloc, b"A", 36_010),
+        2 => file(alloc, b"B", 36_005),
+        3 => Ok(Call::List(reg(b"R1")?)),
+        4 => Ok(Call::Tick(Moment::new(22_800)?)),
+        5 => Ok(Call::Show(key(b"A")?)),
+        6 => Ok(Call::Tick(Moment::new(22_799)?)),
+        _ => Ok(Call::CloseReg(reg(b"R1")?)),
+    }
 }
 
-#[test]
-fn a_flight_gets_the_slot_that_it_asks_for(rt: HostRuntime) -> Result<(), Fail> {
-    let alloc = rt.alloc();
-    let mut plain = Plain::new(alloc);
-    let opened = plain.step(alloc, &open(alloc)?)?;
-    assert_eq!(rt; opened, answered(alloc, Answer::Done, &[])?);
-    let filed = plain.step(alloc, &file(alloc, b"A", 36_010)?)?;
-    assert_eq!(rt;
-        filed,
-        answered(alloc, flight(b"A", 30_600, 0, false)?, &[])?
-    );
-    Ok(())
+/// The answer to the call with this number, where it is answered with no message.
+fn answer_to(alloc: Global, number: usize) -> Result<Answer, Fail> {
+    match number {
+        1 => flight(b"A", 30_600, 0, false),
+        2 => flight(b"B", 30_600, 0, false),
+        3 => list(
+            alloc,
+            &[
+                row(b"B", 36_005, 36_005, Kind::Pre, 0)?,
+                row(b"A", 36_010, 36_120, Kind::Pre, 1)?,
+            ],
+        ),
+        5 => flight(b"A", 30_710, 110, true),
+        _ => Ok(Answer::Done),
+    }
 }
 
-#[test]
-fn two_flights_get_slots_two_minutes_apart(rt: HostRuntime) -> Result<(), Fail> {
-    let alloc = rt.alloc();
-    let mut plain = two_filed(alloc)?;
-    let rows = [
-        row(b"B", 36_005, 36_005, Kind::Pre, 0)?,
-        row(b"A", 36_010, 36_120, Kind::Pre, 1)?,
-    ];
-    let listed = plain.step(alloc, &Call::List(reg(b"R1")?))?;
-    assert_eq!(rt; listed, answered(alloc, list(alloc, &rows)?, &[])?);
-    Ok(())
-}
-
-#[test]
-fn flights_are_issued_two_hours_ahead(rt: HostRuntime) -> Result<(), Fail> {
-    let alloc = rt.alloc();
-    let mut plain = two_filed(alloc)?;
+/// The reply to the call with this number.
+fn reply_to(alloc: Global, number: usize) -> Result<Reply, Fail> {
     let (a, b, r1) = (key(b"A")?, key(b"B")?, reg(b"R1")?);
-    let sent = [Message::Sam(a, 30_710, r1), Message::Sam(b, 30_600, r1)];
-    let ticked = plain.step(alloc, &Call::Tick(Moment::new(22_800)?))?;
-    assert_eq!(rt; ticked, answered(alloc, Answer::Done, &sent)?);
-    let shown = plain.step(alloc, &Call::Show(a))?;
-    assert_eq!(rt;
-        shown,
-        answered(alloc, flight(b"A", 30_710, 110, true)?, &[])?
-    );
-    Ok(())
+    match number {
+        4 => {
+            let sent = [Message::Sam(a, 30_710, r1), Message::Sam(b, 30_600, r1)];
+            Ok(answered(alloc, Answer::Done, &sent)?)
+        }
+        6 => Ok(Reply::Refused(Refusal::BackInTime)),
+        7 => Ok(answered(alloc, Answer::Done, &[Message::Slc(a), Message::Slc(b)])?),
+        _ => Ok(answered(alloc, answer_to(alloc, number)?, &[])?),
+    }
 }
 
+/// B is planned before A and displaces it; they are issued two hours ahead; the clock does not go
+/// back; and closing takes issued slots back.
 #[test]
-fn closing_takes_issued_slots_back(rt: HostRuntime) -> Result<(), Fail> {
+fn a_day_of_one_regulation(rt: HostRuntime) -> Result<(), Fail> {
     let alloc = rt.alloc();
-    let mut plain = two_filed(alloc)?;
-    plain.step(alloc, &Call::Tick(Moment::new(22_800)?))?;
-    let back = plain.step(alloc, &Call::Tick(Moment::new(22_799)?))?;
-    assert_eq!(rt; back, Reply::Refused(Refusal::BackInTime));
-    let closed = plain.step(alloc, &Call::CloseReg(reg(b"R1")?))?;
-    let dropped = [Message::Slc(key(b"A")?), Message::Slc(key(b"B")?)];
-    assert_eq!(rt; closed, answered(alloc, Answer::Done, &dropped)?);
+    let mut plain = Plain::new(alloc);
+    for number in 0..8 {
+        let reply = plain.step(alloc, &call(alloc, number)?)?;
+        assert_eq!(rt;
+            reply,
+            reply_to(alloc, number)?,
+            "the reply to call {number}"
+        );
+    }
     Ok(())
 }
 
-/// The reply to the call, made again where memory was refused the first time.
-fn reply(alloc: Global, plain: &mut Plain, call: &Call) -> Result<Reply, AllocError> {
-    match plain.step(alloc, call) {
-        Ok(reply) => Ok(reply),
-        Err(AllocError) => plain.step(alloc, call),
+/// The refusal that the allocator answers, if it does; the call is made again where memory was refused the first time.
+fn refusal(alloc: Global, plain: &mut Plain, call: &Call) -> Result<Option<Refusal>, AllocError> {
+    let reply = match plain.step(alloc, call) {
+        Ok(reply) => reply,
+        Err(AllocError) => plain.step(alloc, call)?,
+    };
+    match reply {
+        Reply::Refused(refusal) => Ok(Some(refusal)),
+        Reply::Answered(..) => Ok(None),
     }
 }
 
@@ -148,13 +149,10 @@ fn reply(alloc: Global, plain: &mut Plain, call: &Call) -> Result<Reply, AllocEr
 #[test]
 fn a_refused_growth_leaves_the_call_unmade(rt: HostRuntime) -> Result<(), Fail> {
     let alloc = rt.alloc();
-    let (opening, filing) = (open(alloc)?, file(alloc, b"A", 36_010)?);
     let mut plain = Plain::new(alloc);
-    let opened = reply(alloc, &mut plain, &opening)?;
-    assert!(rt; opened != Reply::Refused(Refusal::DuplicateRegulation));
-    let filed = reply(alloc, &mut plain, &filing)?;
-    assert!(rt; filed != Reply::Refused(Refusal::Duplicate));
-    let again = reply(alloc, &mut plain, &filing)?;
-    assert_eq!(rt; again, Reply::Refused(Refusal::Duplicate));
+    for (number, wanted) in [(0, None), (1, None), (1, Some(Refusal::Duplicate))] {
+        let call = call(alloc, number)?;
+        assert_eq!(rt; refusal(alloc, &mut plain, &call)?, wanted);
+    }
     Ok(())
 }

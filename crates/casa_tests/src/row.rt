@@ -8,6 +8,7 @@ use casa_flight::{
 use casa_grid::Place;
 use casa_time::Moment;
 use std::alloc::Global;
+use std::process::Abort;
 use std::test::Fail;
 
 /// The plan of flight A: off-block at 30000, ten minutes of taxi, and over LA at 36010.
@@ -53,7 +54,7 @@ fn a_plan_is_due_two_hours_before_and_gone_after_the_take_off(rt: HostRuntime) -
 fn a_row_is_filed_exempted_and_amended(rt: HostRuntime) -> Result<(), Fail> {
     let alloc = rt.alloc();
     let at = Moment::new(22_800)?;
-    let filed = Row::filed(&plan(alloc, Sts::Plain)?)?;
+    let filed = filed(alloc)?;
     assert!(rt; !filed.is_exempt() && filed.may_compete(at) && !filed.is_to_issue(at));
     assert!(rt; !filed.may_compete(Moment::new(30_601)?));
     let exempted = filed.exempted()?;
@@ -64,19 +65,69 @@ fn a_row_is_filed_exempted_and_amended(rt: HostRuntime) -> Result<(), Fail> {
     Ok(())
 }
 
+/// Flight A as it is filed.
+fn filed(alloc: Global) -> Result<Row, Fail> {
+    Ok(Row::filed(&plan(alloc, Sts::Plain)?)?)
+}
+
+/// Flight A as R1 governs it, over LA at 36120, since the clock was at this second.
+fn governed(alloc: Global, clock: u32) -> Result<Row, Fail> {
+    Ok(filed(alloc)?.governed(Moment::new(clock)?, offer(b"R1", 36_120)?))
+}
+
+/// Whether a row is to be issued a second before flight A is due, whether then, whether it may compete before, and
+/// whether it is issued.
+fn states(row: &Row) -> Result<[bool; 4], Fail> {
+    let (early, due) = (Moment::new(22_799)?, Moment::new(22_800)?);
+    Ok([
+        row.is_to_issue(early),
+        row.is_to_issue(due),
+        row.may_compete(early),
+        is_issued(Some(row)),
+    ])
+}
+
 #[test]
 fn a_governed_row_is_issued_once_it_is_due(rt: HostRuntime) -> Result<(), Fail> {
-    let (early, due) = (Moment::new(22_799)?, Moment::new(22_800)?);
-    let (r1, r2) = (reg(b"R1")?, reg(b"R2")?);
-    let filed = Row::filed(&plan(rt.alloc(), Sts::Plain)?)?;
-    let waiting = filed.clone()?.governed(early, offer(b"R1", 36_120)?);
-    assert!(rt; waiting.is_governed_by(r1) && !waiting.is_governed_by(r2));
-    assert!(rt; !waiting.is_to_issue(early) && waiting.is_to_issue(due));
-    assert!(rt; !waiting.may_compete(early) && !is_issued(Some(&waiting)));
-    let issued = filed.clone()?.governed(due, offer(b"R1", 36_120)?);
-    assert_eq!(rt; issued.issued.map(|cto| cto.secs()), Some(36_120));
-    assert!(rt; is_issued(Some(&issued)) && !issued.is_to_issue(due) && !is_issued(None));
-    assert!(rt; issued.ungoverned()? == filed);
+    let alloc = rt.alloc();
+    let waiting = governed(alloc, 22_799)?;
+    assert_eq!(rt; states(&waiting)?, [false, true, false, false]);
+    let issued = governed(alloc, 22_800)?;
+    assert_eq!(rt; states(&issued)?, [false, false, false, true]);
+    assert_eq!(rt; issued.issued, Some(Moment::new(36_120)?));
+    assert!(rt; !is_issued(None));
+    Ok(())
+}
+
+#[test]
+fn a_row_is_governed_until_it_is_not(rt: HostRuntime) -> Result<(), Fail> {
+    let row = governed(rt.alloc(), 22_800)?;
+    assert!(rt; row.is_governed_by(reg(b"R1")?) && !row.is_governed_by(reg(b"R2")?));
+    assert!(rt; row.clone()?.ungoverned()? == filed(rt.alloc())?);
+    Ok(())
+}
+
+/// How a row stands over R1 at LA, in its list, and in that of R1 at LB.
+fn stances(alloc: Global, row: &Row) -> Result<[Option<Stance>; 3], Fail> {
+    let id = reg(b"R1")?;
+    let (here, elsewhere) = (measure(alloc, b"LA")?, measure(alloc, b"LB")?);
+    Ok([
+        row.stance_over(&Regulation::of(id, &here)),
+        row.stance_in(id, &here),
+        row.stance_in(id, &elsewhere),
+    ])
+}
+
+/// A row stands so over R1, and is shown as this kind.
+fn stands(
+    rt: &impl Abort,
+    alloc: Global,
+    row: &Row,
+    stance: Stance,
+    kind: Kind,
+) -> Result<(), Fail> {
+    assert_eq!(rt; stances(alloc, row)?, [Some(stance), Some(stance), None]);
+    assert_eq!(rt; (stance.eto().secs(), stance.kind()), (36_010, kind));
     Ok(())
 }
 
@@ -84,33 +135,39 @@ fn a_governed_row_is_issued_once_it_is_due(rt: HostRuntime) -> Result<(), Fail> 
 fn a_row_stands_in_the_lists_that_it_crosses(rt: HostRuntime) -> Result<(), Fail> {
     let alloc = rt.alloc();
     let (eto, cto) = (Moment::new(36_010)?, Moment::new(36_120)?);
-    let (id, here, elsewhere) = (reg(b"R1")?, measure(alloc, b"LA")?, measure(alloc, b"LB")?);
-    let regulation = Regulation::of(id, &here);
-    assert!(rt; regulation.id == id && regulation.loc == here.loc);
-    assert_eq!(rt;
-        (regulation.start.secs(), regulation.end.secs()),
-        (36_000, 37_200)
-    );
-    let forced = Row::filed(&plan(alloc, Sts::Plain)?)?;
-    let competing = forced
-        .clone()?
-        .governed(Moment::new(0)?, offer(b"R1", 36_120)?);
-    let issued = forced
-        .clone()?
-        .governed(Moment::new(22_800)?, offer(b"R1", 36_120)?);
-    for (row, stance, kind) in [
-        (&forced, Stance::Forced { eto }, Kind::Forced),
-        (&competing, Stance::Competing { eto }, Kind::Pre),
-        (&issued, Stance::Issued { eto, cto }, Kind::Issued),
+    let (forced, competing) = (Stance::Forced { eto }, Stance::Competing { eto });
+    let issued = Stance::Issued { eto, cto };
+    stands(&rt, alloc, &filed(alloc)?, forced, Kind::Forced)?;
+    stands(&rt, alloc, &governed(alloc, 0)?, competing, Kind::Pre)?;
+    stands(&rt, alloc, &governed(alloc, 22_800)?, issued, Kind::Issued)
+}
+
+#[test]
+fn only_a_governed_flight_stands_issued(rt: HostRuntime) -> Result<(), Fail> {
+    let (eto, cto) = (Moment::new(36_010)?, Moment::new(36_120)?);
+    for (governs, issued, is_issued) in [
+        (true, true, true),
+        (true, false, false),
+        (false, true, false),
     ] {
-        assert_eq!(rt; row.stance_over(&regulation), Some(stance));
-        assert_eq!(rt; row.stance_in(id, &here), Some(stance));
-        assert_eq!(rt; row.stance_in(id, &elsewhere), None);
-        assert_eq!(rt; (stance.eto(), stance.kind()), (eto, kind));
+        let cto = if issued { Some(cto) } else { None };
+        let stance = Stance::of(governs, cto, eto);
+        assert_eq!(rt; stance.issued_cto(), if is_issued { cto } else { None });
+        assert_eq!(rt; stance == Stance::Forced { eto }, !governs);
     }
-    assert_eq!(rt; Stance::of(true, Some(cto), eto).issued_cto(), Some(cto));
-    assert_eq!(rt; Stance::of(true, None, eto).issued_cto(), None);
-    assert_eq!(rt; Stance::of(false, Some(cto), eto), Stance::Forced { eto });
+    Ok(())
+}
+
+#[test]
+fn a_regulation_has_the_span_of_its_profile(rt: HostRuntime) -> Result<(), Fail> {
+    let regulation = Regulation::of(reg(b"R1")?, &measure(rt.alloc(), b"LA")?);
+    let wanted = Regulation {
+        id: reg(b"R1")?,
+        loc: loc(b"LA")?,
+        start: Moment::new(36_000)?,
+        end: Moment::new(37_200)?,
+    };
+    assert_eq!(rt; regulation, wanted);
     Ok(())
 }
 
@@ -134,8 +191,7 @@ fn the_first_of_the_greatest_delays_is_most_penalising(rt: HostRuntime) -> Resul
 
 #[test]
 fn a_flight_is_answered_with_its_delay(rt: HostRuntime) -> Result<(), Fail> {
-    let row = Row::filed(&plan(rt.alloc(), Sts::Plain)?)?;
-    let row = row.governed(Moment::new(0)?, offer(b"R1", 36_120)?);
+    let row = governed(rt.alloc(), 0)?;
     let reply = FlightReply {
         key: key(b"A")?,
         eobt: Moment::new(30_000)?,

@@ -1,8 +1,0 @@
-use Rattle.casa.proofs.Parts.{first_part_lem}
-use Rattle.casa.proofs.lines.first_part.Goals as goal
-
-pub returns-in-Some : goal.returns-in-Some
-returns-in-Some c = rw (← c.position_of_lf.ensures, c.in-Some.is) at (first_part_lem c.args.bytes.now)
-
-pub returns-in-None : goal.returns-in-None
-returns-in-None c = rw (← c.position_of_lf.ensures, c.in-None.is) at (first_part_lem c.args.bytes.now)

@@ -1,8 +1,0 @@
-use Rattle.std.proofs.Common.{◌≡◌, ◌++◌, option_map, drop}
-use Rattle.serde_json.specs.View.{items_view}
-use Rattle.casa.specs.Members.{all_of, period_of}
-use Rattle.casa.proofs.member.periods_of.Given as goal
-
-abbrev pub invariant-loop-value : goal.invariant-loop-value
-invariant-loop-value l =
-    option_map (λ rest. l.found.items ++ rest) (all_of period_of (items_view (drop l.value-index l.list.items))) ≡ all_of period_of (items_view l.list.items)
