@@ -1,4 +1,5 @@
-//! A script that looks like chance, always the same one: of few flights, locations and regulations, so that much happens.
+//! A script that looks like chance, always the same one: of few flights, locations and regulations, so that much
+//! happens.
 
 ghost use Rattle.std.specs.Prelude.{◌<◌};
 
