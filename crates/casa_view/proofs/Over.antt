@@ -5,7 +5,7 @@ use Rattle.std.specs.declared.cmp.Ordering.{Ordering}
 use Rattle.std.specs.declared.cmp.Ordering.TheVariants.{Less, Equal, Greater}
 use Rattle.std.specs.declared.ops.Bound.TheVariants.{Included, Excluded}
 use Rattle.std.specs.Ordering.{is_eq, is_gt, is_le, nat_cmp, ordering_then}
-use Rattle.std.specs.Option.{option_and_then, option_map, option_cmp}
+use Rattle.std.specs.Option.{option_and_then, option_map, option_map_or, option_cmp}
 use Rattle.std.specs.List.{list_any, filter, find, cons_option}
 use Rattle.std.specs.BTreeMap.{is_at}
 use Rattle.std.specs.BTreeMap.Range.{range_contains}
@@ -17,6 +17,9 @@ use Rattle.casa_flight.specs.declared.regulation.Regulation.{Regulation}
 use Rattle.casa_flight.specs.declared.row.Row.{Row}
 use Rattle.casa_flight.specs.Text.{Text, same_text}
 use Rattle.casa_flight.specs.State.{crosses}
+use Rattle.casa_flight.specs.FlightPlan.{FlightPlan}
+use Rattle.casa_flight.specs.PlanEquality.{plan_eq}
+use Rattle.casa_flight.proofs.Same.{plan_same}
 use Rattle.casa_flight.proofs.Entries.{text_cmp, same_name, itself, named}
 use Rattle.casa_view.specs.declared.flights.Passing.{Passing}
 use Rattle.casa_view.specs.contracts.flights.PassingOrd.TheImpl.{ghosts as passings}
@@ -188,6 +191,15 @@ added_passings key row at ps qs more new have q x found = by (same_text key q) r
         let value : row ≡ x = cc in
         subst (λ (k : Text). HaveVia qs k x.plan.via) (named key q t)
         (subst (λ (r : Row). HaveVia qs key r.plan.via) value new)
+
+-- where the flight stands with this plan, its passings are there
+pub kept_passings : (key : Text) (row : Row) (earlier : Option Row) (at : Text → Option Row) (ps : List Passing)
+    → at key ≡ earlier → option_map_or (λ (r : Row). plan_eq r.plan row.plan) earlier false ≡ true
+    → HavePassings at ps → HavePassings (where_put at key (Some row)) ps
+kept_passings key row None at ps there is have = cc
+kept_passings key row (Some r) at ps there is have =
+    added_passings key row at ps ps (λ p h. h)
+    (subst (λ (p : FlightPlan). HaveVia ps key p.via) (plan_same r.plan row.plan is) (have key r there)) have
 
 -- a passing where the flight does not cross now may go
 pub idle_goes : (key : Text) (c : Crossing) (present : List Crossing) (ps qs : List Passing)

@@ -3,18 +3,19 @@
 ghost use Rattle.std.specs.Prelude.{◌≡◌, List, Option, Some, None, true, false, OnOk};
 ghost use Rattle.std.specs.Option.{option_copied, option_map_or};
 ghost use Rattle.casa_flight.specs.Text.{Text};
+ghost use Rattle.casa_flight.specs.PlanEquality.{plan_eq};
 ghost use Rattle.casa_flight.specs.declared.row.Row.{Row};
 ghost use Rattle.casa_view.specs.Versions.{row_of};
 ghost use Rattle.casa_view.specs.Laid.{where_put};
 ghost use Rattle.casa_flight.specs.declared.plan.Crossing.{Crossing};
 ghost use Rattle.casa_view.specs.Waiting.{is_waiting, is_waiting_at, departure, has_departure, HaveWaiting};
 ghost use Rattle.casa_view.specs.Passing.{passing, has_passing, HaveVia};
-ghost use Rattle.casa_view.specs.Flights.{IsIndexed};
+ghost use Rattle.casa_view.specs.Flights.{IsIndexed, row_named};
 
 use crate::contents::row_in;
 use crate::index::Index;
 use crate::version::Version;
-use casa_flight::{Crossing, Key, Loc, Name, OfFlight, Row};
+use casa_flight::{Crossing, Key, Loc, Name, OfFlight, Plan, Row};
 use casa_time::Moment;
 use std::alloc::{AllocError, Global};
 use std::collections::BTreeSet;
@@ -54,25 +55,36 @@ impl<V: Version> Index<OfFlight, V> for FlightIndex {
         }
     }
 
-    fn note(&mut self, name: &Name<OfFlight>, value: &V) -> Result<(), AllocError> {
+    fn note(
+        &mut self,
+        name: &Name<OfFlight>,
+        value: &V,
+        earlier: Option<&V>,
+    ) -> Result<(), AllocError> {
         if let Some(row) = row_in(value.item()) {
-            self.add(*name, row)?;
+            self.add(*name, row, row_named(earlier))?;
         }
         Ok(())
     }
 
     fn forget(&mut self, name: &Name<OfFlight>, gone: &V, present: Option<&V>) {
-        let Some(gone) = row_in(gone.item()) else {
-            return;
-        };
-        match present {
-            Some(present) => self.take_out(*name, gone, row_in(present.item())),
-            None => self.take_out(*name, gone, None),
+        if let Some(gone) = row_in(gone.item()) {
+            self.take_out(*name, gone, row_named(present));
         }
     }
 
     ghost fewer = { λ index at name covers.
         fewer_indexed V.item_of at index.departures.keys index.passings.keys name covers };
+}
+
+/// The row that a version is of, if there is one.
+fn row_named<V: Version>(version: Option<&V>) -> Option<&Row>
+    ensures { option_copied result ≡ row_named V.item_of (option_copied version.entry) }
+{
+    match version {
+        Some(version) => row_in(version.item()),
+        None => None,
+    }
 }
 
 /// Whether a flight waits for its issue: it is governed and not issued.
@@ -83,17 +95,20 @@ pub(crate) fn is_waiting(row: &Row) -> bool
 }
 
 impl FlightIndex {
-    /// Puts a flight into the index. `AllocError` where there is no memory for it; all others are then still there.
-    fn add(&mut self, key: Key, row: &Row) -> Result<(), AllocError>
+    /// Puts a flight into the index; the crossings of the plan that it had so far are there. `AllocError` where there is
+    /// no memory for it; all others are then still there.
+    fn add(&mut self, key: Key, row: &Row, earlier: Option<&Row>) -> Result<(), AllocError>
         ensures stays { (at : Text → Option Row) →
             IsIndexed at self.old.departures.keys self.old.passings.keys →
             IsIndexed at self.new.departures.keys self.new.passings.keys }
-        ensures added { OnOk result ((at : Text → Option Row) →
+        ensures added { OnOk result ((at : Text → Option Row) → at key ≡ option_copied earlier.entry →
             IsIndexed at self.old.departures.keys self.old.passings.keys →
             IsIndexed (where_put at key (Some row.now)) self.new.departures.keys self.new.passings.keys) }
     {
         add_departure(&mut self.departures, key, row)?;
-        add_passings(&mut self.passings, key, row.plan.via())?;
+        if !stands_with(earlier, &row.plan) {
+            add_passings(&mut self.passings, key, row.plan.via())?;
+        }
         Ok(())
     }
 
@@ -112,6 +127,16 @@ impl FlightIndex {
             }
             None => take_passings(&mut self.passings, key, gone.plan.via(), &[]),
         }
+    }
+}
+
+/// Whether a flight stands with this plan.
+fn stands_with(row: Option<&Row>, plan: &Plan) -> bool
+    ensures { result ≡ option_map_or (λ r. plan_eq r.plan plan.now) (option_copied row.entry) false }
+{
+    match row {
+        Some(row) => row.plan == *plan,
+        None => false,
     }
 }
 

@@ -18,10 +18,12 @@ pub trait Index<Kind, V>: Drop {
     fn new(alloc: Global) -> Self
         ensures { covers result (λ name. None) };
 
-    /// Has this value found under the name, and whatever else was found. `AllocError` where there is no memory for it.
-    fn note(&mut self, name: &Name<Kind>, value: &V) -> Result<(), AllocError>
+    /// Has this value found under the name, where `earlier` stands now, and whatever else was found. `AllocError` where
+    /// there is no memory for it.
+    fn note(&mut self, name: &Name<Kind>, value: &V, earlier: Option<&V>) -> Result<(), AllocError>
         ensures stays { (at : Text → Option V) → covers self.old at → covers self.new at }
-        ensures noted { OnOk result ((at : Text → Option V) → covers self.old at → covers self.new (where_put at name.now (Some value.now))) };
+        ensures noted { OnOk result ((at : Text → Option V) → at name.now ≡ option_copied earlier.entry →
+            covers self.old at → covers self.new (where_put at name.now (Some value.now))) };
 
     /// Takes out what only the value needed that is gone from under this name, where `present` stands now. It may leave
     /// more in.
@@ -43,7 +45,12 @@ impl<Kind, V> Index<Kind, V> for NoIndex {
         NoIndex
     }
 
-    fn note(&mut self, _name: &Name<Kind>, _value: &V) -> Result<(), AllocError> {
+    fn note(
+        &mut self,
+        _name: &Name<Kind>,
+        _value: &V,
+        _earlier: Option<&V>,
+    ) -> Result<(), AllocError> {
         Ok(())
     }
 

@@ -70,7 +70,7 @@ impl<Kind: Copy, V: Drop, I: Index<Kind, V>> Base<Kind, V, I> {
         ensures written { OnOk result (self.new ≡ put self.old name value) }
         ensures unchanged { OnErr result (self.new ≡ self.old) }
     {
-        self.index.note(&name, &value)?;
+        self.index.note(&name, &value, self.values.get(&name))?;
         if let Some(gone) = self.values.insert(name, value)? {
             self.index.forget(&name, &gone, self.values.get(&name));
         }
