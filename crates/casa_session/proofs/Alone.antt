@@ -20,7 +20,7 @@ use Rattle.casa_commit.specs.Rooms.{entries_of, next_entry, open_desks, room_num
 use Rattle.casa_commit.proofs.Replays.{slice_get-pushed}
 use Rattle.casa_session.specs.Alone.{IsAlone}
 use Rattle.casa_session.specs.Played.{calls_in, only_desk, played, receipts_played, state_after}
-use Rattle.casa_session.specs.Transcript.{Receipts}
+use Rattle.casa_desk.specs.Receipts.{Receipts}
 use Rattle.casa_session.proofs.PlayedCalls.{only-desk, played-push, receipts_from-push}
 
 module _ {W V D : Type 0} {world : WorldOf W Call V D Reply} where

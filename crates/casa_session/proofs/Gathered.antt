@@ -15,7 +15,7 @@ use Rattle.casa_session.specs.declared.fault.SessionFault.{SessionFault}
 use Rattle.casa_session.specs.declared.fault.SessionFault.TheVariants.{LineTooLong, ReadFailed, WriteFailed, ForeignPass, NoMemory}
 use Rattle.casa_session.specs.declared.replies.Replies.{Replies}
 use Rattle.casa_session.specs.Replies.{CutText, IsUnwritten, Replied, TooLongEnds}
-use Rattle.casa_session.specs.Transcript.{Receipts}
+use Rattle.casa_desk.specs.Receipts.{Receipts}
 
 -- a call was answered
 pub replied_call : (a b : Receipts) (meaning : Result Call WireFault) (call : Call) (r : Receipt Call Reply) → meaning ≡ Ok call → b ≡ a ++ r ∷ [] → r.entry.call ≡ call

@@ -17,7 +17,8 @@ use Rattle.casa_output.specs.Sending.{counted}
 use Rattle.casa_session.specs.declared.fault.SessionFault.{SessionFault}
 use Rattle.casa_session.specs.declared.fault.SessionFault.TheVariants.{LineTooLong, ReadFailed, WriteFailed, ForeignPass, NoMemory}
 use Rattle.casa_session.specs.Lines.{ended_lines, lines_of}
-use Rattle.casa_session.specs.Transcript.{Receipts, Answered, Cut, Ends, Stopped, calls, calls_of, transcript}
+use Rattle.casa_desk.specs.Receipts.{Receipts}
+use Rattle.casa_session.specs.Transcript.{Answered, Cut, Ends, Stopped, calls, calls_of, transcript}
 use Rattle.casa_session.specs.Played.{calls_in, only_desk, played, receipts_after, receipts_played, state_after}
 use Rattle.casa_session.specs.Alone.{AnsweredFirst, LoneEnds, transcript_after}
 

@@ -10,7 +10,8 @@ use Rattle.casa_wire.specs.LineTexts.{too_long_line}
 use Rattle.casa_session.specs.declared.replies.Replies.{Replies}
 use Rattle.casa_session.specs.Lines.{is_too_long, has_too_long}
 use Rattle.casa_session.specs.Replies.{CutText, Gathers, MayReply, Replied}
-use Rattle.casa_session.specs.Transcript.{Receipts, calls_of, calls, transcript, Answered, Cut, Stopped}
+use Rattle.casa_desk.specs.Receipts.{Receipts}
+use Rattle.casa_session.specs.Transcript.{calls_of, calls, transcript, Answered, Cut, Stopped}
 use Rattle.casa_session.proofs.Splitting.{has_too_long-append}
 use Rattle.casa_session.proofs.Transcripts.{called-append, grown, one_call, one_line, transcript-append}
 

@@ -13,7 +13,8 @@ use Rattle.casa_session.specs.declared.replies.Replies.{Replies}
 use Rattle.casa_session.specs.LineReader.{IsPart}
 use Rattle.casa_session.specs.Lines.{ended_lines, lines_of, rest_from, has_too_long, is_too_long, HasNoLf}
 use Rattle.casa_session.specs.Replies.{Answers, CutText, EndsBy, Fails, IsUnwritten, TooLongEnds}
-use Rattle.casa_session.specs.Transcript.{Receipts, calls, transcript, Answered, Cut, Ends, Stopped}
+use Rattle.casa_desk.specs.Receipts.{Receipts}
+use Rattle.casa_session.specs.Transcript.{calls, transcript, Answered, Cut, Ends, Stopped}
 use Rattle.casa_session.proofs.Parts.{no_lf_append}
 use Rattle.casa_session.proofs.Progress.{Progress, answered, cut_done, cut_line, cut_more, no_progress, progress_line, progress_sent, stopped, stopped_between, too_long_written}
 use Rattle.casa_session.proofs.Splitting.{ended_kept, ended_more, has_too_long-append, line_first, line_only, lines_of-append, long_first, short_part, whole_more}

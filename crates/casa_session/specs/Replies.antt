@@ -8,7 +8,8 @@ use Rattle.casa_wire.specs.LineTexts.{too_long_line}
 use Rattle.casa_session.specs.declared.fault.SessionFault.{SessionFault}
 use Rattle.casa_session.specs.declared.fault.SessionFault.TheVariants.{LineTooLong, ReadFailed, WriteFailed, ForeignPass, NoMemory}
 use Rattle.casa_session.specs.declared.replies.Replies.{Replies}
-use Rattle.casa_session.specs.Transcript.{Receipts, answer_text, call_list, calls_of}
+use Rattle.casa_desk.specs.Receipts.{Receipts}
+use Rattle.casa_session.specs.Transcript.{answer_text, call_list, calls_of}
 
 -- from the receipts a to b a line of this meaning was answered, by this text
 pub record Replied (a b : Receipts) (meaning : Result Call WireFault) (text : List ℕ) : Type 0 where

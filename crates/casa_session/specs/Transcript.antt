@@ -8,13 +8,10 @@ use Rattle.casa_wire.specs.declared.fault.WireFault.{WireFault}
 use Rattle.casa_session.specs.declared.fault.SessionFault.{SessionFault}
 use Rattle.casa_session.specs.declared.fault.SessionFault.TheVariants.{LineTooLong, ReadFailed, WriteFailed, ForeignPass, NoMemory}
 use Rattle.casa_wire.specs.Commands.{line_call}
+use Rattle.casa_desk.specs.Receipts.{Receipts}
 use Rattle.casa_session.specs.Lines.{ended_lines, lines_of, is_too_long, has_too_long}
 use Rattle.casa_wire.specs.LineTexts.{reply_line, fault_line, too_long_line}
 use Rattle.casa_output.specs.Sending.{counted}
-
--- what a desk of the allocator answers
-abbrev pub Receipts : Type 0
-Receipts = List (Receipt Call Reply)
 
 abbrev pub calls_of : Receipts → List Call
 calls_of receipts = map (λ (r : Receipt Call Reply). r.entry.call) receipts

@@ -3,14 +3,13 @@
 //! What a session writes is the transcript of its lines, whatever the desk answers, or the beginning of it.
 #![tactic(auto)]
 
-mod desk;
 mod fault;
 mod lines;
 mod lone;
 mod replies;
 mod session;
 
-pub use desk::Desk;
+pub use casa_desk::Desk;
 pub use fault::SessionFault;
 pub use lone::Lone;
 pub use session::run;

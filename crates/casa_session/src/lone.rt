@@ -4,10 +4,10 @@ ghost use Rattle.std.specs.Prelude.{◌≡◌, ◌≢◌, ◌∷◌, [], ◌++�
 ghost use Rattle.casa_session.specs.Alone.{LoneEnds};
 ghost use Rattle.casa_session.specs.Played.{receipts_played};
 
-use crate::desk::Desk;
 use crate::fault::SessionFault;
 use crate::session::run;
 use casa_commit::{CallFault, Room};
+use casa_desk::Desk;
 use casa_flight::{Call, Reply};
 use casa_history::{Pass, Receipt};
 use casa_plan::answer;

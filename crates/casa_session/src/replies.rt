@@ -5,9 +5,9 @@ ghost use Rattle.std.specs.Io.KnownBytes.{Appends};
 ghost use Rattle.casa_output.specs.Sending.{counted};
 ghost use Rattle.casa_wire.specs.Commands.{line_call};
 
-use crate::desk::Desk;
 use crate::fault::SessionFault;
 use casa_commit::CallFault;
+use casa_desk::Desk;
 use casa_output::send;
 use casa_wire::{WireFault, push_fault, push_reply, read_call, too_long_line};
 use std::alloc::Global;

@@ -2,10 +2,10 @@
 
 ghost use Rattle.casa_session.specs.Transcript.{Ends};
 
-use crate::desk::Desk;
 use crate::fault::SessionFault;
 use crate::lines::{Chunk, LineFault, LineReader};
 use crate::replies::Replies;
+use casa_desk::Desk;
 use std::alloc::Global;
 use std::io::{Read, Write};
 

@@ -1,5 +1,8 @@
+//! What answers calls: desks, by what they have answered.
+#![tactic(auto)]
+
 ghost use Rattle.std.specs.Prelude.{◌≡◌, ◌∷◌, [], ◌++◌, Err, IfOk, OnErr};
-ghost use Rattle.casa_session.specs.Transcript.{Receipts};
+ghost use Rattle.casa_desk.specs.Receipts.{Receipts};
 
 use casa_commit::CallFault;
 use casa_flight::{Call, Reply};
