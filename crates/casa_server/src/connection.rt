@@ -1,0 +1,68 @@
+ghost use Rattle.std.specs.Prelude.{◌≡◌, [], ⊤};
+ghost use Rattle.casa_history.specs.Entries.{receipts};
+ghost use Rattle.casa_engine.specs.Passes.{pass_of};
+ghost use Rattle.casa_session.specs.Transcript.{Ends};
+
+use casa_commit::DeskFault;
+use casa_engine::{DeskPass, Engine, EngineDesk, Gate};
+use casa_session::{SessionFault, run};
+use casa_view::{Board, Copies};
+use std::alloc::Global;
+use std::io::{Read, Write};
+use std::net::TcpStream;
+use std::sync::Wait;
+use std::sync::ledger::Ledger;
+
+/// A connection with the pass of a desk that is its own.
+///
+/// Its type says that the pass has no receipt: nobody has made a call by it. Since a pass can't be cloned, nobody else
+/// will.
+#[derive(Drop)]
+pub(crate) struct Connection<L: Ledger> {
+    stream: TcpStream,
+    pass: DeskPass<L>,
+    ghost unused: { receipts (pass_of pass) ≡ [] },
+}
+
+impl<L: Ledger> Connection<L> {
+    /// Opens a desk for a connection; where it is refused, the connection is closed.
+    pub(crate) fn open<G: Gate<Board<Copies>>, R: Wait>(
+        rt: &R,
+        engine: &Engine<L, G>,
+        stream: TcpStream,
+    ) -> Result<Connection<L>, DeskFault> {
+        let pass = engine.desk(rt)?;
+        Ok(Connection { stream, pass })
+    }
+
+    /// Answers the lines of the connection until it ends, says how many there were, and closes it.
+    pub(crate) fn answer<G: Gate<Board<Copies>>, R: Wait>(
+        self,
+        rt: &R,
+        alloc: Global,
+        engine: &Engine<L, G>,
+    ) -> Result<u64, SessionFault> {
+        let Connection { stream, pass } = self;
+        // A system that refuses it may send replies later; it sends them all the same.
+        let _ = stream.set_nodelay(true);
+        let (ended, _pass) = session(rt, alloc, engine, pass, &mut &stream, &mut &stream);
+        ended
+    }
+}
+
+/// Answers the lines of a reader at a writer by the desk of this pass, as every session does. Gives the pass back.
+fn session<L: Ledger, G: Gate<Board<Copies>>, R: Wait, I: Read, O: Write>(
+    rt: &R,
+    alloc: Global,
+    engine: &Engine<L, G>,
+    pass: DeskPass<L>,
+    reader: &mut I,
+    writer: &mut O,
+) -> (Result<u64, SessionFault>, DeskPass<L>)
+    ensures { Ends ⊤ result.0 (I.remaining reader.old) (I.remaining reader.new)
+        (receipts (pass_of pass)) (receipts (pass_of result.1)) (O.contents writer.old) (O.contents writer.new) }
+{
+    let mut desk = EngineDesk::new(engine, rt, pass);
+    let ended = run(alloc, reader, writer, &mut desk);
+    (ended, desk.into_pass())
+}

@@ -1,0 +1,13 @@
+//! Serves an engine: connections that are answered by desks of their own, and the timer that moves its clock.
+#![tactic(auto)]
+
+mod clock;
+mod connection;
+mod fault;
+mod moments;
+mod server;
+
+pub use clock::{DayClock, timer};
+pub use fault::{ServeFault, TimerFault};
+pub use moments::moment_at;
+pub use server::{Served, serve};

@@ -1,0 +1,201 @@
+//! A server, its clients and a timer on one engine.
+
+ghost use Rattle.std.specs.Prelude.{Some};
+ghost use Rattle.casa_engine.specs.Ledgers.{IsBlankOf};
+
+use crate::clients::{FILING, HALF_A_LINE, NOTHING, OPENING, Talk, talk_in_turn};
+use casa_engine::{Direct, Engine, blank};
+use casa_server::{DayClock, ServeFault, Served, TimerFault, serve, timer};
+use casa_time::Moment;
+use std::alloc::Global;
+use std::marker::Brand;
+use std::net::{Net, TcpListener, TcpStream};
+use std::sync::Wait;
+use std::sync::ledger::{Blank, Ledger};
+use std::test::Fail;
+use std::thread;
+use std::thread::Threads;
+
+/// A clock that tells these moments.
+#[derive(Drop)]
+struct Told<'a> {
+    left: &'a [Moment],
+}
+
+impl<'a> DayClock for Told<'a> {
+    ghost coming = { λ clock. Some clock.left.now };
+
+    fn next(&mut self) -> Option<Moment> {
+        let (first, rest) = self.left.split_first()?;
+        self.left = rest;
+        Some(*first)
+    }
+}
+
+/// So many desks are opened; then so many connections are served, to clients who talk, and when they have done so, and are
+/// still connected, the timer ticks to these moments. A listener that does not wait fails where no client is there.
+#[derive(Clone, Copy)]
+struct Scene<'a> {
+    desks: u32,
+    waits: bool,
+    connections: u32,
+    talks: &'a [Talk],
+    told: &'a [Moment],
+}
+
+/// What is seen of it.
+#[derive(Clone, Copy, PartialEq, Eq, Debug)]
+struct Seen {
+    served: Result<Served, ServeFault>,
+    /// Whether each client got its reply.
+    replied: bool,
+    ticked: Result<u32, TimerFault>,
+}
+
+/// Plays a scene on a new engine.
+fn play<
+    L: Ledger + Send + Sync,
+    R: Net<Listener = TcpListener, Stream = TcpStream> + Threads + Wait + Sync,
+>(rt: &R, alloc: Global, blank: Blank, scene: Scene) -> Result<Seen, Fail>
+    requires { IsBlankOf L.name L.parts blank.name blank.parts }
+{
+    let engine = Engine::<L, Direct>::new(alloc, blank, 7, Direct)?;
+    play_on(rt, alloc, &engine, scene)
+}
+
+/// Plays a scene on an engine.
+fn play_on<
+    L: Ledger + Send + Sync,
+    R: Net<Listener = TcpListener, Stream = TcpStream> + Threads + Wait + Sync,
+>(rt: &R, alloc: Global, engine: &Engine<L, Direct>, scene: Scene) -> Result<Seen, Fail> {
+    for _ in 0..scene.desks {
+        engine.desk(rt)?;
+    }
+    let listener = TcpListener::bind(rt, "127.0.0.1:0")?;
+    listener.set_nonblocking(!scene.waits)?;
+    let server = listener.local_addr()?;
+    let (served, (replied, ticked)) = thread::join(
+        rt,
+        || serve(rt, alloc, &listener, engine, scene.connections),
+        || {
+            let clients = talk_in_turn(rt, alloc, server, scene.talks);
+            let mut clock = Told { left: scene.told };
+            let ticked = timer(rt, alloc, &mut clock, engine, 9);
+            (clients.is_ok(), ticked)
+        },
+    );
+    Ok(Seen {
+        served,
+        replied,
+        ticked,
+    })
+}
+
+const SERVED: Served = Served {
+    sessions: 2,
+    faulted: 0,
+};
+
+/// A connection stays open while another one is answered, and both are answered on one engine.
+#[test]
+fn two_connections(rt: HostRuntime) -> Result<(), Fail> {
+    let scene = Scene {
+        desks: 0,
+        waits: true,
+        connections: 2,
+        talks: &[OPENING, FILING],
+        told: &[Moment::new(22_800)?],
+    };
+    let seen = Seen {
+        served: Ok(SERVED),
+        replied: true,
+        ticked: Ok(1),
+    };
+    assert_eq!(&rt; play::<Brand, _>(&rt, rt.alloc(), blank(), scene)?, seen);
+    Ok(())
+}
+
+/// A tick that would set the clock back is not counted.
+#[test]
+fn a_clock_that_goes_back(rt: HostRuntime) -> Result<(), Fail> {
+    let (later, earlier) = (Moment::new(22_800)?, Moment::new(22_799)?);
+    let scene = Scene {
+        desks: 0,
+        waits: true,
+        connections: 2,
+        talks: &[OPENING, FILING],
+        told: &[later, earlier, later],
+    };
+    let seen = Seen {
+        served: Ok(SERVED),
+        replied: true,
+        ticked: Ok(2),
+    };
+    assert_eq!(&rt; play::<Brand, _>(&rt, rt.alloc(), blank(), scene)?, seen);
+    Ok(())
+}
+
+/// Where all desks are open, a connection is closed, and the timer has no desk either.
+#[test]
+fn a_connection_that_is_refused(rt: HostRuntime) -> Result<(), Fail> {
+    let scene = Scene {
+        desks: 1_024,
+        waits: true,
+        connections: 1,
+        talks: &[NOTHING],
+        told: &[],
+    };
+    let served = Served {
+        sessions: 1,
+        faulted: 1,
+    };
+    let seen = Seen {
+        served: Ok(served),
+        replied: true,
+        ticked: Err(TimerFault::NoDesk),
+    };
+    assert_eq!(&rt; play::<Brand, _>(&rt, rt.alloc(), blank(), scene)?, seen);
+    Ok(())
+}
+
+/// What a client sent of a line before it ended is answered as a line, and is no fault of the session.
+#[test]
+fn a_line_that_breaks_off(rt: HostRuntime) -> Result<(), Fail> {
+    let scene = Scene {
+        desks: 0,
+        waits: true,
+        connections: 1,
+        talks: &[HALF_A_LINE],
+        told: &[],
+    };
+    let served = Served {
+        sessions: 1,
+        faulted: 0,
+    };
+    let seen = Seen {
+        served: Ok(served),
+        replied: true,
+        ticked: Ok(0),
+    };
+    assert_eq!(&rt; play::<Brand, _>(&rt, rt.alloc(), blank(), scene)?, seen);
+    Ok(())
+}
+
+/// A server whose listener gives no connection ends by that fault.
+#[test]
+fn a_listener_that_fails(rt: HostRuntime) -> Result<(), Fail> {
+    let scene = Scene {
+        desks: 0,
+        waits: false,
+        connections: 1,
+        talks: &[],
+        told: &[],
+    };
+    let seen = Seen {
+        served: Err(ServeFault::AcceptFailed),
+        replied: true,
+        ticked: Ok(0),
+    };
+    assert_eq!(&rt; play::<Brand, _>(&rt, rt.alloc(), blank(), scene)?, seen);
+    Ok(())
+}
