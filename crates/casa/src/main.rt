@@ -1,29 +1,54 @@
-//! Casa allocates departure slots: `casa run` answers command lines, and `casa report` prints a regulation's list.
+//! Casa allocates departure slots: `casa run` answers command lines, `casa report` prints a regulation's list, and `casa
+//! serve` answers the desks that connect.
 #![tactic(auto)]
 
-use casa_flight::RegId;
 use casa_session::Lone;
-use casa_tasks::{ProgramFault, outcome, report};
+use casa_tasks::{ProgramFault, Timing, outcome, report, serve_desks};
 use casa_words::{Task, TaskFault, task};
 use clap::Command;
 use clap::error::ErrorKind;
 use jiff::civil::Date;
 use std::alloc::Global;
+use std::io::{Read, Write};
+use std::net::{Net, TcpListener, TcpStream};
 use std::process::ExitCode;
+use std::sync::Wait;
+use std::thread::Threads;
+use std::time::Clock;
 use std::{env, io};
 
 fn main(rt: HostRuntime) -> ExitCode {
-    match carry_out(&rt) {
+    let done = match asked(&rt) {
+        Ok(task) => {
+            let (mut reader, mut writer) = (rt.reader(), io::writer(&rt));
+            carry_out(&rt, rt.alloc(), &task, &mut reader, &mut writer)
+        }
+        Err(fault) => Err(fault),
+    };
+    match done {
         Ok(()) => ExitCode::SUCCESS,
         Err(fault) => ended_by(&rt, &fault),
     }
 }
 
-/// Does what the words of the command line ask for.
-fn carry_out(rt: &HostRuntime) -> Result<(), ProgramFault> {
-    match asked(rt)? {
-        Task::Run => answer_lines(rt),
-        Task::Report(reg, day) => print_list(rt, &reg, day),
+/// Does what the words of the command line ask for, by this reader and writer where these are needed.
+fn carry_out<
+    N: Net<Listener = TcpListener, Stream = TcpStream> + Threads + Wait + Clock + Sync,
+    R: Read,
+    W: Write,
+>(rt: &N, alloc: Global, task: &Task, reader: &mut R, writer: &mut W) -> Result<(), ProgramFault> {
+    match *task {
+        Task::Run => answer_lines(alloc, reader, writer),
+        Task::Report(reg, day) => report(alloc, &reg, day, reader, writer),
+        Task::Serve {
+            port,
+            connections,
+            turns,
+            day,
+        } => {
+            serve_desks(rt, alloc, port, connections, timing(turns, day))?;
+            Ok(())
+        }
     }
 }
 
@@ -53,16 +78,24 @@ fn unreadable(alloc: Global) -> TaskFault {
     }
 }
 
-/// Answers the command lines on standard input, by a desk that is alone on a board.
-fn answer_lines(rt: &HostRuntime) -> Result<(), ProgramFault> {
-    let mut lone = Lone::new(rt.alloc())?;
-    lone.run(rt.alloc(), &mut rt.reader(), &mut io::writer(rt))?;
+/// Answers the command lines of the reader, by a desk that is alone on a board.
+fn answer_lines<R: Read, W: Write>(
+    alloc: Global,
+    reader: &mut R,
+    writer: &mut W,
+) -> Result<(), ProgramFault> {
+    let mut lone = Lone::new(alloc)?;
+    lone.run(alloc, reader, writer)?;
     Ok(())
 }
 
-/// Prints the regulation's list as it stands after the command lines on standard input.
-fn print_list(rt: &HostRuntime, reg: &RegId, day: Date) -> Result<(), ProgramFault> {
-    report(rt.alloc(), reg, day, &mut rt.reader(), &mut io::writer(rt))
+/// How the clock is to be moved, if it is.
+fn timing(turns: u32, day: Option<Date>) -> Option<Timing> {
+    let day = day?;
+    if turns == 0 {
+        return None;
+    }
+    Some(Timing { day, turns })
 }
 
 /// Says why the program did not do what it was asked for, and with which status it ends.

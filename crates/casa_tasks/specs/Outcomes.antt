@@ -6,8 +6,9 @@ use Rattle.clap.specs.declared.error.kind.ErrorKind.TheVariants.{DisplayHelp, Di
 use Rattle.casa_words.specs.declared.kinds.TaskFault.TheVariants.{Words, BadReg, BadDay}
 use Rattle.casa_session.specs.Faults.{session_fault_name}
 use Rattle.casa_report.specs.Faults.{name_of as report_fault_name}
+use Rattle.casa_server.specs.Faults.{serve_fault_name}
 use Rattle.casa_tasks.specs.declared.fault.ProgramFault.{ProgramFault}
-use Rattle.casa_tasks.specs.declared.fault.ProgramFault.TheVariants.{Task, Session, Report, NoRegulation, NoMemory}
+use Rattle.casa_tasks.specs.declared.fault.ProgramFault.TheVariants.{Task, Session, Report, NoRegulation, BindFailed, Serve, NoMemory}
 
 -- who asks for help or the version made no mistake
 abbrev pub words_status : ErrorKind → ℕ
@@ -23,4 +24,6 @@ outcome_of (Task BadDay) = (2, codes "BadDay")
 outcome_of (Session fault) = (1, session_fault_name fault)
 outcome_of (Report fault) = (1, report_fault_name fault)
 outcome_of NoRegulation = (1, codes "NoRegulation")
+outcome_of BindFailed = (1, codes "BindFailed")
+outcome_of (Serve fault) = (1, serve_fault_name fault)
 outcome_of NoMemory = (1, codes "NoMemory")

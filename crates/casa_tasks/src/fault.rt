@@ -2,6 +2,7 @@ ghost use Rattle.std.specs.Prelude.{◌≡◌};
 ghost use Rattle.casa_tasks.specs.Outcomes.{outcome_of, words_status};
 
 use casa_report::ReportFault;
+use casa_server::ServeFault;
 use casa_session::SessionFault;
 use casa_words::TaskFault;
 use clap::error::ErrorKind;
@@ -29,6 +30,12 @@ pub enum ProgramFault {
     /// The regulation is not open.
     #[error("the regulation is not open")]
     NoRegulation,
+    /// Nobody may listen on the port, or another program does.
+    #[error("the port cannot be had")]
+    BindFailed,
+    /// The server ended before it had accepted all its connections.
+    #[error("{0}")]
+    Serve(ServeFault),
     /// There is no memory.
     #[error("there is no memory")]
     NoMemory,
@@ -64,6 +71,16 @@ impl From<ReportFault> for ProgramFault {
     }
 }
 
+impl From<ServeFault> for ProgramFault {
+    ghost use Rattle.casa_tasks.specs.declared.fault.ProgramFault.TheVariants.{Serve};
+
+    ghost from_gives = { λ cause fault. fault ≡ Serve cause };
+
+    fn from(cause: ServeFault) -> ProgramFault {
+        ProgramFault::Serve(cause)
+    }
+}
+
 /// The exit status at a fault, and the name to print; clap prints its own text where it refuses the words, so that the
 /// name is then empty. The status is 0 where they ask for help or the version, 2 at other words, and 1 at all else.
 pub fn outcome(fault: &ProgramFault) -> (u8, &'static str)
@@ -76,6 +93,8 @@ pub fn outcome(fault: &ProgramFault) -> (u8, &'static str)
         ProgramFault::Session(fault) => (FAILED, fault.name()),
         ProgramFault::Report(fault) => (FAILED, fault.name()),
         ProgramFault::NoRegulation => (FAILED, "NoRegulation"),
+        ProgramFault::BindFailed => (FAILED, "BindFailed"),
+        ProgramFault::Serve(fault) => (FAILED, fault.name()),
         ProgramFault::NoMemory => (FAILED, "NoMemory"),
     }
 }

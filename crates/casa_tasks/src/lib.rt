@@ -2,7 +2,9 @@
 #![tactic(auto)]
 
 mod fault;
+mod serving;
 mod table;
 
 pub use fault::{ProgramFault, outcome};
+pub use serving::{Timing, serve_desks};
 pub use table::report;

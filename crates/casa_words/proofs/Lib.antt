@@ -1,1 +1,4 @@
 pub mod Values
+pub mod Numbers
+pub mod Walks
+pub mod Served

@@ -1,20 +1,46 @@
 -- The words of the command line, and what they ask for.
-use Rattle.std.specs.Prelude.{ℕ, ◌==◌, ◌&&◌, Bool, true, if◌then◌else◌, List, length, Option, Some, None, option_and_then, option_map, codes, bytes_eq, nat_le, slice_index, Result, Ok, Err}
+use Rattle.std.specs.Prelude.{ℕ, pos, ◌==◌, ◌&&◌, ◌||◌, Bool, true, if◌then◌else◌, List, length, Option, Some, None, is_some, option_and_then, option_map, unwrap_or, codes, bytes_eq, nat_le, slice_index, Result, Ok, Err}
 use Rattle.std.specs.List.{list_all, slice_range}
-use Rattle.clap.specs.Words.{App, Row, Rule, first_of, new_app, new_rule, subcommand_of, with_rule, with_subcommand}
+use Rattle.std.specs.Str.Parse.{digits_value, without_leading_plus}
+use Rattle.clap.specs.Walk.{is_empty}
+use Rattle.clap.specs.Words.{App, Row, Rule, fault_of, first_of, new_app, new_rule, one_of, subcommand_of, with_rule, with_subcommand}
+use Rattle.clap.specs.declared.builder.value_parser.ValueParser.TheVariants.{Signed}
 use Rattle.jiff_fmt.specs.Temporal.{DateParts, parse_date}
 use Rattle.casa_flight.specs.Text.{Text, is_name}
 
--- `--name VALUE`, which must be there
+-- `--name VALUE`
 abbrev pub option_rule : Text → Rule
-option_rule name = record (new_rule name) { long = Some name; required = true; value_names = 1 }
+option_rule name = record (new_rule name) { long = Some name; value_names = 1 }
 
--- `run` takes no words; `report` takes `--reg` and `--day`
+-- the option must be there
+abbrev pub needed : Rule → Rule
+needed rule = record rule { required = true }
+
+-- its value must be a number in these bounds
+abbrev pub number_between : ℕ → ℕ → Rule → Rule
+number_between low high rule = record rule { parser = Some (Signed (pos low) (pos high)) }
+
+-- `run` takes no words; `report` takes `--reg` and `--day`; `serve` takes `--port`, and may take the others
 abbrev pub run_app : App
 run_app = new_app (codes "run")
 
 abbrev pub report_app : App
-report_app = with_rule (with_rule (new_app (codes "report")) (option_rule (codes "reg"))) (option_rule (codes "day"))
+report_app =
+    with_rule (with_rule (new_app (codes "report"))
+    (needed (option_rule (codes "reg"))))
+    (needed (option_rule (codes "day")))
+
+abbrev pub serve_without_clock : App
+serve_without_clock =
+    with_rule (with_rule (new_app (codes "serve"))
+    (needed (number_between 1 65535 (option_rule (codes "port")))))
+    (number_between 0 4294967295 (option_rule (codes "connections")))
+
+abbrev pub serve_app : App
+serve_app =
+    with_rule (with_rule serve_without_clock
+    (option_rule (codes "day")))
+    (number_between 0 4294967295 (option_rule (codes "turns")))
 
 -- `casa` has a version; one of its subcommands must be named, and help is shown where there are no words
 abbrev pub casa_alone : App
@@ -23,12 +49,13 @@ casa_alone =
     record named { top = record named.top { has_version = true; subcommand_required = true; arg_required_else_help = true } }
 
 abbrev pub casa_app : App
-casa_app = with_subcommand (with_subcommand casa_alone run_app.top) report_app.top
+casa_app = with_subcommand (with_subcommand (with_subcommand casa_alone run_app.top) report_app.top) serve_app.top
 
 -- what the words can ask for
 pub data Request : Type 0 where
   run : Request
   report : Text → DateParts → Request
+  serve : (port connections turns : ℕ) → (day : Option DateParts) → Request
 
 -- and which value can be wrong, in the order of the checks
 pub data WrongValue : Type 0 where
@@ -75,9 +102,38 @@ report_of rows = do
   day ← or_wrong wrong_day (option_and_then day_of (first_of (codes "day") rows))
   Ok (report reg day)
 
-abbrev pub named_request : Text × List Row → Result Request WrongValue
-named_request (name, rows) = if bytes_eq name (codes "run") then Ok run else report_of rows
+-- the number after an option, where there is one
+abbrev pub number_of : Text → List Row → Option ℕ
+number_of name rows = option_map (λ text. digits_value 10 (without_leading_plus text)) (one_of name rows)
 
--- what the words ask for, where they name a subcommand with the words that it takes
+abbrev pub connections_of : List Row → ℕ
+connections_of rows = unwrap_or (number_of (codes "connections") rows) 1
+
+abbrev pub turns_of : List Row → ℕ
+turns_of rows = unwrap_or (number_of (codes "turns") rows) 0
+
+-- a day that is given must be one
+abbrev pub checked_day : Option Text → Result (Option DateParts) WrongValue
+checked_day None = Ok None
+checked_day (Some text) = or_wrong wrong_day (option_map (λ day. Some day) (day_of text))
+
+-- the turns of a clock need the day
+abbrev pub day_for : ℕ → Option DateParts → Result (Option DateParts) WrongValue
+day_for turns day = if turns == 0 || is_some day then Ok day else Err wrong_day
+
+abbrev pub serve_at : List Row → ℕ → Result Request WrongValue
+serve_at rows port = do
+  given ← checked_day (first_of (codes "day") rows)
+  day ← day_for (turns_of rows) given
+  Ok (serve port (connections_of rows) (turns_of rows) day)
+
+abbrev pub named_request : Text × List Row → Option (Result Request WrongValue)
+named_request (name, rows) =
+    if bytes_eq name (codes "run") then Some (Ok run)
+    else if bytes_eq name (codes "serve") then option_map (serve_at rows) (number_of (codes "port") rows)
+    else Some (report_of rows)
+
+-- what the words ask for, where clap finds no fault in them and they name a subcommand
 abbrev pub request_of : List Text → Option (Result Request WrongValue)
-request_of words = option_map named_request (subcommand_of casa_app words)
+request_of words =
+    if is_empty (fault_of casa_app words) then option_and_then named_request (subcommand_of casa_app words) else None

@@ -12,8 +12,9 @@ pub const AFTER_HELP: &str = "\
 Examples:
   casa run < examples/first.jsonl
   casa report --reg R1 --day 2025-06-01 < examples/first.jsonl
+  casa serve --port 4750 --connections 8
 
-Commands are lines of JSON on standard input; docs/COMMANDS.md describes each, and its reply.";
+Commands are lines of JSON, on standard input or over a connection; docs/COMMANDS.md describes each, and its reply.";
 
 /// What `run` does.
 pub const RUN_ABOUT: &str = "Answers the command lines on standard input, each by a reply line";
@@ -43,3 +44,32 @@ pub const REG_HELP: &str = "The regulation: 1 to 10 characters of A to Z and 0 t
 
 /// What stands after `--day`.
 pub const DAY_HELP: &str = "The day, for the heading: as 2025-06-01";
+
+/// What `serve` does.
+pub const SERVE_ABOUT: &str =
+    "Answers desks over connections to 127.0.0.1, each with its own command lines";
+
+/// What stands below the options of `serve`.
+pub const SERVE_AFTER_HELP: &str = "\
+Examples:
+  casa serve --port 4750
+  casa serve --port 4750 --connections 8
+  casa serve --port 4750 --connections 8 --day 2025-06-01 --turns 86400
+
+All desks work on one set of regulations and flights, and a connection is one desk: it sends the lines that
+`casa run` reads and gets the same replies. docs/PROTOCOL.md describes what else there is to know.";
+
+/// What stands after `--port`.
+pub const PORT_HELP: &str = "The port to listen on: 1 to 65535";
+
+/// What stands after `--connections`.
+pub const CONNECTIONS_HELP: &str =
+    "How many connections to accept before the end: 0 to 4294967295, 1 if not given";
+
+/// What stands after `--day` of `serve`.
+pub const CLOCK_DAY_HELP: &str =
+    "The day from whose midnight UTC the clock counts, as 2025-06-01; needed with --turns above 0";
+
+/// What stands after `--turns`.
+pub const TURNS_HELP: &str =
+    "How many times to move the clock, once a second: 0 to 4294967295, 0 if not given";

@@ -9,6 +9,17 @@ pub enum Task {
     Run,
     /// `casa report`: the list of a regulation as a table, under a heading with the day.
     Report(RegId, Date),
+    /// `casa serve`: the desks of a day, each over a connection of its own.
+    Serve {
+        /// The port to listen on, 1 to 65,535.
+        port: u16,
+        /// How many connections to accept before the end.
+        connections: u32,
+        /// How often to move the clock, once a second.
+        turns: u32,
+        /// The day from whose midnight UTC the clock counts; it is there where the clock is to be moved.
+        day: Option<Date>,
+    },
 }
 
 /// Why the words ask for nothing, in the order of the checks.
@@ -20,7 +31,7 @@ pub enum TaskFault {
     /// What stands after `--reg` is no identifier: 1 to 10 characters of A to Z and 0 to 9.
     #[error("the regulation is not 1 to 10 characters of A to Z and 0 to 9")]
     BadReg,
-    /// What stands after `--day` is no date in the form `YYYY-MM-DD`.
-    #[error("the day is no date in the form YYYY-MM-DD")]
+    /// What stands after `--day` is no date in the form `YYYY-MM-DD`, or the clock is to be moved and no day is given.
+    #[error("the day is no date in the form YYYY-MM-DD, or is missing")]
     BadDay,
 }
