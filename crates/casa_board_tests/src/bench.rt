@@ -1,11 +1,11 @@
 //! A board with views of it, which the lines of a script write to, take and ask.
 
+use crate::desk::Desk;
 use crate::items::item;
-use crate::text::{call_of, push_shown};
-use casa_commit::{Room, World};
-use casa_flight::{Call, Reply};
-use casa_history::Pass;
-use casa_plan::{answer, plan};
+use crate::lines::call_of;
+use crate::view_text::push_shown;
+use casa_commit::World;
+use casa_flight::Call;
 use casa_view::{Board, Change, Copied, Copies, View};
 use std::alloc::{AllocError, Global};
 
@@ -14,13 +14,6 @@ const ROOM: usize = 10_000;
 
 /// Room for what a line shows, in bytes, so that it does not grow.
 const WIDTH: usize = 100;
-
-/// What is planned to be written for a call in a room.
-fn planned(alloc: Global, room: &Room<Board<Copies>>, call: &Call) -> Result<Change, AllocError> {
-    let view = room.world().view(call)?;
-    let (_, change) = plan(alloc, &view, call)?;
-    Ok(change)
-}
 
 /// Applies a change to a board as the entry with this number.
 fn apply(board: &mut Board<Copies>, number: usize, change: Change) -> Result<(), AllocError> {
@@ -38,11 +31,11 @@ struct Taken {
 
 /// A board, the views that were taken of it, and how many entries wrote to it.
 ///
-/// What calls write is planned in a room beside it, which answers them too. What no call writes, the board alone has.
+/// What calls write is planned by a desk on a room beside it, which answers them too. What no call writes, the board
+/// alone has.
 #[derive(Drop)]
 struct Bench {
-    room: Room<Board<Copies>>,
-    pass: Pass<Call, Reply>,
+    desk: Desk,
     board: Board<Copies>,
     taken: Vec<Taken>,
     entries: usize,
@@ -51,10 +44,8 @@ struct Bench {
 impl Bench {
     /// The board on which nothing is written, with no view; `None` where memory is refused.
     fn new(alloc: Global) -> Option<Bench> {
-        let mut room = Room::new(alloc, Board::new(alloc, Copies::new()).ok()?, 7);
         Some(Bench {
-            pass: room.open_desk().ok()?,
-            room,
+            desk: Desk::new(alloc)?,
             board: Board::new(alloc, Copies::new()).ok()?,
             taken: Vec::new(alloc),
             entries: 0,
@@ -93,12 +84,9 @@ impl Bench {
 
     /// Makes a call, whose change is planned; `None` where memory is refused.
     fn make(&mut self, alloc: Global, call: &Call) -> Option<()> {
-        let change = planned(alloc, &self.room, call).ok()?;
+        let (_, change) = self.desk.planned(alloc, call).ok()?;
         self.apply(change)?;
-        if answer(alloc, &mut self.room, &mut self.pass, call).is_err() {
-            answer(alloc, &mut self.room, &mut self.pass, call).ok()?;
-        }
-        Some(())
+        self.desk.answers(alloc, call).then_some(())
     }
 
     /// Takes a view for a call.

@@ -2,7 +2,7 @@
 //! reference.
 
 use crate::desk::Desk;
-use crate::text::{call_of, reply_of};
+use crate::lines::{quoted_call_of, reply_of};
 use casa_flight::{Call, Reply};
 use casa_plain::Plain;
 use casa_view::{Board, Copies};
@@ -29,8 +29,8 @@ fn agree(
     plain: &mut Plain,
     call: &Call,
 ) -> Result<bool, AllocError> {
-    let planned = match desk.planned(alloc, call) {
-        Ok(reply) => reply,
+    let (planned, _) = match desk.planned(alloc, call) {
+        Ok(planned) => planned,
         Err(AllocError) => desk.planned(alloc, call)?,
     };
     let wanted = match plain.step(alloc, call) {
@@ -55,9 +55,9 @@ fn play(
     line: &str,
     out: &mut String,
 ) -> Option<()> {
-    let call = match call_of(alloc, line) {
+    let call = match quoted_call_of(alloc, line) {
         Some(call) => call,
-        None => call_of(alloc, line)?,
+        None => quoted_call_of(alloc, line)?,
     };
     if !agree(alloc, desk, plain, &call).ok()? {
         return None;

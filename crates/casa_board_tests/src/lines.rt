@@ -1,4 +1,5 @@
-//! Lines as they stand in these tests: commands with other quotation marks, and replies with none.
+//! Lines of commands as calls, and receipts as lines: in some scripts commands stand with other quotation marks, and
+//! replies with none.
 
 use casa_flight::{Call, Reply};
 use casa_history::Receipt;
@@ -12,8 +13,13 @@ fn quoted(alloc: Global, line: &str) -> Result<Vec<u8>, AllocError> {
         .collect(alloc)
 }
 
-/// The call that a line asks for; `None` where it is none, or memory is refused.
+/// The call that a command line asks for; `None` where it is none, or memory is refused.
 pub fn call_of(alloc: Global, line: &str) -> Option<Call> {
+    read_call(alloc, line.as_bytes()).ok()
+}
+
+/// The same of a line that stands here with `'` for each quotation mark.
+pub fn quoted_call_of(alloc: Global, line: &str) -> Option<Call> {
     read_call(alloc, quoted(alloc, line).ok()?.as_slice()).ok()
 }
 

@@ -4,7 +4,7 @@ use casa_commit::{Room, World};
 use casa_flight::{Call, Reply};
 use casa_history::{Pass, Receipt};
 use casa_plan::{answer, board_of, plan};
-use casa_view::{Board, Copies};
+use casa_view::{Board, Change, Copies};
 use std::alloc::{AllocError, Global};
 
 /// The desk, with its room.
@@ -24,11 +24,10 @@ impl Desk {
         }
     }
 
-    /// The reply that is planned for a call, which is not made.
-    pub fn planned(&self, alloc: Global, call: &Call) -> Result<Reply, AllocError> {
+    /// The reply that is planned for a call, which is not made, and what it would write.
+    pub fn planned(&self, alloc: Global, call: &Call) -> Result<(Reply, Change), AllocError> {
         let view = self.room.world().view(call)?;
-        let (reply, _) = plan(alloc, &view, call)?;
-        Ok(reply)
+        plan(alloc, &view, call)
     }
 
     /// Makes a call, and says whether it was answered.

@@ -1,6 +1,6 @@
 //! Catalogues.
 
-use crate::text::call_of;
+use crate::lines::call_of;
 use casa_flight::{Call, Loc, Plan, RegId, Regulation};
 use casa_time::Moment;
 use casa_view::Catalogue;

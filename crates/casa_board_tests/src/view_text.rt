@@ -1,15 +1,9 @@
-//! Lines that are read, and what is written of a view.
+//! What is written of a view.
 
-use casa_flight::{Call, Key, RegId};
+use casa_flight::{Key, RegId};
 use casa_time::Moment;
 use casa_view::{Board, Copied, Copies, View};
-use casa_wire::read_call;
 use std::alloc::Global;
-
-/// The call that a command line asks for; `None` where memory is refused.
-pub fn call_of(alloc: Global, line: &str) -> Option<Call> {
-    read_call(alloc, line.as_bytes()).ok()
-}
 
 /// Writes the keys of a view's rows in their order, with their off-block times.
 fn push_rows(alloc: Global, out: &mut String, view: &View<Copied>) -> Option<()> {

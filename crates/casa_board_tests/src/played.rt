@@ -1,9 +1,10 @@
 //! Events whose calls are command lines, and what comes of them, in lines.
 
+use crate::lines::call_of;
 use casa_flight::{Call, Reply};
 use casa_history::{Entry, History, Receipt};
 use casa_view::Copies;
-use casa_wire::{read_call, reply_line};
+use casa_wire::reply_line;
 use casa_world::{Event, play};
 use std::alloc::Global;
 use std::process::Abort;
@@ -12,10 +13,7 @@ use std::process::Abort;
 fn called(rt: &impl Abort, alloc: Global, event: &Event<&str>) -> Event<Call> {
     match event {
         Event::Read(worker, line) => {
-            Event::Read(
-                *worker,
-                read_call(alloc, line.as_bytes()).expect(rt, "a command"),
-            )
+            Event::Read(*worker, call_of(alloc, line).expect(rt, "a command"))
         }
         Event::Compute(worker) => Event::Compute(*worker),
         Event::Commit(worker) => Event::Commit(*worker),

@@ -1,0 +1,35 @@
+//! Tests of casa_view, casa_plan and casa_world, through what is public of them.
+//!
+//! They stand in a crate of their own, so that each library is proved once.
+#![tactic(auto)]
+
+#[cfg(test)]
+mod bench;
+#[cfg(test)]
+mod both;
+#[cfg(test)]
+mod catalogue;
+#[cfg(test)]
+mod chance;
+#[cfg(test)]
+mod desk;
+#[cfg(test)]
+mod examples;
+#[cfg(test)]
+mod interleavings;
+#[cfg(test)]
+mod items;
+#[cfg(test)]
+mod lines;
+#[cfg(test)]
+mod plan_scripts;
+#[cfg(test)]
+mod played;
+#[cfg(test)]
+mod refused;
+#[cfg(test)]
+mod versions;
+#[cfg(test)]
+mod view_scripts;
+#[cfg(test)]
+mod view_text;
