@@ -180,13 +180,10 @@ fn casa_command<'a>(alloc: Global) -> Result<Command<'a>, AllocError>
     ensures app { IfOk result (λ command. app_of command ≡ casa_app) }
     ensures local { IfOk result (λ command. (fields_of command).has_globals ≡ false) }
 {
-    let run = run_command(alloc);
-    let report = report_command(alloc)?;
-    let serve = serve_command(alloc)?;
     casa_alone(alloc)?
-        .subcommand(run)?
-        .subcommand(report)?
-        .subcommand(serve)
+        .subcommand(run_command(alloc))?
+        .subcommand(report_command(alloc)?)?
+        .subcommand(serve_command(alloc)?)
 }
 
 /// `casa` without its subcommands, under this name whatever the program's file is called.
