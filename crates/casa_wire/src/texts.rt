@@ -61,8 +61,7 @@ pub fn reply_value(alloc: Global, receipt: &Receipt<Call, Reply>) -> Result<Valu
             json!(in alloc; {"code": code, "n": position, "refused": name})
         }
         Reply::Answered(answer, messages) => {
-            let messages = messages_value(alloc, messages.as_slice())?;
-            answer_value(alloc, answer, messages, position)
+            answer_value(alloc, answer, messages.as_slice(), position)
         }
     }
 }
@@ -70,22 +69,23 @@ pub fn reply_value(alloc: Global, receipt: &Receipt<Call, Reply>) -> Result<Valu
 fn answer_value(
     alloc: Global,
     answer: &Answer,
-    messages: Value,
+    messages: &[Message],
     position: usize,
 ) -> Result<Value, AllocError>
-    ensures { IfOk result (λ value. (ms : List Message) →
-        view messages ≡ messages_data ms → view value ≡ answer_data answer.now ms position) }
+    ensures { IfOk result (λ value. view value ≡ answer_data answer.now messages.now position) }
 {
     match answer {
-        Answer::Done => json!(in alloc; {"done": true, "msgs": messages, "n": position}),
-        Answer::Flight(flight) => {
-            let flight = flight_value(alloc, flight)?;
-            json!(in alloc; {"flight": flight, "msgs": messages, "n": position})
-        }
-        Answer::List(list) => {
-            let list = list_value(alloc, list)?;
-            json!(in alloc; {"list": list, "msgs": messages, "n": position})
-        }
+        Answer::Done => json!(in alloc; {
+            "done": true, "msgs": messages_value(alloc, messages)?, "n": position
+        }),
+        Answer::Flight(flight) => json!(in alloc; {
+            "flight": flight_value(alloc, flight)?, "msgs": messages_value(alloc, messages)?,
+            "n": position
+        }),
+        Answer::List(list) => json!(in alloc; {
+            "list": list_value(alloc, list)?, "msgs": messages_value(alloc, messages)?,
+            "n": position
+        }),
     }
 }
 
@@ -105,10 +105,9 @@ fn message_value(alloc: Global, message: &Message) -> Result<Value, AllocError>
     match message {
         Message::Sam(key, ctot, reg) => slot_value(alloc, "SAM", key, *ctot, reg),
         Message::Srm(key, ctot, reg) => slot_value(alloc, "SRM", key, *ctot, reg),
-        Message::Slc(key) => {
-            let key = name_value(alloc, key.as_bytes())?;
-            json!(in alloc; {"key": key, "kind": "SLC"})
-        }
+        Message::Slc(key) => json!(in alloc; {
+            "key": name_value(alloc, key.as_bytes())?, "kind": "SLC"
+        }),
     }
 }
 
@@ -121,33 +120,32 @@ fn slot_value(
 ) -> Result<Value, AllocError>
     ensures { IfOk result (λ value. view value ≡ slot_data kind.now key.now ctot reg.now) }
 {
-    let key = name_value(alloc, key.as_bytes())?;
-    let reg = name_value(alloc, reg.as_bytes())?;
-    json!(in alloc; {"ctot": ctot, "key": key, "kind": kind, "reg": reg})
+    json!(in alloc; {
+        "ctot": ctot, "key": name_value(alloc, key.as_bytes())?, "kind": kind,
+        "reg": name_value(alloc, reg.as_bytes())?
+    })
 }
 
 fn flight_value(alloc: Global, flight: &FlightReply) -> Result<Value, AllocError>
     ensures { IfOk result (λ value. view value ≡ flight_data flight.now) }
 {
-    let key = name_value(alloc, flight.key.as_bytes())?;
-    let reg = optional_name_value(alloc, &flight.reg)?;
     let (eobt, etot, ctot) = (flight.eobt.secs(), flight.etot, flight.ctot);
     let (delay, exempt, issued) = (flight.delay, flight.exempt, flight.issued);
     json!(in alloc; {
         "ctot": ctot, "delay": delay, "eobt": eobt, "etot": etot,
-        "exempt": exempt, "issued": issued, "key": key, "reg": reg
+        "exempt": exempt, "issued": issued, "key": name_value(alloc, flight.key.as_bytes())?,
+        "reg": optional_name_value(alloc, &flight.reg)?
     })
 }
 
 fn list_value(alloc: Global, list: &ListReply) -> Result<Value, AllocError>
     ensures { IfOk result (λ value. view value ≡ list_data list.now) }
 {
-    let loc = name_value(alloc, list.loc.as_bytes())?;
-    let reg = name_value(alloc, list.reg.as_bytes())?;
-    let rows = rows_value(alloc, list.rows.as_slice())?;
     let (start, end, slots) = (list.start.secs(), list.end.secs(), list.slots);
     json!(in alloc; {
-        "end": end, "loc": loc, "reg": reg, "rows": rows, "slots": slots, "start": start
+        "end": end, "loc": name_value(alloc, list.loc.as_bytes())?,
+        "reg": name_value(alloc, list.reg.as_bytes())?,
+        "rows": rows_value(alloc, list.rows.as_slice())?, "slots": slots, "start": start
     })
 }
 
@@ -164,11 +162,11 @@ fn rows_value(alloc: Global, rows: &[ListRow]) -> Result<Value, AllocError>
 fn row_value(alloc: Global, row: &ListRow) -> Result<Value, AllocError>
     ensures { IfOk result (λ value. view value ≡ row_data row.now) }
 {
-    let key = name_value(alloc, row.key.as_bytes())?;
-    let kind = kind_name(row.kind);
-    let slot = optional_number_value(row.slot);
     let (eto, cto) = (row.eto.secs(), row.cto);
-    json!(in alloc; {"cto": cto, "eto": eto, "key": key, "kind": kind, "slot": slot})
+    json!(in alloc; {
+        "cto": cto, "eto": eto, "key": name_value(alloc, row.key.as_bytes())?,
+        "kind": kind_name(row.kind), "slot": optional_number_value(row.slot)
+    })
 }
 
 /// The kind's name, as in `"pre"`.
