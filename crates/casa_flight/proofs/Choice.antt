@@ -1,10 +1,10 @@
 -- the offer that is chosen: it is of an open regulation, at a time from the flight's own to the regulation's end
-use Rattle.std.proofs.Common.{◌≡◌, ℕ, ◌-◌, ◌<◌, ◌≤◌, List, [], ◌∷◌, Bool, true, false, cond, refl, sym, ap, ◌∙◌, Option, None, Some, subst, nat_lt, arith}
-use Rattle.std.specs.Option.{option_map}
+use Rattle.std.proofs.Common.{◌≡◌, ℕ, ◌-◌, ◌<◌, ◌≤◌, List, [], ◌∷◌, Bool, true, false, cond, ◌&&◌, refl, sym, ap, ◌∙◌, Option, None, Some, subst, nat_lt, nat_le, arith}
+use Rattle.std.specs.Option.{option_map, option_and_then}
 use Rattle.std.specs.List.{AllByRecursion, best_of, find, filter_map, cons_option}
 use Rattle.std.specs.List.Sorted.{IsStrictlySortedBy}
 use Rattle.std.specs.Map.{keys_of}
-use Rattle.std.proofs.lemmas.Bool.{and_parts, ltb-true}
+use Rattle.std.proofs.lemmas.Bool.{and_parts, ltb-true, leb-true}
 use Rattle.casa_grid.specs.declared.slot.Window.{Window}
 use Rattle.casa_grid.specs.declared.slot.Place.{Place}
 use Rattle.casa_grid.specs.declared.slot.Place.TheVariants.{Slot, Over}
@@ -18,33 +18,30 @@ use Rattle.casa_flight.specs.declared.row.Row.{Row}
 use Rattle.casa_flight.specs.declared.state.State.{State}
 use Rattle.casa_flight.specs.Text.{Text, at_name}
 use Rattle.casa_flight.specs.FlightPlan.{FlightPlan}
-use Rattle.casa_flight.specs.State.{regulation, crosses, subject}
+use Rattle.casa_flight.specs.State.{regulation, is_there, covered, subject}
 use Rattle.casa_flight.specs.Listing.{Listing, listing, place_of}
 use Rattle.casa_flight.specs.Entry.{Offer, offer_in, offer, offers, most_penalising, choice, situation, with_competitor}
 use Rattle.casa_flight.specs.Good.{IsOutside}
 use Rattle.casa_flight.proofs.Entries.{text_cmp, each_found, all-filter_map, filter_map-map}
 
--- what is found passes the test
-find-passes : {X : Type 0} (p : X → Bool) (x : X) (xs : List X) → find p xs ≡ Some x → p x ≡ true
-find-passes p x [] h = cc
-find-passes {X} p x (y ∷ ys) h =
-    elim (p y) as (λ b. p y ≡ b → cond b (Some y) (find p ys) ≡ Some x → p x ≡ true) [
-      | true ↦ λ t f. let same : y ≡ x = cc in subst (λ (z : X). p z ≡ true) same t
-      | false ↦ λ t f. find-passes p x ys f
+-- a crossing that a regulation covers is there from its start to before its end
+pub in_span : (r : Regulation) (c : Crossing) (eto : ℕ) → covered r c ≡ Some eto → (c.eto ≡ eto) × (r.start ≤ eto) × (eto < r.end)
+in_span r c eto h =
+    elim (nat_le r.start c.eto && nat_lt c.eto r.end) as (λ b. (nat_le r.start c.eto && nat_lt c.eto r.end) ≡ b → cond b (Some c.eto) None ≡ Some eto → (c.eto ≡ eto) × (r.start ≤ eto) × (eto < r.end)) [
+      | true ↦ λ t f.
+          let time : c.eto ≡ eto = cc in
+          let parts = and_parts (nat_le r.start c.eto) (nat_lt c.eto r.end) t in
+          (time, subst (λ n. r.start ≤ n) time (leb-true r.start c.eto parts.0), subst (λ n. n < r.end) time (ltb-true c.eto r.end parts.1))
+      | false ↦ λ t f. cc
     ] refl h
-
-before_end : (r : Regulation) (c : Crossing) → crosses r c ≡ true → c.eto < r.end
-before_end r c h = ltb-true c.eto r.end (and_parts _ _ (and_parts _ _ h).1).1
 
 -- a flight that is subject to a regulation is there before its end
 pub eto-before_end : (plan : FlightPlan) (r : Regulation) (eto : ℕ) → subject plan r ≡ Some eto → eto < r.end
-eto-before_end plan r eto h =
-    elim (find (crosses r) plan.via) as (λ (o : Option Crossing). find (crosses r) plan.via ≡ o → option_map (λ (c : Crossing). c.eto) o ≡ Some eto → eto < r.end) [
-      | None ↦ λ found same. cc
-      | Some c ↦ λ found same.
-          let time : c.eto ≡ eto = cc in
-          subst (λ n. n < r.end) time (before_end r c (find-passes (crosses r) c plan.via found))
-    ] refl h
+eto-before_end plan r eto h = by (find (is_there r.loc) plan.via) h
+  where
+    by : (w : Option Crossing) → option_and_then (covered r) w ≡ Some eto → eto < r.end
+    by None f = cc
+    by (Some c) f = (in_span r c eto f).2
 
 -- a calculated time over is from the estimated one to the end
 pub cto-between : (ws : List Window) (end eto : ℕ) (place : Place) → eto < end → (eto ≤ cto ws end eto place) × (cto ws end eto place ≤ end)

@@ -15,6 +15,7 @@ pub mod MovesNobody
 pub mod Lists
 pub mod Times
 pub mod Choice
+pub mod Crossings
 pub mod Good
 pub mod GoodTick
 pub mod GoodRegs

@@ -1,6 +1,6 @@
 //! Laws of the definitions, each on a function that does nothing: what the contracts of this crate mean.
 
-ghost use Rattle.std.specs.Prelude.{◌≡◌, ◌↔◌, ◌⊎◌, ℕ, ◌-◌, ◌≤◌, Bool, List, [], ◌∷◌, ◌++◌, take, length, map, not, Option, Some, None, true, is_some, unwrap_or, false};
+ghost use Rattle.std.specs.Prelude.{◌≡◌, ◌↔◌, ◌⊎◌, ℕ, ◌-◌, ◌≤◌, ◌<◌, Bool, List, [], ◌∷◌, ◌++◌, take, length, map, not, Option, Some, None, true, is_some, unwrap_or, false};
 ghost use Rattle.std.specs.Option.{option_map, option_and_then};
 ghost use Rattle.std.specs.List.{All, AllPairs, Contains, filter};
 ghost use Rattle.std.specs.List.Sorted.{IsStrictlySortedBy};
@@ -279,4 +279,12 @@ pub fn tick_moves_nobody()
 pub fn valid_plan_has_no_fault()
     ensures { (key : Text) (eobt taxi : ℕ) (via : List Crossing) →
         (plan_fault key eobt taxi via ≡ None) ↔ ((is_name key ≡ true) × IsValid eobt taxi via) }
+{}
+
+/// A valid plan is subject to a regulation, at an estimated time over, exactly where it crosses the regulation's location
+/// at that time and the regulation lasts then: from its start on and before its end.
+pub fn subject_is_by_the_crossing()
+    ensures { (plan : FlightPlan) (r : Regulation) (eto : ℕ) → IsValid plan.eobt plan.taxi plan.via →
+        let there : Crossing = record { loc = r.loc; eto = eto } in
+        (subject plan r ≡ Some eto) ↔ (Contains plan.via there × (r.start ≤ eto) × (eto < r.end)) }
 {}

@@ -26,8 +26,8 @@ pub use laws::{
     competitors_are_in_order, delay_is_of_the_place, entering_flights_are_in_order,
     good_states_are_kept, issue_moves_nobody, issued_times_stay, later_competitors_change_nothing,
     messages_of_calls, offer_is_the_delay_there, offers_are_of_open_regulations,
-    only_waiting_flights_are_served, places_rise, rows_are_in_order, tick_moves_nobody,
-    valid_plan_has_no_fault, written_row_changes_its_entries,
+    only_waiting_flights_are_served, places_rise, rows_are_in_order, subject_is_by_the_crossing,
+    tick_moves_nobody, valid_plan_has_no_fault, written_row_changes_its_entries,
 };
 pub use name::{Key, Loc, Name, OfFlight, OfLocation, OfRegulation, RegId};
 pub use offer::{Offer, more_penalising, most_penalising};

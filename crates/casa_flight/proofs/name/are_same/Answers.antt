@@ -1,4 +1,4 @@
-use Rattle.std.proofs.Common.{◌≡◌, ◌∙◌, ap, sym, nat_eq}
+use Rattle.std.proofs.Common.{◌∙◌, sym, nat_eq}
 use Rattle.casa_flight.proofs.Numbers.{same_by_second}
 use Rattle.casa_flight.proofs.name.are_same.Goals as goal
 

@@ -1,4 +1,4 @@
-use Rattle.std.proofs.Common.{◌≡◌, ◌∙◌, nat_eq}
+use Rattle.std.proofs.Common.{◌∙◌, nat_eq}
 use Rattle.std.specs.Cmp.Lexicographic.{pointwise}
 use Rattle.casa_flight.proofs.Numbers.{names_eq}
 use Rattle.casa_flight.proofs.name.NamePartialEq.eq.Goals as goal
