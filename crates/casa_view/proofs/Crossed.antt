@@ -17,7 +17,7 @@ use Rattle.casa_flight.specs.FlightPlan.{FlightPlan}
 use Rattle.casa_flight.specs.State.{subject, is_there, covered}
 use Rattle.casa_flight.specs.Good.{AreInOrder}
 use Rattle.casa_flight.specs.Listing.{kept}
-use Rattle.casa_flight.proofs.Kept.{at-kept, sorted-kept}
+use Rattle.casa_laws.proofs.Kept.{at-kept, sorted-kept}
 use Rattle.casa_flight.proofs.Entries.{text_cmp, same_name, named, at-put, at-without_other, each_found}
 use Rattle.casa_flight.proofs.Entries.{filter_map-map}
 use Rattle.casa_view.specs.Gathered.{noted, is_named, HasGathered, HasNoted}
