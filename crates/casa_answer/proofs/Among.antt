@@ -13,9 +13,10 @@ use Rattle.casa_flight.specs.Listing.{is_before}
 use Rattle.casa_flight.specs.Steps.{flights_over}
 use Rattle.casa_flight.specs.Good.{AreInOrder}
 use Rattle.casa_flight.proofs.Entries.{text_cmp, same_name, named, all-each}
-use Rattle.casa_flight.proofs.Kept.{at_above}
-use Rattle.casa_flight.proofs.InOrder.{PairsByRecursion, HasName, AreApart, apart-planned}
-use Rattle.casa_flight.proofs.GoodRegs.{comp_if, any-in_order}
+use Rattle.casa_laws.proofs.Kept.{at_above}
+use Rattle.casa_flight.proofs.PutBy.{PairsByRecursion}
+use Rattle.casa_laws.proofs.InOrder.{HasName, AreApart, apart-planned}
+use Rattle.casa_laws.proofs.GoodRegs.{comp_if, any-in_order}
 use Rattle.casa_answer.proofs.Changes.{test_same}
 use Rattle.casa_answer.proofs.Entered.{AreDistinct}
 use Rattle.casa_answer.proofs.Entries.{enters_among}

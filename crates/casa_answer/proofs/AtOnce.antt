@@ -21,9 +21,9 @@ use Rattle.casa_flight.specs.Listing.{Listing, list_of, stance_of, cto_as, cto_o
 use Rattle.casa_flight.specs.Entry.{is_to_issue, issued_in, issue_if, issue_due}
 use Rattle.casa_flight.specs.Good.{AreInOrder}
 use Rattle.casa_flight.proofs.Entries.{text_cmp, sorted-put, named, apart, same_name, at-put_same, at-put_other, at-map, keys-map}
-use Rattle.casa_flight.proofs.Kept.{at_above, same_entries}
-use Rattle.casa_flight.proofs.Planned.{list_sorted}
-use Rattle.casa_flight.proofs.MovesNobody.{place_issued}
+use Rattle.casa_laws.proofs.Kept.{at_above, same_entries}
+use Rattle.casa_laws.proofs.Planned.{list_sorted}
+use Rattle.casa_laws.proofs.MovesNobody.{place_issued}
 use Rattle.casa_footprint.specs.Finding.{due_keys}
 use Rattle.casa_answer.proofs.Changes.{test_same}
 use Rattle.casa_answer.proofs.Naming.{other_text}

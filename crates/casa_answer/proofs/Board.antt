@@ -11,8 +11,8 @@ use Rattle.casa_flight.specs.State.{row_of, measure_of, with_row}
 use Rattle.casa_flight.specs.Listing.{Listing, listing, list_of, stance_in}
 use Rattle.casa_flight.specs.Good.{AreInOrder}
 use Rattle.casa_flight.proofs.Entries.{named}
-use Rattle.casa_flight.proofs.Kept.{set_at, kept-put, without_absent}
-use Rattle.casa_flight.proofs.Competitors.{put_there}
+use Rattle.casa_laws.proofs.Kept.{set_at, kept-put, without_absent}
+use Rattle.casa_laws.proofs.Competitors.{put_there}
 use Rattle.casa_footprint.specs.Items.{the_clock, the_catalogue, a_row, a_list, moment, regulations, row_or_none, list_or_none}
 use Rattle.casa_footprint.specs.Footprint.{would_write}
 use Rattle.casa_flight.specs.State.{catalogue}

@@ -22,11 +22,11 @@ use Rattle.casa_flight.specs.Entry.{enter_all}
 use Rattle.casa_flight.specs.Steps.{flights_over, freed, closed, close_regulation, leads, step, after}
 use Rattle.casa_flight.specs.Good.{AreInOrder, IsGood, IsGoverned}
 use Rattle.casa_flight.proofs.Entries.{text_cmp, apart, named, all-each, each_found, keys-map, sorted-remove, at-without_other}
-use Rattle.casa_flight.proofs.Kept.{at-without_same}
-use Rattle.casa_flight.proofs.EnterAll.{regs-enter_all, all-flights_over}
-use Rattle.casa_flight.proofs.RegMessages.{freed_plan}
-use Rattle.casa_flight.proofs.GoodRegs.{next-good}
-use Rattle.casa_flight.proofs.ChangeMessages.{StaysOpen, governed_by}
+use Rattle.casa_laws.proofs.Kept.{at-without_same}
+use Rattle.casa_laws.proofs.EnterAll.{regs-enter_all, all-flights_over}
+use Rattle.casa_laws.proofs.RegMessages.{freed_plan}
+use Rattle.casa_laws.proofs.GoodRegs.{next-good}
+use Rattle.casa_laws.proofs.ChangeMessages.{StaysOpen, governed_by}
 use Rattle.casa_footprint.specs.Items.{moment, regulations}
 use Rattle.casa_footprint.specs.Footprint.{is_subject, governs}
 use Rattle.casa_answer.specs.Sight.{Sight, Written, nothing_written, row_with, IsSightOf, IsAnswer, IsPlanned, clock_in, regulations_in}

@@ -17,8 +17,8 @@ use Rattle.casa_flight.specs.Listing.{Listing, listing, list_of, stance, stance_
 use Rattle.casa_flight.specs.Entry.{Situation, situation, entered, reenter, enter_all}
 use Rattle.casa_flight.specs.Good.{AreInOrder}
 use Rattle.casa_flight.proofs.Entries.{sorted-put, apart, all-each, all-both}
-use Rattle.casa_flight.proofs.Kept.{at-kept}
-use Rattle.casa_flight.proofs.Lists.{list_puts}
+use Rattle.casa_laws.proofs.Kept.{at-kept}
+use Rattle.casa_laws.proofs.Lists.{list_puts}
 use Rattle.casa_footprint.specs.Footprint.{is_subject}
 use Rattle.casa_footprint.proofs.Entering.{entered_own}
 use Rattle.casa_answer.specs.Sight.{Sight, Written, row_with}

@@ -18,7 +18,7 @@ use Rattle.casa_flight.specs.Steps.{Step, refused, leads, step, after}
 use Rattle.casa_flight.specs.Replies.{reply_of, answer, flight_answer, flight_reply, flight_with, is_issued, ctot_before, messages}
 use Rattle.casa_flight.specs.Good.{IsGood}
 use Rattle.casa_flight.proofs.Entries.{at-put_same}
-use Rattle.casa_flight.proofs.ChangeMessages.{messages_one}
+use Rattle.casa_laws.proofs.ChangeMessages.{messages_one}
 use Rattle.casa_footprint.specs.Items.{ItemName, the_clock, the_catalogue, a_row, a_list, contents}
 use Rattle.casa_footprint.specs.Footprint.{is_subject, would_write, is_accepted}
 use Rattle.casa_footprint.proofs.Messages.{own_row, messages_self}

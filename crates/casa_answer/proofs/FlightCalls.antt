@@ -20,8 +20,8 @@ use Rattle.casa_flight.specs.Steps.{Step, leads, step, new_row, file, amend, can
 use Rattle.casa_flight.specs.Replies.{reply_of, messages}
 use Rattle.casa_flight.specs.Messages.{messages_in}
 use Rattle.casa_flight.specs.Good.{IsGood}
-use Rattle.casa_flight.proofs.Times.{delay_free}
-use Rattle.casa_flight.proofs.RegMessages.{call_silent}
+use Rattle.casa_laws.proofs.Times.{delay_free}
+use Rattle.casa_laws.proofs.RegMessages.{call_silent}
 use Rattle.casa_footprint.specs.Items.{ItemName, the_clock, the_catalogue, a_row, a_list}
 use Rattle.casa_footprint.specs.Footprint.{is_subject, is_list_of, governs, reads, holds, would_write}
 use Rattle.casa_footprint.proofs.Names.{text_itself}

@@ -14,8 +14,8 @@ use Rattle.casa_flight.specs.State.{row_of, measure_of, regulation, catalogue, s
 use Rattle.casa_flight.specs.Listing.{Listing, listing, list_of, stance, stance_in}
 use Rattle.casa_flight.specs.Good.{AreInOrder, IsGood}
 use Rattle.casa_flight.proofs.Entries.{text_cmp, itself, at-put_same, named, apart}
-use Rattle.casa_flight.proofs.Kept.{set_at, at-without_same}
-use Rattle.casa_flight.proofs.Lists.{list-with_row, list_cancelled}
+use Rattle.casa_laws.proofs.Kept.{set_at, at-without_same}
+use Rattle.casa_laws.proofs.Lists.{list-with_row, list_cancelled}
 use Rattle.casa_footprint.specs.Items.{ItemName, the_clock, the_catalogue, a_row, a_list, row_or_none, list_or_none, contents}
 use Rattle.casa_footprint.specs.Footprint.{is_subject}
 use Rattle.casa_answer.specs.Sight.{Sight, says, regulations_in}

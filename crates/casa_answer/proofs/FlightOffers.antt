@@ -14,9 +14,9 @@ use Rattle.casa_flight.specs.Listing.{Listing, listing, list_of, cto_as, delay_o
 use Rattle.casa_flight.specs.Entry.{Situation, situation, Offer, offer_in, offer, choice, most_penalising, governed, entered, with_competitor}
 use Rattle.casa_flight.specs.Good.{IsGood}
 use Rattle.casa_flight.proofs.Entries.{each_found, all-each, filter_map-map, filter_map-each, at-put_same, sorted-put}
-use Rattle.casa_flight.proofs.Choice.{offer-is}
-use Rattle.casa_flight.proofs.Chosen.{choice_among, offers_open}
-use Rattle.casa_flight.proofs.Times.{governed_there, delay_governed, delay_free, offer_delay}
+use Rattle.casa_laws.proofs.Choice.{offer-is}
+use Rattle.casa_laws.proofs.Chosen.{choice_among, offers_open}
+use Rattle.casa_laws.proofs.Times.{governed_there, delay_governed, delay_free, offer_delay}
 use Rattle.casa_footprint.specs.Footprint.{is_subject}
 use Rattle.casa_footprint.proofs.Entering.{subject_at}
 use Rattle.casa_answer.specs.Sight.{Sight, clock_in, situation_in}

@@ -18,9 +18,9 @@ use Rattle.casa_flight.specs.Listing.{Listing, listing, list_of, stance, stance_
 use Rattle.casa_flight.specs.Entry.{issued_in}
 use Rattle.casa_flight.specs.Good.{AreInOrder}
 use Rattle.casa_flight.proofs.Entries.{text_cmp, sorted-put, apart, at-put_other, all-each, all-both}
-use Rattle.casa_flight.proofs.Kept.{at-kept}
-use Rattle.casa_flight.proofs.Lists.{list_puts}
-use Rattle.casa_flight.proofs.GoodTick.{competing}
+use Rattle.casa_laws.proofs.Kept.{at-kept}
+use Rattle.casa_laws.proofs.Lists.{list_puts}
+use Rattle.casa_laws.proofs.GoodTick.{competing}
 use Rattle.casa_flight.specs.IssuedTimes.{issued_as, with_issued}
 use Rattle.casa_list.specs.Standings.{issue_cto, issue_cto_as}
 use Rattle.casa_answer.specs.Sight.{Sight, Written, list_with}

@@ -10,7 +10,7 @@ use Rattle.casa_flight.specs.State.{row_of}
 use Rattle.casa_flight.specs.Listing.{list_of}
 use Rattle.casa_flight.specs.Replies.{is_issued, message_of, message, messages}
 use Rattle.casa_flight.specs.Good.{AreInOrder, IsGood}
-use Rattle.casa_flight.proofs.ChangeMessages.{StaysOpen, message_none}
+use Rattle.casa_laws.proofs.ChangeMessages.{StaysOpen, message_none}
 use Rattle.casa_answer.specs.Sight.{Sight, Written, nothing_written, list_with}
 use Rattle.casa_answer.specs.Told.{ctot_by, message_shown, messages_shown}
 use Rattle.casa_answer.proofs.Board.{Shows}

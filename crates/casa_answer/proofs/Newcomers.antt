@@ -16,11 +16,11 @@ use Rattle.casa_flight.specs.Listing.{put_by, in_order, is_before, kept}
 use Rattle.casa_flight.specs.Steps.{flights_over}
 use Rattle.casa_flight.specs.Good.{AreInOrder}
 use Rattle.casa_flight.proofs.Entries.{text_cmp, apart, all-each, at-put_same, at-put_other, sorted-put}
-use Rattle.casa_flight.proofs.Kept.{at-kept, sorted-kept_by, filter_map-one, same_entries}
-use Rattle.casa_flight.proofs.InOrder.{all-always}
-use Rattle.casa_flight.proofs.GoodRegs.{comp_if}
+use Rattle.casa_laws.proofs.Kept.{at-kept, sorted-kept_by, filter_map-one, same_entries}
+use Rattle.casa_laws.proofs.InOrder.{all-always}
+use Rattle.casa_laws.proofs.GoodRegs.{comp_if}
 use Rattle.casa_flight.proofs.Planning.{comps_order}
-use Rattle.casa_flight.proofs.Rising.{put_first, put_later}
+use Rattle.casa_flight.proofs.PutBy.{put_first, put_later}
 use Rattle.casa_flight.proofs.Sorting.{IsRanked, ranked-put}
 use Rattle.casa_footprint.proofs.Names.{text_itself}
 use Rattle.casa_answer.specs.Opening.{forced_over, all_forced}

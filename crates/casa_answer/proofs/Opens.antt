@@ -24,10 +24,10 @@ use Rattle.casa_flight.specs.Entry.{enter_all}
 use Rattle.casa_flight.specs.Steps.{most_regulations, flights_over, may_compete, open_regulation, leads, step, after}
 use Rattle.casa_flight.specs.Good.{AreInOrder, IsGood, IsGoverned}
 use Rattle.casa_flight.proofs.Entries.{text_cmp, same_name, apart, named, all-each, each_found, at-put_same, at-put_other, sorted-put}
-use Rattle.casa_flight.proofs.EnterAll.{regs-enter_all, all-flights_over}
-use Rattle.casa_flight.proofs.RegMessages.{competes}
-use Rattle.casa_flight.proofs.GoodRegs.{next-good}
-use Rattle.casa_flight.proofs.ChangeMessages.{StaysOpen, governed_by}
+use Rattle.casa_laws.proofs.EnterAll.{regs-enter_all, all-flights_over}
+use Rattle.casa_laws.proofs.RegMessages.{competes}
+use Rattle.casa_laws.proofs.GoodRegs.{next-good}
+use Rattle.casa_laws.proofs.ChangeMessages.{StaysOpen, governed_by}
 use Rattle.casa_footprint.specs.Items.{moment, regulations}
 use Rattle.casa_footprint.specs.Footprint.{is_subject}
 use Rattle.std.specs.declared.cmp.Ordering.TheVariants.{Less, Equal, Greater}

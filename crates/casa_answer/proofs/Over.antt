@@ -7,7 +7,7 @@ use Rattle.std.specs.Ordering.{is_eq}
 use Rattle.casa_flight.specs.Text.{Text, at_name}
 use Rattle.casa_flight.specs.Good.{AreInOrder}
 use Rattle.casa_flight.proofs.Entries.{text_cmp, same_name}
-use Rattle.casa_flight.proofs.Kept.{Above, at_above, same_entries}
+use Rattle.casa_laws.proofs.Kept.{Above, at_above, same_entries}
 
 -- what f makes of the entries, under their names
 keyed : {X Y : Type 0} → (Text → X → Option Y) → List (Text × X) → List (Text × Y)

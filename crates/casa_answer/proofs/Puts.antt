@@ -8,7 +8,7 @@ use Rattle.std.specs.List.Sorted.{IsStrictlySortedBy}
 use Rattle.casa_flight.specs.Text.{Text, at_name, put}
 use Rattle.casa_flight.specs.Good.{AreInOrder}
 use Rattle.casa_flight.proofs.Entries.{text_cmp, same_name, itself, at-put}
-use Rattle.casa_flight.proofs.Kept.{Above, at_above}
+use Rattle.casa_laws.proofs.Kept.{Above, at_above}
 
 -- the values that f gives of the entries and their names
 abbrev pub kept_by : {X Y : Type 0} → (Text → X → Option Y) → List (Text × X) → List (Text × Y)

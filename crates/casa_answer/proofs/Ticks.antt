@@ -17,8 +17,8 @@ use Rattle.casa_flight.specs.Entry.{is_to_issue, issue_if, issue_due}
 use Rattle.casa_flight.specs.Steps.{tick as step_tick}
 use Rattle.casa_flight.specs.Good.{AreInOrder, IsGood, IsGoverned}
 use Rattle.casa_flight.proofs.Entries.{text_cmp, sorted-put, all-each, all-both, all-filter_map, each_found, keys-map}
-use Rattle.casa_flight.proofs.InOrder.{all-always}
-use Rattle.casa_flight.proofs.ChangeMessages.{governed_by}
+use Rattle.casa_laws.proofs.InOrder.{all-always}
+use Rattle.casa_laws.proofs.ChangeMessages.{governed_by}
 use Rattle.casa_footprint.specs.Items.{moment, regulations}
 use Rattle.casa_footprint.specs.Finding.{due_keys}
 use Rattle.casa_answer.specs.Sight.{Sight, Written, nothing_written, clock_in, IsSightOf, IsAnswer, IsPlanned, list_with}

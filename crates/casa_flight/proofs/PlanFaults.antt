@@ -39,10 +39,10 @@ is_valid key eobt taxi via h =
       in_range = ltb-false last_moment (eobt + taxi) f.0;
     }
 
-later_apart : (c : Crossing) (cs : List Crossing) → AllPairs (λ (a b : Crossing). a.loc ≡ b.loc → ⊥) (c ∷ cs) → AllPairs (λ (a b : Crossing). a.loc ≡ b.loc → ⊥) cs
+pub later_apart : (c : Crossing) (cs : List Crossing) → AllPairs (λ (a b : Crossing). a.loc ≡ b.loc → ⊥) (c ∷ cs) → AllPairs (λ (a b : Crossing). a.loc ≡ b.loc → ⊥) cs
 later_apart c cs h = λ i j d lt in'. h (suc i) (suc j) d (omega arith) (omega arith)
 
-none_like : (c : Crossing) (cs : List Crossing) → AllPairs (λ (a b : Crossing). a.loc ≡ b.loc → ⊥) (c ∷ cs) → All (λ (d : Crossing). same_text c.loc d.loc ≡ false) cs
+pub none_like : (c : Crossing) (cs : List Crossing) → AllPairs (λ (a b : Crossing). a.loc ≡ b.loc → ⊥) (c ∷ cs) → All (λ (d : Crossing). same_text c.loc d.loc ≡ false) cs
 none_like c cs h = λ i d lt. false_from_ne_true _ (λ same. h 0 (suc i) d (omega arith) (omega arith) (text_is c.loc _ (sym same)))
 
 has_twice-none : (via : List Crossing) → AllPairs (λ (a b : Crossing). a.loc ≡ b.loc → ⊥) via → has_twice via ≡ false

@@ -1,5 +1,5 @@
-use Rattle.std.specs.Prelude.{ℕ, List, [], map, Bool, false, ◌&&◌, ◌||◌, nat_le, nat_lt, Option, None}
-use Rattle.std.specs.Option.{option_map, option_map_or}
+use Rattle.std.specs.Prelude.{ℕ, List, [], map, Bool, false, ◌&&◌, ◌||◌, nat_le, nat_lt, Option, None, Some, if◌then◌else◌}
+use Rattle.std.specs.Option.{option_map_or, option_and_then}
 use Rattle.std.specs.List.{find}
 use Rattle.casa_time.specs.Due as due
 use Rattle.casa_grid.specs.Profile.{start_of, end_of}
@@ -35,13 +35,18 @@ regulation id measure =
 abbrev pub catalogue : State → List Regulation
 catalogue m = map (λ (e : Text × Measure). regulation e.0 e.1) m.regs
 
--- whether a crossing is at the regulation's location, from its start to before its end
-abbrev pub crosses : Regulation → Crossing → Bool
-crosses r c = same_text c.loc r.loc && (nat_le r.start c.eto && nat_lt c.eto r.end)
+-- whether a crossing is at a location
+abbrev pub is_there : Text → Crossing → Bool
+is_there loc c = same_text c.loc loc
 
--- a flight is subject to a regulation that its plan crosses; the planned time over counts, never a delayed one (manual)
+-- the time over of a crossing that the regulation covers: from its start to before its end
+abbrev pub covered : Regulation → Crossing → Option ℕ
+covered r c = if nat_le r.start c.eto && nat_lt c.eto r.end then Some c.eto else None
+
+-- a flight is subject to a regulation whose location its plan crosses while it lasts; no plan crosses a location twice, and
+-- the planned time over counts, never a delayed one (manual)
 abbrev pub subject : FlightPlan → Regulation → Option ℕ
-subject plan r = option_map (λ (c : Crossing). c.eto) (find (crosses r) plan.via)
+subject plan r = option_and_then (covered r) (find (is_there r.loc) plan.via)
 
 -- exempt by its plan's indicator or by a desk's mark (profile)
 abbrev pub is_exempt : Row → Bool

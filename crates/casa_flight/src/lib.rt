@@ -7,7 +7,6 @@
 mod call;
 mod comp;
 mod equality;
-mod laws;
 mod name;
 mod offer;
 mod order;
@@ -21,14 +20,6 @@ mod state;
 pub use call::{Call, Refusal};
 pub use comp::{Assigned, Comp};
 pub use equality::{call_equality, reply_equality, row_equality};
-pub use laws::{
-    assignment_is_right, calls_without_messages, choice_is_most_penalising,
-    competitors_are_in_order, delay_is_of_the_place, entering_flights_are_in_order,
-    good_states_are_kept, issue_moves_nobody, issued_times_stay, later_competitors_change_nothing,
-    messages_of_calls, offer_is_the_delay_there, offers_are_of_open_regulations,
-    only_waiting_flights_are_served, places_rise, rows_are_in_order, tick_moves_nobody,
-    valid_plan_has_no_fault, written_row_changes_its_entries,
-};
 pub use name::{Key, Loc, Name, OfFlight, OfLocation, OfRegulation, RegId};
 pub use offer::{Offer, more_penalising, most_penalising};
 pub use order::{put_in_order, sort_comps, sort_rows};

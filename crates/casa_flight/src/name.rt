@@ -1,10 +1,11 @@
-ghost use Rattle.std.specs.Prelude.{◌≡◌, ◌==◌, ◌↔◌, ◌≤◌, length, true, IsSome, IfSome, Some};
+ghost use Rattle.std.specs.Prelude.{◌≡◌, ◌==◌, ◌↔◌, ◌≤◌, length, take, drop, true, IsSome, IfSome, Some};
 ghost use Rattle.std.specs.List.{list_all};
 ghost use Rattle.std.specs.Ordering.{nat_cmp, as_partial_cmp};
 ghost use Rattle.std.specs.Cmp.{partial_order_from_own_ties};
 ghost use Rattle.std.specs.Cmp.Lexicographic.{pointwise, slice_cmp};
 ghost use Rattle.std.specs.Cmp.Rules.{comparing};
 ghost use Rattle.std.proofs.Common.{rules};
+ghost use Rattle.std.specs.Slice.Scan.{big_endian};
 ghost use Rattle.casa_flight.specs.Text.{is_name, is_name_byte};
 
 use std::cmp::Ordering;
@@ -81,6 +82,38 @@ fn is_name_byte(byte: u8) -> bool
     (b'0' <= byte && byte <= b'9') || (b'A' <= byte && byte <= b'Z')
 }
 
+/// The first eight bytes as a number.
+fn head(bytes: &[u8; MAX_LEN]) -> u64
+    ensures { result ≡ big_endian 0 (take 8 bytes.now) }
+{
+    u64::from_be_bytes([
+        bytes[0], bytes[1], bytes[2], bytes[3], bytes[4], bytes[5], bytes[6], bytes[7],
+    ])
+}
+
+/// The last two bytes as a number.
+fn tail(bytes: &[u8; MAX_LEN]) -> u16
+    ensures { result ≡ big_endian 0 (drop 8 bytes.now) }
+{
+    u16::from_be_bytes([bytes[8], bytes[9]])
+}
+
+/// Whether the bytes are the same.
+fn are_same(one: &[u8; MAX_LEN], other: &[u8; MAX_LEN]) -> bool
+    ensures { result ≡ pointwise ◌==◌ one.now other.now }
+{
+    head(one) == head(other) && tail(one) == tail(other)
+}
+
+/// How the bytes are ordered.
+fn order(one: &[u8; MAX_LEN], other: &[u8; MAX_LEN]) -> Ordering
+    ensures { result ≡ slice_cmp nat_cmp one.now other.now }
+{
+    head(one)
+        .cmp(&head(other))
+        .then(tail(one).cmp(&tail(other)))
+}
+
 impl<Kind> Name<Kind> {
     /// The name with these bytes, or `None` where they are not 1 to 10 characters of A to Z and 0 to 9.
     pub fn new(text: &[u8]) -> Option<Name<Kind>>
@@ -133,7 +166,7 @@ impl<Kind> PartialEq for Name<Kind> {
     ghost laws = { Prim.search (comparing, rules) };
 
     fn eq(&self, other: &Name<Kind>) -> bool {
-        self.as_bytes() == other.as_bytes()
+        are_same(&self.bytes, &other.bytes)
     }
 }
 
@@ -151,7 +184,7 @@ impl<Kind> Ord for Name<Kind> {
     ghost matches_eq = { Prim.search (comparing, rules) };
 
     fn cmp(&self, other: &Name<Kind>) -> Ordering {
-        self.as_bytes().cmp(other.as_bytes())
+        order(&self.bytes, &other.bytes)
     }
 }
 

@@ -5,6 +5,7 @@ ghost use Rattle.casa_flight.specs.declared.plan.Crossing.{Crossing};
 ghost use Rattle.casa_flight.specs.Text.{same_text};
 ghost use Rattle.casa_flight.specs.FlightPlan.{FlightPlan, etot, is_exempting};
 ghost use Rattle.casa_flight.specs.PlanFaults.{plan_fault, name_of, has_twice, has_early};
+ghost use Rattle.casa_flight.specs.State.{covered};
 
 use crate::name::{Key, Loc, is_name};
 use crate::regulation::Regulation;
@@ -239,12 +240,23 @@ impl Plan {
     pub fn time_over(&self, regulation: &Regulation) -> Option<Moment>
         ensures { result ≡ subject self.now regulation.now }
     {
-        let crossing = self.via().iter().find(|crossing| {
-            crossing.loc == regulation.loc
-                && regulation.start <= crossing.eto
-                && crossing.eto < regulation.end
-        });
-        crossing.map(|crossing| crossing.eto)
+        for crossing in self.via() {
+            if crossing.loc == regulation.loc {
+                return covered(regulation, crossing);
+            }
+        }
+        None
+    }
+}
+
+/// The time over of a crossing that the regulation covers: from its start on and before its end.
+fn covered(regulation: &Regulation, crossing: &Crossing) -> Option<Moment>
+    ensures { result ≡ covered regulation.now crossing.now }
+{
+    if regulation.start <= crossing.eto && crossing.eto < regulation.end {
+        Some(crossing.eto)
+    } else {
+        None
     }
 }
 

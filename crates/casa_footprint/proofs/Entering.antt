@@ -13,8 +13,8 @@ use Rattle.casa_flight.specs.Listing.{Listing, listing, list_of}
 use Rattle.casa_flight.specs.Entry.{Offer, offer_in, situation, offer, choice, most_penalising, governed, entered}
 use Rattle.casa_flight.specs.Good.{AreInOrder, IsGood}
 use Rattle.casa_flight.proofs.Entries.{each_found, all-each, filter_map-map, filter_map-each}
-use Rattle.casa_flight.proofs.Lists.{list-with_row}
-use Rattle.casa_flight.proofs.Choice.{IsOfferOf, choice-offer}
+use Rattle.casa_laws.proofs.Lists.{list-with_row}
+use Rattle.casa_laws.proofs.Choice.{IsOfferOf, choice-offer}
 use Rattle.casa_footprint.specs.Footprint.{is_subject}
 use Rattle.casa_footprint.proofs.Catalogue.{measure_same}
 

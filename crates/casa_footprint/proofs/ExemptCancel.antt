@@ -15,8 +15,8 @@ use Rattle.casa_flight.specs.Steps.{exempt, exempt_if, cancel, after}
 use Rattle.casa_flight.specs.Replies.{reply_of, messages}
 use Rattle.casa_flight.specs.Good.{IsGood}
 use Rattle.casa_flight.proofs.Entries.{text_cmp, sorted-remove, at-without_other, named, apart}
-use Rattle.casa_flight.proofs.Kept.{at-without_same, without_absent}
-use Rattle.casa_flight.proofs.Lists.{list_cancelled}
+use Rattle.casa_laws.proofs.Kept.{at-without_same, without_absent}
+use Rattle.casa_laws.proofs.Lists.{list_cancelled}
 use Rattle.casa_footprint.specs.Items.{ItemName, the_clock, the_catalogue, a_row, a_list, row_or_none, list_or_none, contents}
 use Rattle.casa_footprint.specs.Footprint.{is_list_of, would_write, is_accepted}
 use Rattle.casa_footprint.proofs.Names.{catalogue_in, row_in, list_in, text_itself}

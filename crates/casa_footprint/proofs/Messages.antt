@@ -9,7 +9,7 @@ use Rattle.casa_flight.specs.Text.{Text}
 use Rattle.casa_flight.specs.State.{row_of, measure_of, regulation, catalogue}
 use Rattle.casa_flight.specs.Replies.{messages}
 use Rattle.casa_flight.specs.Good.{AreInOrder, IsGood, IsGoverned}
-use Rattle.casa_flight.proofs.ChangeMessages.{governed_by, StaysOpen, messages_unchanged}
+use Rattle.casa_laws.proofs.ChangeMessages.{governed_by, StaysOpen, messages_unchanged}
 use Rattle.casa_footprint.specs.Footprint.{is_subject}
 use Rattle.casa_footprint.proofs.Catalogue.{regulation_same}
 use Rattle.casa_footprint.proofs.Entering.{IsOwn, subject_at}

@@ -15,8 +15,8 @@ use Rattle.casa_flight.specs.Entry.{situation, entered}
 use Rattle.casa_flight.specs.Replies.{message_of, messages, is_issued, ctot_before, flight_answer, flight_reply}
 use Rattle.casa_flight.specs.Good.{AreInOrder, IsGood}
 use Rattle.casa_flight.proofs.Entries.{at-put_same, at-put_other, named, apart}
-use Rattle.casa_flight.proofs.Lists.{list_spares, stance_is}
-use Rattle.casa_flight.proofs.ChangeMessages.{messages_one}
+use Rattle.casa_laws.proofs.Lists.{list_spares, stance_is}
+use Rattle.casa_laws.proofs.ChangeMessages.{messages_one}
 use Rattle.casa_footprint.specs.Footprint.{is_subject, is_list_of}
 use Rattle.casa_footprint.proofs.Entering.{Agree, IsOwn, subject_at, entered_same, entered_own, list_same}
 use Rattle.casa_footprint.proofs.Messages.{own_row}

@@ -21,8 +21,8 @@ use Rattle.casa_flight.specs.Entry.{enter_all}
 use Rattle.casa_flight.specs.Steps.{most_regulations, flights_over, may_compete, open_regulation, freed, closed, close_regulation, after}
 use Rattle.casa_flight.specs.Good.{IsGood, IsGoodRow, IsFree, IsGoverned}
 use Rattle.casa_flight.proofs.Entries.{text_cmp, all_at, all-each, all-both, each_found, at-map, at-put_other, at-without_other, keys-map, sorted-put, sorted-remove, apart}
-use Rattle.casa_flight.proofs.EnterAll.{row-enter_all, clock-enter_all, all-flights_over, others}
-use Rattle.casa_flight.proofs.RegMessages.{competes, freed_plan}
+use Rattle.casa_laws.proofs.EnterAll.{row-enter_all, clock-enter_all, all-flights_over, others}
+use Rattle.casa_laws.proofs.RegMessages.{competes, freed_plan}
 use Rattle.casa_footprint.specs.Items.{ItemName, the_clock, the_catalogue, a_row, a_list, moment, row_or_none, list_or_none, contents}
 use Rattle.casa_footprint.specs.Footprint.{is_subject, is_list_of, governs, enters, would_write, is_accepted}
 use Rattle.casa_footprint.proofs.EnterAll.{IsOrdered, list-enter_all}

@@ -21,7 +21,7 @@ use Rattle.casa_flight.specs.Steps.{has_span, rates, rates_if, after}
 use Rattle.casa_flight.specs.Replies.{reply_of, messages}
 use Rattle.casa_flight.specs.Good.{AreInOrder, IsGood}
 use Rattle.casa_flight.proofs.Entries.{text_cmp, after_all, at-put_same, at-put_other, named, apart}
-use Rattle.casa_flight.proofs.Kept.{at_above}
+use Rattle.casa_laws.proofs.Kept.{at_above}
 use Rattle.std.specs.Map.{keys_of}
 use Rattle.casa_footprint.specs.Items.{ItemName, the_clock, the_catalogue, a_row, a_list, regulations, list_or_none, contents}
 use Rattle.casa_footprint.specs.Footprint.{would_write, is_accepted}

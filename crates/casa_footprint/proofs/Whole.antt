@@ -18,7 +18,7 @@ use Rattle.casa_flight.specs.Steps.{tick, after, next}
 use Rattle.casa_flight.specs.Replies.{reply}
 use Rattle.casa_flight.specs.Good.{IsGood}
 use Rattle.casa_flight.proofs.Entries.{at-map}
-use Rattle.casa_flight.proofs.Kept.{same_entries}
+use Rattle.casa_laws.proofs.Kept.{same_entries}
 use Rattle.casa_footprint.specs.Items.{ItemName, the_clock, the_catalogue, a_row, a_list, row_or_none, list_or_none, contents, AgreeOn}
 use Rattle.casa_footprint.specs.Footprint.{reads, would_write, is_accepted}
 use Rattle.casa_footprint.proofs.Names.{clock_in, catalogue_in, row_in, list_in}

@@ -18,7 +18,7 @@ use Rattle.casa_flight.specs.declared.row.Stance.{Stance}
 use Rattle.casa_flight.specs.declared.row.Stance.TheVariants.{Competing, Issued, Forced}
 use Rattle.casa_flight.specs.Text.{Text, put}
 use Rattle.casa_flight.specs.Listing.{Listing, put_by, issued_cto, occupancy}
-use Rattle.casa_flight.proofs.Rising.{put_first, put_later}
+use Rattle.casa_flight.proofs.PutBy.{put_first, put_later}
 use Rattle.casa_flight.proofs.Entries.{text_cmp}
 use Rattle.casa_list.specs.Blocked.{counts, issued_counts, raised, lowered, time_of, times_in}
 use Rattle.casa_list.specs.Standings.{issued_flight, is_flight_before, issued_flights}

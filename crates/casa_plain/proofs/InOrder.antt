@@ -10,7 +10,7 @@ use Rattle.casa_flight.specs.Text.{Text, put}
 use Rattle.casa_flight.specs.Listing.{kept}
 use Rattle.casa_flight.specs.Good.{AreInOrder}
 use Rattle.casa_flight.proofs.Entries.{text_cmp}
-use Rattle.casa_flight.proofs.Kept.{put_all, sorted-kept}
+use Rattle.casa_laws.proofs.Kept.{put_all, sorted-kept}
 
 -- every name of the entries comes before this one
 abbrev AreBelow : {X : Type 0} → List (Text × X) → Text → Type 0

@@ -42,3 +42,10 @@ entered_by v w key new id list now governs is admits sorted =
     (λ i. record w { rows = put w.rows key (Some new); lists = put-without id (admits i) w.lists sorted i })
     ∙ ap (λ (l : Option Listing). let x : Written = record w { rows = put w.rows key (Some new); lists = put w.lists id (option_map (admitted key new.issued) l) } in x) is
     ∙ sym (ap (with_entered_by v w key new) governs)
+
+-- a list in which the flight was put in as governed, however it stood
+pub admitted_in_place : (l : Listing) (key : Text) (issued : Option ℕ) (s : Stance) (eto : ℕ) → stance_of l key ≡ Some s → eto ≡ eto_as s
+    → record l { flights = put l.flights key (stance true issued eto) } ≡ admitted key issued l
+admitted_in_place l key issued s eto stands is =
+    (λ i. record l { flights = put l.flights key (stance true issued (is i)) })
+    ∙ sym (ap (λ (o : Option Stance). option_map_or (with_governed l key issued) o l) stands)

@@ -1,6 +1,10 @@
 //! Flights that enter one by one, each after those before it have.
 
-ghost use Rattle.std.specs.Prelude.{◌≡◌, IfOk, OnOk};
+ghost use Rattle.std.specs.Prelude.{◌≡◌, None, Some, IfOk, OnOk};
+ghost use Rattle.casa_flight.specs.Text.{put};
+ghost use Rattle.casa_flight.specs.Listing.{stance_of};
+ghost use Rattle.casa_flight.specs.declared.row.Stance.{Stance};
+ghost use Rattle.casa_list.specs.Standings.{governed_place};
 ghost use Rattle.std.specs.Option.{option_map};
 ghost use Rattle.casa_flight.specs.Entry.{entered};
 ghost use Rattle.casa_answer.specs.Sight.{row_with};
@@ -10,7 +14,7 @@ ghost use Rattle.casa_plan.specs.Seen.{sight};
 use crate::draft::Draft;
 use crate::flight_lists::take_out;
 use crate::offers::best_offer;
-use casa_flight::{Comp, Key, Row};
+use casa_flight::{Comp, Key, Row, Stance};
 use casa_list::{SharedList, SlotList};
 use casa_time::Moment;
 use casa_view::{Catalogue, Version, View};
@@ -40,6 +44,19 @@ fn entered<V: Version>(
     }
 }
 
+/// Takes out a flight that the list governs and that stands so; one that is forced stays.
+fn make_way(list: &mut SlotList, key: &Key, stance: &Stance)
+    requires { stance_of list.old key.now ≡ Some stance.now }
+    ensures ungoverned { governed_place list.new key.now ≡ None }
+    ensures same { (s : Stance) →
+        record list.new { flights = put list.new.flights key.now s } ≡ record list.old { flights = put list.old.flights key.now s } }
+{
+    match stance {
+        Stance::Forced { .. } => {}
+        _ => take_out(list, key),
+    }
+}
+
 /// Takes a flight that is there in as governed, and issued at this calculated time over if at one. `AllocError` where there
 /// is no memory for it.
 fn admit(list: &mut SlotList, key: Key, issued: Option<Moment>) -> Result<(), AllocError>
@@ -48,7 +65,7 @@ fn admit(list: &mut SlotList, key: Key, issued: Option<Moment>) -> Result<(), Al
     let Some(stance) = list.stance_of(&key) else {
         return Ok(());
     };
-    take_out(list, &key);
+    make_way(list, &key, &stance);
     list.admit(
         Comp {
             eto: stance.eto(),

@@ -6,7 +6,7 @@ use Rattle.std.specs.List.Sorted.{IsStrictlySortedBy}
 use Rattle.casa_flight.specs.Text.{Text, at_name}
 use Rattle.casa_flight.specs.Good.{AreInOrder}
 use Rattle.casa_flight.proofs.Entries.{text_cmp, same_name, itself}
-use Rattle.casa_flight.proofs.Kept.{at_above}
+use Rattle.casa_laws.proofs.Kept.{at_above}
 use Rattle.casa_view.specs.Laid.{laid}
 use Rattle.casa_view.proofs.Layers.{at-below}
 

@@ -14,10 +14,10 @@ use Rattle.casa_flight.specs.declared.plan.Crossing.{Crossing}
 use Rattle.casa_flight.specs.declared.regulation.Regulation.{Regulation}
 use Rattle.casa_flight.specs.Text.{Text, same_text, at_name, put, without}
 use Rattle.casa_flight.specs.FlightPlan.{FlightPlan}
-use Rattle.casa_flight.specs.State.{subject, crosses}
+use Rattle.casa_flight.specs.State.{subject, is_there, covered}
 use Rattle.casa_flight.specs.Good.{AreInOrder}
 use Rattle.casa_flight.specs.Listing.{kept}
-use Rattle.casa_flight.proofs.Kept.{at-kept, sorted-kept}
+use Rattle.casa_laws.proofs.Kept.{at-kept, sorted-kept}
 use Rattle.casa_flight.proofs.Entries.{text_cmp, same_name, named, at-put, at-without_other, each_found}
 use Rattle.casa_flight.proofs.Entries.{filter_map-map}
 use Rattle.casa_view.specs.Gathered.{noted, is_named, HasGathered, HasNoted}
@@ -182,28 +182,22 @@ open_named q loc r (s ∷ rs) over found =
     later false h = h
 
 -- the location of a crossing by which a plan is subject
-over_here : (r : Regulation) (c : Crossing) → crosses r c ≡ true → is_over c.loc r ≡ true
-over_here r c h =
-    elim (same_text c.loc r.loc) as (λ b. same_text c.loc r.loc ≡ b
-    → (b && (nat_le r.start c.eto && nat_lt c.eto r.end)) ≡ true → is_over c.loc r ≡ true) [
-      | true ↦ λ t _. subst (λ (p : Text). same_text p c.loc ≡ true) (named c.loc r.loc t)
-          (nat_list_eq_equiv.refl c.loc)
-      | false ↦ λ _ g. cc
-    ] refl h
+over_here : (r : Regulation) (c : Crossing) → is_there r.loc c ≡ true → is_over c.loc r ≡ true
+over_here r c h = subst (λ (p : Text). same_text p c.loc ≡ true) (named c.loc r.loc h) (nat_list_eq_equiv.refl c.loc)
 
 subject_named : (q : Text) (r : Regulation) (rs : List Regulation) (place : Text → List Regulation)
     → HasPlaces rs place → at_name (by_id rs) q ≡ Some r → (cs : List Crossing) (t : ℕ)
-    → option_map (λ (c : Crossing). c.eto) (find (crosses r) cs) ≡ Some t → is_named (ids (along place cs)) q ≡ true
+    → option_and_then (covered r) (find (is_there r.loc) cs) ≡ Some t → is_named (ids (along place cs)) q ≡ true
 subject_named q r rs place has found [] t h = cc
 subject_named q r rs place has found (c ∷ cs) t h =
     named-both q (place c.loc) (along place cs)
-    ∙ (elim (crosses r c) as (λ b. crosses r c ≡ b
-    → option_map (λ (c : Crossing). c.eto) (cond b (Some c) (find (crosses r) cs)) ≡ Some t
+    ∙ (elim (is_there r.loc c) as (λ b. is_there r.loc c ≡ b
+    → option_and_then (covered r) (cond b (Some c) (find (is_there r.loc) cs)) ≡ Some t
     → (is_named (ids (place c.loc)) q || is_named (ids (along place cs)) q) ≡ true) [
-      | true ↦ λ over _.
+      | true ↦ λ at _.
           let here : is_named (ids (place c.loc)) q ≡ true =
           ap (λ (xs : List Regulation). is_named (ids xs) q) (has c.loc)
-          ∙ open_named q c.loc r rs (over_here r c over) found in
+          ∙ open_named q c.loc r rs (over_here r c at) found in
           ap (λ b. b || is_named (ids (along place cs)) q) here
       | false ↦ λ _ g.
           ap (λ b. is_named (ids (place c.loc)) q || b) (subject_named q r rs place has found cs t g)

@@ -9,7 +9,7 @@ use Rattle.casa_flight.specs.Text.{Text, at_name}
 use Rattle.casa_flight.specs.Good.{AreInOrder}
 use Rattle.casa_flight.specs.Listing.{kept}
 use Rattle.casa_flight.proofs.Entries.{text_cmp, same_name, at-put, sorted-put}
-use Rattle.casa_flight.proofs.Kept.{at-kept, same_entries, sorted-kept}
+use Rattle.casa_laws.proofs.Kept.{at-kept, same_entries, sorted-kept}
 use Rattle.casa_view.specs.Gathered.{noted, is_named, HasGathered}
 
 -- what f gives of the values under these names, noted one by one

@@ -10,7 +10,7 @@ use Rattle.casa_flight.specs.Text.{Text, at_name}
 use Rattle.casa_flight.specs.Good.{AreInOrder}
 use Rattle.casa_flight.specs.Listing.{kept}
 use Rattle.casa_flight.proofs.Entries.{text_cmp, at-put_other, at-without_other}
-use Rattle.casa_flight.proofs.Kept.{at-kept, sorted-kept}
+use Rattle.casa_laws.proofs.Kept.{at-kept, sorted-kept}
 use Rattle.casa_view.specs.declared.item.Item.{Item}
 use Rattle.casa_view.specs.Versions.{row_of}
 use Rattle.casa_view.specs.Gathered.{is_named, HasGathered}

@@ -13,7 +13,7 @@ use Rattle.casa_flight.specs.Text.{Text, same_text, at_name, put, without}
 use Rattle.casa_flight.specs.Good.{AreInOrder}
 use Rattle.casa_flight.proofs.Entries.{text_cmp, same_name, itself, named, apart, at-put, at-without_other, sorted-put}
 use Rattle.casa_flight.proofs.Entries.{sorted-remove}
-use Rattle.casa_flight.proofs.Kept.{at_above, at-without_same, same_entries}
+use Rattle.casa_laws.proofs.Kept.{at_above, at-without_same, same_entries}
 use Rattle.casa_view.specs.Laid.{where_put, with_value, laid}
 
 pub sorted-with_value : {X : Type 0} (k : Text) (w : Option X) (es : List (Text × X)) → AreInOrder es

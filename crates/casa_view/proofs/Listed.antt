@@ -17,7 +17,7 @@ use Rattle.casa_flight.specs.FlightPlan.{FlightPlan}
 use Rattle.casa_flight.specs.State.{subject}
 use Rattle.casa_flight.specs.Text.{Text, same_text, at_name, put, without}
 use Rattle.casa_flight.proofs.Entries.{text_cmp, same_name, after_all, other_way, sorted-put, sorted-remove}
-use Rattle.casa_flight.proofs.Kept.{Above}
+use Rattle.casa_laws.proofs.Kept.{Above}
 use Rattle.casa_footprint.specs.Finding.{crossed}
 use Rattle.casa_footprint.specs.Finding.{by_id}
 use Rattle.casa_view.specs.Crossed.{before, after, others, meets, AreListed}

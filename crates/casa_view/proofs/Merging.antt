@@ -12,7 +12,7 @@ use Rattle.std.proofs.lemmas.Cmp.{nat_list_cmp_total}
 use Rattle.casa_flight.specs.Text.{Text, put}
 use Rattle.casa_flight.specs.Good.{AreInOrder}
 use Rattle.casa_flight.proofs.Entries.{text_cmp, same_name, after_all}
-use Rattle.casa_flight.proofs.Kept.{Above}
+use Rattle.casa_laws.proofs.Kept.{Above}
 use Rattle.casa_view.specs.Overlaid.{overlaid, present, ahead}
 
 -- once the first entry is passed, those behind it are in order

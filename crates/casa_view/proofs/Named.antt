@@ -8,7 +8,7 @@ use Rattle.casa_flight.specs.Text.{Text}
 use Rattle.casa_flight.specs.Good.{AreInOrder}
 use Rattle.casa_flight.specs.Listing.{kept}
 use Rattle.casa_flight.specs.Steps.{flights_over}
-use Rattle.casa_flight.proofs.Kept.{sorted-kept}
+use Rattle.casa_laws.proofs.Kept.{sorted-kept}
 use Rattle.casa_view.specs.declared.item.Item.{Item}
 use Rattle.casa_view.specs.Passing.{over_row}
 use Rattle.casa_view.specs.Flights.{row_named, rows_named}

@@ -16,7 +16,7 @@ use Rattle.casa_flight.specs.contracts.plan.CrossingEq.TheImpl.Laws.{laws-law as
 use Rattle.casa_flight.specs.declared.regulation.Regulation.{Regulation}
 use Rattle.casa_flight.specs.declared.row.Row.{Row}
 use Rattle.casa_flight.specs.Text.{Text, same_text}
-use Rattle.casa_flight.specs.State.{crosses}
+use Rattle.casa_flight.specs.State.{is_there, covered}
 use Rattle.casa_flight.specs.FlightPlan.{FlightPlan}
 use Rattle.casa_flight.specs.PlanEquality.{plan_eq}
 use Rattle.casa_flight.proofs.Same.{plan_same}
@@ -71,9 +71,9 @@ record IsThere (r : Regulation) (c : Crossing) : Type 0 where
   from : r.start ≤ c.eto
   before : c.eto < r.end
 
-there : (r : Regulation) (c : Crossing) → crosses r c ≡ true → IsThere r c
-there r c h =
-    by (same_text c.loc r.loc) (nat_le r.start c.eto) (nat_lt c.eto r.end) refl refl refl h
+there : (r : Regulation) (c : Crossing) (eto : ℕ) → is_there r.loc c ≡ true → covered r c ≡ Some eto → IsThere r c
+there r c eto at h =
+    by (nat_le r.start c.eto) (nat_lt c.eto r.end) refl refl h
   where
     le : (a b : ℕ) → nat_le a b ≡ true → a ≤ b
     le a b e = grind (arith, e)
@@ -81,18 +81,16 @@ there r c h =
     lt : (a b : ℕ) → nat_lt a b ≡ true → a < b
     lt a b e = grind (arith, e)
 
-    by : (a b d : Bool) → same_text c.loc r.loc ≡ a → nat_le r.start c.eto ≡ b → nat_lt c.eto r.end ≡ d
-        → (a && (b && d)) ≡ true → IsThere r c
-    by false b d p q s g = cc
-    by true false d p q s g = cc
-    by true true false p q s g = cc
-    by true true true p q s g =
-        record { loc_is = named c.loc r.loc p; from = le r.start c.eto q; before = lt c.eto r.end s }
+    by : (b d : Bool) → nat_le r.start c.eto ≡ b → nat_lt c.eto r.end ≡ d
+        → cond (b && d) (Some c.eto) None ≡ Some eto → IsThere r c
+    by false d q s g = cc
+    by true false q s g = cc
+    by true true q s g =
+        record { loc_is = named c.loc r.loc at; from = le r.start c.eto q; before = lt c.eto r.end s }
 
-in_range : (r : Regulation) (t : ℕ) (key : Text) (c : Crossing) → r.end ≤ t → crosses r c ≡ true
+in_range : (r : Regulation) (t : ℕ) (key : Text) (c : Crossing) → r.end ≤ t → IsThere r c
     → range_contains passings.cmp (Included (at_start r)) (Excluded (at_end r t)) (passing key c) ≡ true
-in_range r t key c late h =
-    let is : IsThere r c = there r c h in
+in_range r t key c late is =
     let tied : text_cmp r.loc c.loc ≡ Equal = ap (text_cmp r.loc) is.loc_is ∙ tied_itself nat_list_cmp_total r.loc in
     let first : is_le (passings.cmp (at_start r) (passing key c)) ≡ true =
     ap (λ w. is_le (ordering_then w (ordering_then (nat_cmp r.start c.eto) Less))) tied
@@ -146,16 +144,16 @@ range_named test key e (p ∷ ps) whose passes h =
 
 via_named : (r : Regulation) (t : ℕ) (key : Text) (ps : List Passing) → r.end ≤ t → (via : List Crossing) (eto : ℕ)
     → HaveVia ps key via
-    → option_map (λ (c : Crossing). c.eto) (find (crosses r) via) ≡ Some eto
+    → option_and_then (covered r) (find (is_there r.loc) via) ≡ Some eto
     → is_named (names (in_span r t ps)) key ≡ true
 via_named r t key ps late [] eto have h = cc
 via_named r t key ps late (c ∷ via) eto have h =
-    elim (crosses r c) as (λ b. crosses r c ≡ b
-    → option_map (λ (c : Crossing). c.eto) (cond b (Some c) (find (crosses r) via)) ≡ Some eto
+    elim (is_there r.loc c) as (λ b. is_there r.loc c ≡ b
+    → option_and_then (covered r) (cond b (Some c) (find (is_there r.loc) via)) ≡ Some eto
     → is_named (names (in_span r t ps)) key ≡ true) [
-      | true ↦ λ over _.
+      | true ↦ λ at over.
           range_named (range_contains passings.cmp (Included (at_start r)) (Excluded (at_end r t))) key
-          (passing key c) ps refl (in_range r t key c late over) have.0
+          (passing key c) ps refl (in_range r t key c late (there r c eto at over)) have.0
       | false ↦ λ _ g. via_named r t key ps late via eto have.1 g
     ] refl h
 

@@ -7,7 +7,7 @@ use Rattle.casa_flight.specs.Listing.{Listing}
 use Rattle.casa_flight.specs.Text.{Text, at_name}
 use Rattle.casa_flight.specs.State.{row_of}
 use Rattle.casa_flight.specs.Good.{AreInOrder}
-use Rattle.casa_flight.proofs.Kept.{at-kept}
+use Rattle.casa_laws.proofs.Kept.{at-kept}
 use Rattle.casa_footprint.specs.Items.{ItemName, the_clock, the_catalogue, a_row, a_list}
 use Rattle.casa_footprint.specs.Items.{Content, moment, regulations, row_or_none, list_or_none}
 use Rattle.casa_view.specs.declared.item.Item.{Item}

@@ -13,7 +13,7 @@ use Rattle.casa_flight.specs.Text.{Text, put}
 use Rattle.casa_flight.specs.Listing.{kept}
 use Rattle.casa_flight.specs.Good.{AreInOrder}
 use Rattle.casa_flight.proofs.Entries.{sorted-put}
-use Rattle.casa_flight.proofs.Kept.{set_at, kept-put, kept-without}
+use Rattle.casa_laws.proofs.Kept.{set_at, kept-put, kept-without}
 use Rattle.casa_view.specs.declared.item.Item.{Item}
 use Rattle.casa_view.specs.Versions.{row_of}
 use Rattle.casa_view.specs.Flights.{rows_of, rows_named}

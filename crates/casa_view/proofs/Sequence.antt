@@ -19,8 +19,8 @@ use Rattle.casa_flight.specs.State.{subject}
 use Rattle.casa_flight.specs.Steps.{flights_over}
 use Rattle.casa_flight.specs.Listing.{kept, in_order, put_by, is_before}
 use Rattle.casa_flight.proofs.Entries.{text_cmp, same_name}
-use Rattle.casa_flight.proofs.Competitors.{less_apart, before_one_way}
-use Rattle.casa_flight.proofs.Rising.{put_later, put_first, all-put_by}
+use Rattle.casa_laws.proofs.Competitors.{less_apart, before_one_way}
+use Rattle.casa_flight.proofs.PutBy.{put_later, put_first, all-put_by}
 use Rattle.std.specs.Map.{keys_of}
 use Rattle.casa_view.specs.Passing.{over_row, comps}
 

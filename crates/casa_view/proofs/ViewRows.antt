@@ -3,7 +3,7 @@ use Rattle.std.proofs.Common.{◌≡◌, refl, ◌∙◌, Option, None, Some}
 use Rattle.std.specs.Option.{option_map, option_and_then}
 use Rattle.casa_flight.specs.Text.{Text, at_name}
 use Rattle.casa_flight.specs.Good.{AreInOrder}
-use Rattle.casa_flight.proofs.Kept.{at-kept, sorted-kept}
+use Rattle.casa_laws.proofs.Kept.{at-kept, sorted-kept}
 use Rattle.casa_view.specs.declared.item.Item.{Item}
 use Rattle.casa_view.specs.declared.view.Part.{Part}
 use Rattle.casa_view.specs.declared.view.Part.TheVariants.{All, Named}

@@ -25,7 +25,7 @@ use Rattle.casa_flight.specs.State.{regulation, subject, is_governed_by}
 use Rattle.casa_flight.specs.Listing.{Listing, list_of}
 use Rattle.casa_flight.specs.Good.{AreInOrder}
 use Rattle.casa_flight.proofs.Entries.{text_cmp, same_name}
-use Rattle.casa_flight.proofs.Kept.{Above, at_above, at-kept}
+use Rattle.casa_laws.proofs.Kept.{Above, at_above, at-kept}
 use Rattle.casa_footprint.specs.Items.{ItemName, the_clock, the_catalogue, a_row, a_list}
 use Rattle.casa_footprint.specs.Footprint.{reads, is_subject, is_list_of, governs, is_forced}
 use Rattle.casa_view.specs.declared.item.Item.{Item}

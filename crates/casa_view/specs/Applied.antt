@@ -16,8 +16,8 @@ use Rattle.casa_flight.specs.Listing.{Listing, listing, kept}
 use Rattle.casa_flight.specs.Steps.{next}
 use Rattle.casa_flight.specs.Good.{IsGood, AreInOrder}
 use Rattle.casa_flight.proofs.Entries.{each_found}
-use Rattle.casa_flight.proofs.Kept.{at-kept, same_entries, sorted-kept}
-use Rattle.casa_flight.proofs.GoodRegs.{next-good}
+use Rattle.casa_laws.proofs.Kept.{at-kept, same_entries, sorted-kept}
+use Rattle.casa_laws.proofs.GoodRegs.{next-good}
 use Rattle.casa_footprint.specs.Items.{ItemName, the_clock, the_catalogue, a_row, a_list, Content, moment, regulations}
 use Rattle.casa_footprint.specs.Items.{row_or_none, list_or_none, contents}
 use Rattle.casa_footprint.specs.Footprint.{writes}

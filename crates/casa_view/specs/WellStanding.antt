@@ -3,8 +3,8 @@ use Rattle.std.proofs.Common.{ℕ, not, is_some, refl, ap, Option}
 use Rattle.std.specs.Prelude.{if◌then◌else◌}
 use Rattle.casa_flight.specs.declared.call.Call.{Call}
 use Rattle.casa_flight.specs.declared.row.Row.{Row}
-use Rattle.casa_flight.proofs.Good.{empty_good}
-use Rattle.casa_flight.proofs.GoodRegs.{next-good}
+use Rattle.casa_laws.proofs.Good.{empty_good}
+use Rattle.casa_laws.proofs.GoodRegs.{next-good}
 use Rattle.casa_footprint.specs.Items.{a_row}
 use Rattle.casa_footprint.specs.Footprint.{writes}
 use Rattle.casa_view.specs.Standing.{Standing, StandsWell, opening, after}

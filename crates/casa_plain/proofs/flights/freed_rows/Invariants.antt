@@ -3,7 +3,7 @@ use Rattle.casa_flight.specs.declared.row.Row.{Row}
 use Rattle.casa_flight.specs.Text.{Text}
 use Rattle.casa_flight.specs.State.{is_governed_by}
 use Rattle.casa_flight.specs.Steps.{freed}
-use Rattle.casa_flight.proofs.Kept.{put_all}
+use Rattle.casa_laws.proofs.Kept.{put_all}
 use Rattle.casa_plain.proofs.flights.freed_rows.Given as goal
 
 abbrev pub invariant-loop-key : goal.invariant-loop-key

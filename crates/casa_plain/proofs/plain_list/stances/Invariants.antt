@@ -1,6 +1,6 @@
 use Rattle.std.proofs.Common.{◌≡◌, []}
 use Rattle.casa_flight.specs.Listing.{kept, stance_in}
-use Rattle.casa_flight.proofs.Kept.{put_all}
+use Rattle.casa_laws.proofs.Kept.{put_all}
 use Rattle.casa_plain.proofs.plain_list.stances.Given as goal
 
 abbrev pub invariant-loop-key : goal.invariant-loop-key

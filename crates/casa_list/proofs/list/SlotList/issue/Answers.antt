@@ -7,7 +7,7 @@ use Rattle.casa_flight.specs.declared.comp.Comp.{Comp}
 use Rattle.casa_flight.specs.declared.row.Stance.TheVariants.{Competing}
 use Rattle.casa_flight.specs.Text.{same_text}
 use Rattle.casa_flight.specs.Listing.{Listing, places, place_of}
-use Rattle.casa_flight.proofs.MovesNobody.{place_issued}
+use Rattle.casa_laws.proofs.MovesNobody.{place_issued}
 use Rattle.casa_list.proofs.Keeping.{index_of, standing_within, kept_few, stands}
 use Rattle.casa_list.proofs.Issuing.{kept_issued, issue_time}
 use Rattle.casa_list.proofs.Searched.{sorted_places, sorted_issued}

@@ -1,8 +1,0 @@
-use Rattle.casa_flight.proofs.Times.{delay_governed, delay_free}
-use Rattle.casa_flight.proofs.laws.delay_is_of_the_place.Goals as goal
-
-pub returns-clause-governed : goal.returns-clause-governed
-returns-clause-governed c = delay_governed
-
-pub returns-clause-free : goal.returns-clause-free
-returns-clause-free c = delay_free

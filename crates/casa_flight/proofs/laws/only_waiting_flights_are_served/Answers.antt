@@ -1,8 +1,0 @@
-use Rattle.casa_flight.proofs.IssuedTimes.{opened, ticked}
-use Rattle.casa_flight.proofs.laws.only_waiting_flights_are_served.Goals as goal
-
-pub returns-clause-opened : goal.returns-clause-opened
-returns-clause-opened c = opened
-
-pub returns-clause-ticked : goal.returns-clause-ticked
-returns-clause-ticked c = ticked

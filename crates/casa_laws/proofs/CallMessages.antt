@@ -1,0 +1,200 @@
+-- the messages of each call, from a good state
+use Rattle.std.proofs.Common.{◌≡◌, ℕ, ◌<◌, ◌≤◌, List, map, Bool, true, false, not, ◌&&◌, ◌||◌, refl, sym, ap, subst, ◌∙◌, Option, None, Some, MatchOption, is_some, nat_lt}
+use Rattle.std.specs.Ordering.{is_eq}
+use Rattle.std.specs.Option.{option_map_or}
+use Rattle.std.specs.List.{All, Contains}
+use Rattle.std.specs.List.Sorted.{IsStrictlySortedBy}
+use Rattle.std.proofs.lemmas.Bool.{both_ways, ltb-true}
+use Rattle.std.proofs.lemmas.List.Elements.{All-nil}
+use Rattle.casa_grid.specs.Profile.{end_of}
+use Rattle.casa_flight.specs.declared.call.Call.{Call}
+use Rattle.casa_flight.specs.declared.call.Call.TheVariants.{File, Amend, Cancel, Revise, Exempt, Show, List as ListOf}
+use Rattle.casa_flight.specs.declared.regulation.Measure.{Measure}
+use Rattle.casa_flight.specs.declared.reply.Message.{Message}
+use Rattle.casa_flight.specs.declared.reply.Message.TheVariants.{Sam, Srm, Slc}
+use Rattle.casa_flight.specs.declared.row.Row.{Row}
+use Rattle.casa_flight.specs.declared.state.State.{State}
+use Rattle.casa_flight.specs.Text.{Text, at_name, without}
+use Rattle.casa_flight.specs.FlightPlan.{FlightPlan}
+use Rattle.casa_flight.specs.State.{row_of, with_row, regulation, subject, is_exempt, is_due, is_gone, ungoverned}
+use Rattle.casa_flight.specs.Listing.{ctot_of}
+use Rattle.casa_flight.specs.Entry.{Offer, situation, choice, entered}
+use Rattle.casa_flight.specs.Steps.{Step, refused, leads, new_row, file, amend, cancel, is_revised, state_if, revise, exempt, exempt_if, show, list, step, after, next}
+use Rattle.casa_flight.specs.Replies.{messages, is_issued, ctot_before, reply, reply_of}
+use Rattle.casa_flight.specs.Good.{AreInOrder, IsOutside, IsGood, IsGoverned}
+use Rattle.casa_flight.specs.Messages.{messages_in, flight_of, CanCome, Tells}
+use Rattle.casa_flight.proofs.Entries.{text_cmp, same_name, all_at, at-without_other}
+use Rattle.casa_laws.proofs.Kept.{at-without_same}
+use Rattle.casa_laws.proofs.Choice.{choice-offer, choice-none}
+use Rattle.casa_laws.proofs.GoodRegs.{next-good}
+use Rattle.casa_laws.proofs.ChangeMessages.{message_cases, message_tells, each_message, tells_comes, messages_sorted, governed_by, free_of, StaysOpen, messages_unchanged, all_one}
+use Rattle.casa_laws.proofs.EnterAll.{IsIssuedNow, issued_now, issues}
+
+-- what holds of the messages of a call, whatever the call
+nothing_tells : (m : State) (x : Message) → Tells m m x → ⊥
+nothing_tells m (Sam key ctot reg) t = both_ways (is_issued (row_of m key)) t.0 (ap is_issued t.1.is_filed ∙ t.1.issued)
+nothing_tells m (Srm key ctot reg) t = t.1 (sym (ap (λ (w : Option Row). option_map_or (ctot_of m key) w 0) t.2.is_filed ∙ t.2.leaves))
+nothing_tells m (Slc key) t = both_ways (is_issued (row_of m key)) t.2 t.0
+
+step_tells : (m : State) (call : Call) (s : Step) → AreInOrder (after m s).rows → All (Tells m (after m s)) (messages_in (reply_of m call s))
+step_tells m call (refused r) sorted = All-nil (Tells m m)
+step_tells m call (leads n) sorted = each_message (Tells m n) m n sorted (λ key row x. message_tells m n key row x)
+
+step_comes : (m : State) (call : Call) (s : Step) (x : Message) → Tells m (after m s) x → Contains (messages_in (reply_of m call s)) x
+step_comes m call (refused r) x t = absurd (nothing_tells m x t)
+step_comes m call (leads n) x t = tells_comes m n x t
+
+step_sorted : (m : State) (call : Call) (s : Step) → AreInOrder (after m s).rows → IsStrictlySortedBy text_cmp (map flight_of (messages_in (reply_of m call s)))
+unfolding IsStrictlySortedBy
+step_sorted m call (refused r) sorted = tt
+step_sorted m call (leads n) sorted = messages_sorted m n sorted
+
+pub call_tells : (m : State) (call : Call) → IsGood m → All (Tells m (next m call)) (messages_in (reply m call))
+call_tells m call good = step_tells m call (step m call) (next-good m call good).rows_in_order
+
+pub call_comes : (m : State) (call : Call) (x : Message) → IsGood m → Tells m (next m call) x → Contains (messages_in (reply m call)) x
+call_comes m call x good t = step_comes m call (step m call) x t
+
+pub call_sorted : (m : State) (call : Call) → IsGood m → IsStrictlySortedBy text_cmp (map flight_of (messages_in (reply m call)))
+call_sorted m call good = step_sorted m call (step m call) (next-good m call good).rows_in_order
+
+-- which messages can come of a call, by its outcome
+abbrev pub Comes : State → Call → Step → Type 0
+Comes m call s = All (CanCome m call) (messages_in (reply_of m call s))
+
+-- of a call that writes one row, the message for its flight
+one_message : (Q : Message → Type 0) (m : State) (key : Text) (row : Row) → IsGood m → let n : State = with_row m key row in
+    ((reg : Text) → row.governing ≡ Some reg → is_issued (row_of m key) ≡ false → is_some row.issued ≡ true → Q (Sam key (ctot_of n key row) reg))
+    → ((reg : Text) → row.governing ≡ Some reg → is_issued (row_of m key) ≡ true → is_some row.issued ≡ true → (ctot_of n key row ≡ ctot_before m key → ⊥) → Q (Srm key (ctot_of n key row) reg))
+    → (is_issued (row_of m key) ≡ true → is_some row.issued ≡ false → Q (Slc key))
+    → All Q (messages m n)
+one_message Q m key row good a b c =
+    all_one Q m key row good (message_cases Q key row.governing (is_issued (row_of m key)) (is_some row.issued) (ctot_before m key) (ctot_of (with_row m key row) key row) a b c)
+
+-- of a call that leaves each row that is there, nothing
+pub no_message : (Q : Message → Type 0) (m n : State) → IsGood m → AreInOrder n.rows → ((id : Text) → StaysOpen m n id) → ((key : Text) (row : Row) → row_of n key ≡ Some row → row_of m key ≡ Some row) → All Q (messages m n)
+no_message Q m n good sorted stays before = subst (All Q) (sym (messages_unchanged m n good sorted stays before)) (All-nil Q)
+
+unchanged : (Q : Message → Type 0) (m : State) → IsGood m → All Q (messages m m)
+unchanged Q m good = no_message Q m m good good.rows_in_order (λ id a opened. (a, opened, refl)) (λ key row found. found)
+
+not_issued_there : (m : State) (key : Text) → row_of m key ≡ None → is_issued (row_of m key) ≡ false
+not_issued_there m key absent = ap is_issued absent
+
+pub file_comes : (m : State) (plan : FlightPlan) (o : Option Row) (late : Bool) → IsGood m → row_of m plan.key ≡ o → Comes m (File plan) (file m plan o late)
+file_comes m plan (Some row) late good found = All-nil (CanCome m (File plan))
+file_comes m plan None true good found = All-nil (CanCome m (File plan))
+file_comes m plan None false good found =
+    one_message (CanCome m (File plan)) m plan.key (entered (situation m) plan.key (new_row plan)) good
+    (λ _ _ _ _. refl)
+    (λ _ _ was _ _. both_ways _ (not_issued_there m plan.key found) was)
+    (λ was _. both_ways _ (not_issued_there m plan.key found) was)
+
+pub amend_comes : (m : State) (plan : FlightPlan) (o : Option Row) (late : Bool) → IsGood m → Comes m (Amend plan) (amend m plan o late)
+amend_comes m plan None late good = All-nil (CanCome m (Amend plan))
+amend_comes m plan (Some row) true good = All-nil (CanCome m (Amend plan))
+amend_comes m plan (Some row) false good =
+    one_message (CanCome m (Amend plan)) m plan.key (entered (situation m) plan.key (record (ungoverned row) { plan = plan })) good
+    (λ _ _ _ _. refl) (λ _ _ _ _ _. refl) (λ _ _. refl)
+
+-- what is left after a flight was removed was there before
+left_row : (m : State) (key other : Text) (row : Row) → IsGood m → at_name (without m.rows key) other ≡ Some row → row_of m other ≡ Some row
+left_row m key other row good found =
+    elim (is_eq (text_cmp other key)) as (λ b. is_eq (text_cmp other key) ≡ b → row_of m other ≡ Some row) [
+      | true ↦ λ t.
+          let gone : None ≡ Some row = sym (at-without_same key m.rows good.rows_in_order) ∙ subst (λ q. at_name (without m.rows key) q ≡ Some row) (same_name other key t) found in
+          cc
+      | false ↦ λ t. sym (at-without_other other key m.rows t) ∙ found
+    ] refl
+
+pub cancel_comes : (m : State) (key : Text) (o : Option Row) → IsGood m → IsGood (after m (cancel m key o)) → Comes m (Cancel key) (cancel m key o)
+cancel_comes m key None good later = All-nil (CanCome m (Cancel key))
+cancel_comes m key (Some row) good later =
+    no_message (CanCome m (Cancel key)) m (record m { rows = without m.rows key }) good later.rows_in_order (λ id a opened. (a, opened, refl)) (λ other r found. left_row m key other r good found)
+
+exempt_if_comes : (m : State) (key : Text) (row : Row) (b : Bool) → IsGood m → Comes m (Exempt key) (exempt_if m key row b)
+exempt_if_comes m key row true good = All-nil (CanCome m (Exempt key))
+exempt_if_comes m key row false good =
+    one_message (CanCome m (Exempt key)) m key (record (ungoverned row) { marked = true }) good
+    (λ _ _ _ now. cc) (λ _ _ _ now _. cc) (λ _ _. refl)
+
+pub exempt_comes : (m : State) (key : Text) (o : Option Row) → IsGood m → Comes m (Exempt key) (exempt m key o)
+exempt_comes m key None good = All-nil (CanCome m (Exempt key))
+exempt_comes m key (Some row) good = exempt_if_comes m key row (is_exempt row) good
+
+-- a plan that is subject to an open regulation is not outside
+pub not_outside : (regs : List (Text × Measure)) (plan : FlightPlan) (id : Text) (measure : Measure) (eto : ℕ) → IsOutside regs plan → at_name regs id ≡ Some measure → subject plan (regulation id measure) ≡ Some eto → ⊥
+not_outside regs plan id measure eto out opened over =
+    let none : None ≡ Some eto = sym (all_at (λ (e : Text × Measure). subject plan (regulation e.0 e.1) ≡ None) id measure regs out opened) ∙ over in cc
+
+-- a governed flight is issued exactly if it is due
+pub issued_if_due : (clock : ℕ) (regs : List (Text × Measure)) (row : Row) (id : Text) → IsGoverned clock regs row id → is_some row.issued ≡ is_due clock row.plan
+issued_if_due clock regs row id g = by row.issued g.issued
+  where
+    by : (w : Option ℕ) → MatchOption w (is_due clock row.plan ≡ false) (λ t. (is_due clock row.plan ≡ true) × (g.eto ≤ t) × (t ≤ end_of g.measure.profile)) → is_some w ≡ is_due clock row.plan
+    by None h = sym h
+    by (Some t) h = sym h.0
+
+pub not_due : (clock : ℕ) (regs : List (Text × Measure)) (row : Row) (id : Text) → IsGoverned clock regs row id → is_some row.issued ≡ false → is_due clock row.plan ≡ false
+not_due clock regs row id g h = sym (issued_if_due clock regs row id g) ∙ h
+
+pub was_due : (clock : ℕ) (regs : List (Text × Measure)) (row : Row) (id : Text) → IsGoverned clock regs row id → is_some row.issued ≡ true → is_due clock row.plan ≡ true
+was_due clock regs row id g h = sym (issued_if_due clock regs row id g) ∙ h
+
+-- a flight that waits for its slot still waits when it enters anew
+still_waits : (m : State) (key : Text) (row : Row) → IsGood m → row_of m key ≡ Some row → is_some row.issued ≡ false → is_some (entered (situation m) key (ungoverned row)).issued ≡ true → ⊥
+still_waits m key row good found waits issued = by row.governing refl
+  where
+    now : IsIssuedNow (situation m) key (ungoverned row)
+    now = issued_now (situation m) key (ungoverned row) refl issued
+
+    by : (w : Option Text) → row.governing ≡ w → ⊥
+    by None e =
+        let offered = choice-offer m key row.plan now.offer good.regs_in_order now.chosen in
+        not_outside m.regs row.plan now.offer.id offered.measure offered.eto ((free_of m key row good found e).left now.plain now.here) offered.is_open offered.is_subject
+    by (Some id) e = both_ways _ (not_due m.clock m.regs row id (governed_by m key row id good found e) waits) now.due
+
+-- an issued flight that is not gone is issued again when it enters anew
+issued_again : (m : State) (key : Text) (row : Row) → IsGood m → row_of m key ≡ Some row → is_some row.issued ≡ true → is_gone m.clock row.plan ≡ false → is_some (entered (situation m) key (ungoverned row)).issued ≡ true
+issued_again m key row good found issued here = by row.governing refl
+  where
+    by : (w : Option Text) → row.governing ≡ w → is_some (entered (situation m) key (ungoverned row)).issued ≡ true
+    by None e = absurd (both_ways _ (ap is_some (free_of m key row good found e).not_issued) issued)
+    by (Some id) e =
+        let g = governed_by m key row id good found e in
+        elim (choice (situation m) key row.plan) as (λ (o : Option Offer). choice (situation m) key row.plan ≡ o → is_some (entered (situation m) key (ungoverned row)).issued ≡ true) [
+          | None ↦ λ c. absurd (not_outside m.regs row.plan id g.measure g.eto (choice-none m key row.plan good.regs_in_order c) g.is_open g.is_subject)
+          | Some o ↦ λ c. issues (situation m) key (ungoverned row) o g.not_exempt here (was_due m.clock m.regs row id g issued) c
+        ] refl
+
+revised_parts : (i g l : Bool) → (not i || (not g && l)) ≡ true → i ≡ true → (g ≡ false) × (l ≡ true)
+revised_parts true false true h is = (refl, refl)
+revised_parts true false false h is = cc
+revised_parts true true l h is = cc
+revised_parts false g l h is = cc
+
+revise_if_comes : (m : State) (key : Text) (row : Row) (b : Bool) → IsGood m → row_of m key ≡ Some row → let new : Row = entered (situation m) key (ungoverned row) in
+    is_revised m key row new ≡ b → Comes m (Revise key) (leads (state_if b (with_row m key new) m))
+revise_if_comes m key row false good found is = unchanged (CanCome m (Revise key)) m good
+revise_if_comes m key row true good found is =
+    let new : Row = entered (situation m) key (ungoverned row) in
+    let parts : is_some row.issued ≡ true → (is_gone m.clock row.plan ≡ false) × (nat_lt (ctot_of (with_row m key new) key new) (ctot_of m key row) ≡ true) =
+    revised_parts (is_some row.issued) (is_gone m.clock row.plan) (nat_lt (ctot_of (with_row m key new) key new) (ctot_of m key row)) is in
+    let as_row : is_issued (row_of m key) ≡ is_some row.issued = ap is_issued found in
+    let before : ctot_of m key row ≡ ctot_before m key = sym (ap (λ (w : Option Row). option_map_or (ctot_of m key) w 0) found) in
+    one_message (CanCome m (Revise key)) m key new good
+    (λ _ _ was now. still_waits m key row good found (sym as_row ∙ was) now)
+    (λ _ _ was _ _. (refl, subst (λ t. ctot_of (with_row m key new) key new < t) before (ltb-true _ _ (parts (sym as_row ∙ was)).1)))
+    (λ was now. both_ways _ now (issued_again m key row good found (sym as_row ∙ was) (parts (sym as_row ∙ was)).0))
+
+pub revise_comes : (m : State) (key : Text) (o : Option Row) → IsGood m → row_of m key ≡ o → Comes m (Revise key) (revise m key o)
+revise_comes m key None good found = All-nil (CanCome m (Revise key))
+revise_comes m key (Some row) good found = revise_if_comes m key row (is_revised m key row (entered (situation m) key (ungoverned row))) good found refl
+
+pub show_comes : (m : State) (key : Text) (o : Option Row) → IsGood m → Comes m (Show key) (show m o)
+show_comes m key None good = All-nil (CanCome m (Show key))
+show_comes m key (Some row) good = unchanged (CanCome m (Show key)) m good
+
+pub list_comes : (m : State) (id : Text) (o : Option Measure) → IsGood m → Comes m (ListOf id) (list m o)
+list_comes m id None good = All-nil (CanCome m (ListOf id))
+list_comes m id (Some measure) good = unchanged (CanCome m (ListOf id)) m good

@@ -1,0 +1,24 @@
+pub mod Kept
+pub mod Assignment
+pub mod Rising
+pub mod Competitors
+pub mod Issue
+pub mod Blocked
+pub mod MovesNobody
+pub mod Lists
+pub mod Times
+pub mod Choice
+pub mod Crossings
+pub mod Good
+pub mod GoodTick
+pub mod GoodRegs
+pub mod ChangeMessages
+pub mod EnterAll
+pub mod CallMessages
+pub mod RegMessages
+pub mod InOrder
+pub mod Chosen
+pub mod Planned
+pub mod IssuedTimes
+pub mod InTurn
+mod Worked
