@@ -9,7 +9,7 @@ use Rattle.casa_flight.specs.declared.state.State.{State}
 use Rattle.casa_flight.specs.Text.{Text, at_name}
 use Rattle.casa_flight.specs.FlightPlan.{FlightPlan}
 use Rattle.casa_flight.specs.State.{row_of, measure_of, regulation, catalogue, subject}
-use Rattle.casa_flight.specs.Listing.{Listing, listing, list_of}
+use Rattle.casa_flight.specs.Listing.{listing, list_of}
 use Rattle.casa_flight.proofs.Entries.{text_cmp, same_name}
 use Rattle.casa_footprint.specs.Footprint.{is_subject, is_list_of}
 
@@ -47,19 +47,6 @@ is_list_of_same m n key id c found = by (row_of m key) ∙ ap (λ (w : Option Ro
     by : (w : Option Row) → option_map_or (λ (r : Row). is_subject m r.plan id) w false ≡ option_map_or (λ (r : Row). is_subject n r.plan id) w false
     by None = refl
     by (Some r) = is_subject_same m n r.plan id c
-
--- the location is in the catalogue, and the profile in the list
-measure_from : (rs ss : List (Text × Row)) (id : Text) (v w : Option Measure) → option_map (regulation id) v ≡ option_map (regulation id) w → option_map (listing rs id) v ≡ option_map (listing ss id) w → v ≡ w
-measure_from rs ss id None None p q = refl
-measure_from rs ss id None (Some z) p q = cc
-measure_from rs ss id (Some y) None p q = cc
-measure_from rs ss id (Some y) (Some z) p q =
-    let locs : y.loc ≡ z.loc = ap (λ (w : Option Regulation). option_map_or (λ (r : Regulation). r.loc) w []) p in
-    let profiles : y.profile ≡ z.profile = ap (λ (w : Option Listing). option_map_or (λ (l : Listing). l.profile) w []) q in
-    λ i. Some (record { loc = locs i; profile = profiles i })
-
-pub measure_same : (m n : State) (id : Text) → catalogue m ≡ catalogue n → list_of m id ≡ list_of n id → measure_of m id ≡ measure_of n id
-measure_same m n id c l = measure_from m.rows n.rows id (measure_of m id) (measure_of n id) (regulation_same m n id c) l
 
 -- the catalogue says which lists there are
 pub absent_same : (m n : State) (id : Text) → catalogue m ≡ catalogue n → list_of m id ≡ None → list_of n id ≡ None

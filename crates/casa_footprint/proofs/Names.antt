@@ -5,10 +5,7 @@ use Rattle.casa_flight.specs.declared.state.State.{State}
 use Rattle.casa_flight.specs.Text.{Text, same_text}
 use Rattle.casa_flight.specs.State.{row_of, catalogue}
 use Rattle.casa_flight.specs.Listing.{list_of}
-use Rattle.casa_footprint.specs.Items.{the_clock, the_catalogue, a_row, a_list, moment, regulations, row_or_none, list_or_none, contents}
-
-pub clock_in : (m n : State) → contents m the_clock ≡ contents n the_clock → m.clock ≡ n.clock
-clock_in m n h = let e : moment m.clock ≡ moment n.clock = h in cc
+use Rattle.casa_footprint.specs.Items.{the_catalogue, a_row, a_list, regulations, row_or_none, list_or_none, contents}
 
 pub catalogue_in : (m n : State) → contents m the_catalogue ≡ contents n the_catalogue → catalogue m ≡ catalogue n
 catalogue_in m n h = let e : regulations (catalogue m) ≡ regulations (catalogue n) = h in cc

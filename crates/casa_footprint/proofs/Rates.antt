@@ -1,5 +1,5 @@
 -- Rates
-use Rattle.std.proofs.Common.{◌≡◌, List, [], ◌∷◌, Bool, true, false, cond, refl, sym, ap, subst, ◌∙◌, Option, None, Some, ◌&&◌, map, ◌==◌, unwrap_or}
+use Rattle.std.proofs.Common.{◌≡◌, List, [], ◌∷◌, Bool, true, false, cond, refl, sym, ap, ◌∙◌, Option, None, Some, ◌&&◌, map, ◌==◌, unwrap_or}
 use Rattle.std.specs.declared.cmp.Ordering.TheVariants.{Less, Equal, Greater}
 use Rattle.std.specs.Ordering.{is_eq, match_ordering}
 use Rattle.std.specs.Option.{option_map}
@@ -8,8 +8,6 @@ use Rattle.std.proofs.lemmas.Bool.{and_parts, eqb-true}
 use Rattle.casa_grid.specs.declared.period.Period.{Period}
 use Rattle.casa_grid.specs.Profile.{start_of, end_of}
 use Rattle.casa_flight.specs.declared.call.Call.TheVariants.{Rates}
-use Rattle.casa_flight.specs.declared.reply.Answer.TheVariants.{Done}
-use Rattle.casa_flight.specs.declared.reply.Reply.TheVariants.{Answered}
 use Rattle.casa_flight.specs.declared.regulation.Regulation.{Regulation}
 use Rattle.casa_flight.specs.declared.regulation.Measure.{Measure}
 use Rattle.casa_flight.specs.declared.row.Row.{Row}
@@ -18,17 +16,15 @@ use Rattle.casa_flight.specs.Text.{Text, at_name, put}
 use Rattle.casa_flight.specs.State.{measure_of, regulation, catalogue, subject, is_governed_by}
 use Rattle.casa_flight.specs.Listing.{Listing, listing, list_of, stance, kept}
 use Rattle.casa_flight.specs.Steps.{has_span, rates, rates_if, after}
-use Rattle.casa_flight.specs.Replies.{reply_of, messages}
+use Rattle.casa_flight.specs.Replies.{messages}
 use Rattle.casa_flight.specs.Good.{AreInOrder, IsGood}
-use Rattle.casa_flight.proofs.Entries.{text_cmp, after_all, at-put_same, at-put_other, named, apart}
+use Rattle.casa_flight.proofs.Entries.{text_cmp, after_all, at-put_same, at-put_other, apart}
 use Rattle.casa_laws.proofs.Kept.{at_above}
 use Rattle.std.specs.Map.{keys_of}
 use Rattle.casa_footprint.specs.Items.{ItemName, the_clock, the_catalogue, a_row, a_list, regulations, list_or_none, contents}
 use Rattle.casa_footprint.specs.Footprint.{would_write, is_accepted}
-use Rattle.casa_footprint.proofs.Names.{catalogue_in, list_in, text_itself}
-use Rattle.casa_footprint.proofs.Catalogue.{measure_same}
 use Rattle.casa_footprint.proofs.Messages.{messages_none}
-use Rattle.casa_footprint.proofs.Forms.{Decides, DecidesWrites, DecidesReads, Spares}
+use Rattle.casa_footprint.proofs.Forms.{DecidesReads, Spares}
 
 -- a value written over one from which f makes the same
 put_over : {X Y : Type 0} (f : Text × X → Y) (k : Text) (new old : X) → ((q : Text) → f (q, new) ≡ f (q, old)) → (es : List (Text × X)) → AreInOrder es → at_name es k ≡ Some old → map f (put es k new) ≡ map f es
@@ -69,47 +65,6 @@ pub list_rated : (m : State) (id : Text) (measure : Measure) (profile : List Per
 list_rated m id measure profile h =
     ap (option_map (listing m.rows id)) (at-put_same id (record measure { profile = profile }) m.regs)
     ∙ ap (λ (r : Regulation). let l : Listing = record { profile = profile; flights = kept (λ (row : Row). option_map (stance (is_governed_by id row) row.issued) (subject row.plan r)) m.rows } in Some l) (regulation_rated id measure profile h)
-
-pub rates_decides : (id : Text) (profile : List Period) → Decides (Rates id profile)
-rates_decides id profile m n gm gn s = (
-  replied (measure_of m id) refl (sym measures) ∙ ap (λ (w : Option Measure). reply_of n (Rates id profile) (rates n id profile w)) measures,
-  λ i h. wrote (measure_of m id) refl (sym measures) i h ∙ ap (λ (w : Option Measure). contents (after n (rates n id profile w)) i) measures,
-)
-  where
-    lists : list_of m id ≡ list_of n id
-    lists = list_in m n id (s (a_list id) (text_itself id))
-
-    measures : measure_of m id ≡ measure_of n id
-    measures = measure_same m n id (catalogue_in m n (s the_catalogue refl)) lists
-
-    replied_if : (measure : Measure) → measure_of m id ≡ Some measure → measure_of n id ≡ Some measure → (b : Bool) → has_span profile measure.profile ≡ b → reply_of m (Rates id profile) (rates_if m id measure profile b) ≡ reply_of n (Rates id profile) (rates_if n id measure profile b)
-    replied_if measure e f false h = refl
-    replied_if measure e f true h = λ i. Answered Done ((rates_messages m id measure profile gm e h ∙ sym (rates_messages n id measure profile gn f h)) i)
-
-    replied : (w : Option Measure) → measure_of m id ≡ w → measure_of n id ≡ w → reply_of m (Rates id profile) (rates m id profile w) ≡ reply_of n (Rates id profile) (rates n id profile w)
-    replied None e f = refl
-    replied (Some measure) e f = replied_if measure e f (has_span profile measure.profile) refl
-
-    wrote_if : (measure : Measure) → measure_of m id ≡ Some measure → measure_of n id ≡ Some measure → (b : Bool) → has_span profile measure.profile ≡ b → (i : ItemName) → (is_accepted (rates_if m id measure profile b) && would_write m (Rates id profile) i) ≡ true
-        → contents (after m (rates_if m id measure profile b)) i ≡ contents (after n (rates_if n id measure profile b)) i
-    wrote_if measure e f false h i w = cc
-    wrote_if measure e f true h the_clock w = cc
-    wrote_if measure e f true h the_catalogue w = cc
-    wrote_if measure e f true h (a_row key) w = cc
-    wrote_if measure e f true h (a_list other) w =
-        let same : Some (listing m.rows id measure) ≡ Some (listing n.rows id measure) = ap (option_map (listing m.rows id)) (sym e) ∙ lists ∙ ap (option_map (listing n.rows id)) f in
-        subst (λ t. contents (rated m id measure profile) (a_list t) ≡ contents (rated n id measure profile) (a_list t)) (named id other w)
-        (ap list_or_none (list_rated m id measure profile h ∙ ap (λ (v : Option Listing). option_map (λ (l : Listing). record l { profile = profile }) v) same ∙ sym (list_rated n id measure profile h)))
-
-    wrote : (w : Option Measure) → measure_of m id ≡ w → measure_of n id ≡ w → (i : ItemName) → (is_accepted (rates m id profile w) && would_write m (Rates id profile) i) ≡ true → contents (after m (rates m id profile w)) i ≡ contents (after n (rates n id profile w)) i
-    wrote None e f i h = cc
-    wrote (Some measure) e f i h = wrote_if measure e f (has_span profile measure.profile) refl i h
-
-pub rates_writes : (id : Text) (profile : List Period) → DecidesWrites (Rates id profile)
-rates_writes id profile m n gm gn s the_clock = refl
-rates_writes id profile m n gm gn s the_catalogue = refl
-rates_writes id profile m n gm gn s (a_row key) = refl
-rates_writes id profile m n gm gn s (a_list other) = refl
 
 pub rates_reads : (id : Text) (profile : List Period) → DecidesReads (Rates id profile)
 rates_reads id profile m n gm gn s the_clock = refl

@@ -14,66 +14,24 @@ use Rattle.casa_flight.specs.Text.{Text}
 use Rattle.casa_flight.specs.State.{row_of, measure_of, regulation, subject, is_governed_by}
 use Rattle.casa_flight.specs.Listing.{listing, stance, stance_in, kept}
 use Rattle.casa_flight.specs.Entry.{is_to_issue, issue_if, issue_due}
-use Rattle.casa_flight.specs.Steps.{tick, after, next}
-use Rattle.casa_flight.specs.Replies.{reply}
-use Rattle.casa_flight.specs.Good.{IsGood}
+use Rattle.casa_flight.specs.Steps.{tick, after}
 use Rattle.casa_flight.proofs.Entries.{at-map}
-use Rattle.casa_laws.proofs.Kept.{same_entries}
-use Rattle.casa_footprint.specs.Items.{ItemName, the_clock, the_catalogue, a_row, a_list, row_or_none, list_or_none, contents, AgreeOn}
+use Rattle.casa_footprint.specs.Items.{ItemName, the_clock, the_catalogue, a_row, a_list, row_or_none, list_or_none, contents}
 use Rattle.casa_footprint.specs.Footprint.{reads, would_write, is_accepted}
-use Rattle.casa_footprint.proofs.Names.{clock_in, catalogue_in, row_in, list_in}
-use Rattle.casa_footprint.proofs.Catalogue.{measure_same}
-use Rattle.casa_footprint.proofs.Forms.{Decides, DecidesWrites, DecidesReads, Spares}
-
--- good states with the same contents of all items are the same
-pub same_state : (m n : State) → IsGood m → IsGood n → ((i : ItemName) → contents m i ≡ contents n i) → m ≡ n
-same_state m n gm gn s =
-    let rows : m.rows ≡ n.rows = same_entries m.rows n.rows gm.rows_in_order gn.rows_in_order (λ key. row_in m n key (s (a_row key))) in
-    let regs : m.regs ≡ n.regs = same_entries m.regs n.regs gm.regs_in_order gn.regs_in_order (λ id. measure_same m n id (catalogue_in m n (s the_catalogue)) (list_in m n id (s (a_list id)))) in
-    let clock : m.clock ≡ n.clock = clock_in m n (s the_clock) in
-    λ i. record { clock = clock i; regs = regs i; rows = rows i }
+use Rattle.casa_footprint.proofs.Forms.{DecidesReads, Spares}
 
 -- a call that reads all items
 abbrev ReadsAll : Call → Type 0
 ReadsAll call = (m : State) (i : ItemName) → reads m call i ≡ true
 
-whole : (call : Call) → ReadsAll call → (m n : State) → IsGood m → IsGood n → AgreeOn (reads m call) m n → m ≡ n
-whole call all m n gm gn s = same_state m n gm gn (λ i. s i (all m i))
-
-whole_decides : (call : Call) → ReadsAll call → Decides call
-whole_decides call all m n gm gn s =
-    let e : m ≡ n = whole call all m n gm gn s in
-    (ap (λ (t : State). reply t call) e, λ i h. ap (λ (t : State). contents (next t call) i) e)
-
-whole_writes : (call : Call) → ReadsAll call → DecidesWrites call
-whole_writes call all m n gm gn s i = ap (λ (t : State). would_write t call i) (whole call all m n gm gn s)
-
 whole_reads : (call : Call) → ReadsAll call → DecidesReads call
 whole_reads call all m n gm gn s i = all m i ∙ sym (all n i)
-
-pub tick_decides : (at : ℕ) → Decides (Tick at)
-tick_decides at = whole_decides (Tick at) (λ m i. refl)
-
-pub tick_writes : (at : ℕ) → DecidesWrites (Tick at)
-tick_writes at = whole_writes (Tick at) (λ m i. refl)
 
 pub tick_reads : (at : ℕ) → DecidesReads (Tick at)
 tick_reads at = whole_reads (Tick at) (λ m i. refl)
 
-pub open_decides : (id loc : Text) (profile : List Period) → Decides (OpenReg id loc profile)
-open_decides id loc profile = whole_decides (OpenReg id loc profile) (λ m i. refl)
-
-pub open_writes : (id loc : Text) (profile : List Period) → DecidesWrites (OpenReg id loc profile)
-open_writes id loc profile = whole_writes (OpenReg id loc profile) (λ m i. refl)
-
 pub open_reads : (id loc : Text) (profile : List Period) → DecidesReads (OpenReg id loc profile)
 open_reads id loc profile = whole_reads (OpenReg id loc profile) (λ m i. refl)
-
-pub close_decides : (id : Text) → Decides (CloseReg id)
-close_decides id = whole_decides (CloseReg id) (λ m i. refl)
-
-pub close_writes : (id : Text) → DecidesWrites (CloseReg id)
-close_writes id = whole_writes (CloseReg id) (λ m i. refl)
 
 pub close_reads : (id : Text) → DecidesReads (CloseReg id)
 close_reads id = whole_reads (CloseReg id) (λ m i. refl)

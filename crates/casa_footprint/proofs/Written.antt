@@ -1,4 +1,4 @@
--- which stamps change as entries are added, and what an unmoved view decides
+-- which stamps change as entries are added
 use Rattle.std.proofs.Common.{◌≡◌, ◌≢◌, ℕ, zero, suc, ◌+◌, ◌≤◌, List, [], ◌∷◌, ◌++◌, take, Bool, true, false, cond, refl, sym, ap, subst, ◌∙◌, Some, length, arith, rules}
 use Rattle.std.specs.Prelude.{slice_get, if◌then◌else◌}
 use Rattle.casa_flight.specs.declared.call.Call.{Call}
@@ -6,17 +6,16 @@ use Rattle.casa_flight.specs.declared.reply.Reply.{Reply}
 use Rattle.casa_flight.specs.declared.state.State.{State}
 use Rattle.casa_flight.specs.State.{empty}
 use Rattle.casa_flight.specs.Steps.{next}
-use Rattle.casa_flight.specs.Replies.{reply}
 use Rattle.casa_flight.specs.Good.{IsGood}
 use Rattle.casa_laws.proofs.Good.{empty_good}
 use Rattle.casa_laws.proofs.GoodRegs.{next-good}
 use Rattle.casa_history.specs.declared.entry.Entry.{Entry}
-use Rattle.casa_footprint.specs.Items.{ItemName, the_clock, the_catalogue, a_row, a_list, contents, AgreeOn}
-use Rattle.casa_footprint.specs.Footprint.{reads, writes}
-use Rattle.casa_footprint.specs.Stamps.{state_after, last_write, is_absent_row, stamp, IsUnmoved}
-use Rattle.casa_footprint.specs.Written.{view_after, IsWritten, IsAbsentStill}
-use Rattle.casa_footprint.proofs.EachCall.{decides, writes_same, spares}
-use Rattle.casa_footprint.proofs.Stamps.{run, run-append, after-run, run-good, new_last, last_write-rises, goes_on, same_view}
+use Rattle.casa_footprint.specs.Items.{ItemName, the_clock, the_catalogue, a_row, a_list, contents}
+use Rattle.casa_footprint.specs.Footprint.{writes}
+use Rattle.casa_footprint.specs.Stamps.{state_after, last_write, is_absent_row, stamp}
+use Rattle.casa_footprint.specs.Written.{IsWritten, IsAbsentStill}
+use Rattle.casa_footprint.proofs.EachCall.{spares}
+use Rattle.casa_footprint.proofs.Stamps.{run, run-append, after-run, run-good, new_last, last_write-rises, goes_on}
 
 abbrev Entries : Type 0
 Entries = List (Entry Call Reply)
@@ -174,33 +173,3 @@ row_stamped history i first there =
     (ap (λ (m : State). is_absent_row m i) (sym (after-run history)) ∙ there) in
     let is : stamp history i ≡ last_write empty 0 0 i history = ap (λ b. cond b 0 (last_write empty 0 0 i history)) there in
     omega (arith, number, is)
-
-agreed : (history later : Entries) (call : Call) → IsUnmoved (view_after history call) (history ++ later)
-    → AgreeOn (reads (state_after history) call) (state_after history) (state_after (history ++ later))
-agreed history later call unmoved = same_view history later (view_after history call) (λ i h. refl) unmoved
-
-pub late_reply : (history later : Entries) (call : Call) → IsUnmoved (view_after history call) (history ++ later)
-    → reply (state_after (history ++ later)) call ≡ reply (state_after history) call
-late_reply history later call unmoved =
-    sym (decides call (state_after history) (state_after (history ++ later)) (after_good history) (after_good (history ++ later))
-    (agreed history later call unmoved)).0
-
-pub late_write : (history later : Entries) (call : Call) → IsUnmoved (view_after history call) (history ++ later)
-    → (i : ItemName) → contents (next (state_after (history ++ later)) call) i
-    ≡ (if writes (state_after history) call i then contents (next (state_after history) call) i
-    else contents (state_after (history ++ later)) i)
-late_write history later call unmoved i = by (writes m call i) refl
-  where
-    m : State
-    m = state_after history
-
-    n : State
-    n = state_after (history ++ later)
-
-    written : writes m call i ≡ writes n call i
-    written = writes_same m n call (after_good history) (after_good (history ++ later)) (agreed history later call unmoved) i
-
-    by : (b : Bool) → writes m call i ≡ b
-        → contents (next n call) i ≡ (if b then contents (next m call) i else contents n i)
-    by true is = sym ((decides call m n (after_good history) (after_good (history ++ later)) (agreed history later call unmoved)).1 i is)
-    by false is = spares call n (after_good (history ++ later)) i (sym written ∙ is)

@@ -1,6 +1,6 @@
 //! Laws of the definitions, each on a function that does nothing: what a call needs to see and what it changes.
 
-ghost use Rattle.std.specs.Prelude.{◌≡◌, ◌≢◌, false, List, ◌++◌, None, if◌then◌else◌};
+ghost use Rattle.std.specs.Prelude.{◌≡◌, ◌≢◌, false, List, ◌++◌, None};
 ghost use Rattle.casa_flight.specs.declared.call.Call.{Call};
 ghost use Rattle.casa_flight.specs.declared.reply.Reply.{Reply};
 ghost use Rattle.casa_flight.specs.declared.state.State.{State};
@@ -8,23 +8,11 @@ ghost use Rattle.casa_flight.specs.Text.{Text};
 ghost use Rattle.casa_flight.specs.Listing.{list_of};
 ghost use Rattle.casa_flight.specs.Good.{IsGood};
 ghost use Rattle.casa_flight.specs.Steps.{next};
-ghost use Rattle.casa_flight.specs.Replies.{reply};
 ghost use Rattle.casa_history.specs.declared.entry.Entry.{Entry};
 ghost use Rattle.casa_footprint.specs.Items.{ItemName, the_catalogue, contents, AgreeOn};
 ghost use Rattle.casa_footprint.specs.Footprint.{reads, writes};
 ghost use Rattle.casa_footprint.specs.Stamps.{View, state_after, stamp, IsUnmoved};
-ghost use Rattle.casa_footprint.specs.Written.{view_after, IsWritten, IsAbsentStill};
-
-/// What a call reads decides its reply, which items it writes, and what these contain afterwards: two good states
-/// that agree on what the call reads in the first of them differ in none of these.
-pub fn footprints_decide()
-    ensures reply { (m n : State) (call : Call) → IsGood m → IsGood n → AgreeOn (reads m call) m n →
-        reply m call ≡ reply n call }
-    ensures written { (m n : State) (call : Call) → IsGood m → IsGood n → AgreeOn (reads m call) m n →
-        (i : ItemName) → writes m call i ≡ writes n call i }
-    ensures afterwards { (m n : State) (call : Call) → IsGood m → IsGood n → AgreeOn (reads m call) m n →
-        AgreeOn (writes m call) (next m call) (next n call) }
-{}
+ghost use Rattle.casa_footprint.specs.Written.{IsWritten, IsAbsentStill};
 
 /// What a call does not write contains afterwards what it contained before.
 pub fn other_items_stay()
@@ -61,17 +49,4 @@ pub fn stamps_change_where_written()
         ¬ (IsAbsentStill history later i) → stamp (history ++ later) i ≢ stamp history i }
     ensures absent { (history later : List (Entry Call Reply)) (i : ItemName) → IsAbsentStill history later i →
         stamp (history ++ later) i ≡ stamp history i }
-{}
-
-/// Where the view for a call is unmoved after more entries, the reply that was worked out on it is that of the present
-/// state; and the items that were worked out on it, in place of the present ones, give the state after the call.
-pub fn unmoved_views_decide()
-    ensures reply { (history later : List (Entry Call Reply)) (call : Call) →
-        IsUnmoved (view_after history call) (history ++ later) →
-        reply (state_after (history ++ later)) call ≡ reply (state_after history) call }
-    ensures written { (history later : List (Entry Call Reply)) (call : Call) →
-        IsUnmoved (view_after history call) (history ++ later) → (i : ItemName) →
-        contents (next (state_after (history ++ later)) call) i ≡
-        (if writes (state_after history) call i then contents (next (state_after history) call) i
-        else contents (state_after (history ++ later)) i) }
 {}

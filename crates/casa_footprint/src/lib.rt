@@ -5,6 +5,6 @@
 mod laws;
 
 pub use laws::{
-    equal_stamps_show_equal_items, footprints_decide, other_items_stay, reads_decide_reads,
-    stamps_change_where_written, unmoved_views_decide,
+    equal_stamps_show_equal_items, other_items_stay, reads_decide_reads,
+    stamps_change_where_written,
 };

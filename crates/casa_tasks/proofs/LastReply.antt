@@ -8,8 +8,8 @@ use Rattle.casa_flight.specs.State.{empty}
 use Rattle.casa_flight.specs.Steps.{next}
 use Rattle.casa_flight.specs.Replies.{reply}
 use Rattle.casa_flight.specs.Good.{IsGood}
-use Rattle.casa_flight.proofs.Good.{empty_good}
-use Rattle.casa_flight.proofs.GoodRegs.{next-good}
+use Rattle.casa_laws.proofs.Good.{empty_good}
+use Rattle.casa_laws.proofs.GoodRegs.{next-good}
 use Rattle.casa_history.specs.declared.entry.Receipt.{Receipt}
 use Rattle.casa_history.specs.Entries.{receipt, receipts_from}
 use Rattle.casa_commit.specs.Legal.{entry}

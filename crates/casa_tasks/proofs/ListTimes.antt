@@ -25,9 +25,9 @@ use Rattle.casa_flight.specs.Steps.{list}
 use Rattle.casa_flight.specs.Good.{IsGood, IsGoodRow, IsFree, IsGoverned}
 use Rattle.casa_tasks.specs.Listed.{list_in}
 use Rattle.casa_flight.proofs.Entries.{all-filter_map}
-use Rattle.casa_flight.proofs.Choice.{cto-between, eto-before_end}
-use Rattle.casa_flight.proofs.EnterAll.{all-fold}
-use Rattle.casa_flight.proofs.RegMessages.{governed_name}
+use Rattle.casa_laws.proofs.Choice.{cto-between, eto-before_end}
+use Rattle.casa_flight.proofs.PutBy.{all-fold}
+use Rattle.casa_laws.proofs.RegMessages.{governed_name}
 
 abbrev pub IsNotEarly : ListRow → Type 0
 IsNotEarly row = row.eto ≤ row.cto

@@ -9,7 +9,7 @@ use Rattle.casa_flight.specs.Text.{Text, put}
 use Rattle.casa_flight.specs.Good.{AreInOrder}
 use Rattle.casa_flight.proofs.Entries.{text_cmp}
 use Rattle.casa_view.specs.Next.{AreAlike}
-use Rattle.casa_view.proofs.Layers.{all-mid}
+use Rattle.casa_table.proofs.Layers.{all-mid}
 
 pub alike_next : {X Y : Type 0} (Q : X → Y → Type 0) (es : List (Text × X)) (ws : List (Text × Y)) (k : Text) (x : X)
     (y : Y)

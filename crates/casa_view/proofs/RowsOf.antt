@@ -14,12 +14,12 @@ use Rattle.casa_flight.specs.Listing.{kept}
 use Rattle.casa_flight.specs.Good.{AreInOrder}
 use Rattle.casa_flight.proofs.Entries.{sorted-put}
 use Rattle.casa_laws.proofs.Kept.{set_at, kept-put, kept-without}
-use Rattle.casa_view.specs.declared.item.Item.{Item}
-use Rattle.casa_view.specs.Versions.{row_of}
-use Rattle.casa_view.specs.Flights.{rows_of, rows_named}
-use Rattle.casa_view.specs.Laid.{with_value, laid}
+use Rattle.casa_table.specs.declared.item.Item.{Item}
+use Rattle.casa_table.specs.Versions.{row_of}
+use Rattle.casa_table.specs.Flights.{rows_of, rows_named}
+use Rattle.casa_table.specs.Laid.{with_value, laid}
 use Rattle.casa_view.specs.Overlaid.{overlaid, present}
-use Rattle.casa_view.proofs.Layers.{sorted-with_value}
+use Rattle.casa_table.proofs.Layers.{sorted-with_value}
 
 keys-present : {X : Type 0} (es : List (Text × X)) → keys_of es ≡ keys_of (present es)
 keys-present [] = refl

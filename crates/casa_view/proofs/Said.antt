@@ -9,12 +9,12 @@ use Rattle.casa_flight.specs.Text.{Text, at_name, put, same_text}
 use Rattle.casa_flight.specs.Listing.{Listing}
 use Rattle.casa_flight.proofs.Entries.{at-put}
 use Rattle.casa_footprint.specs.Items.{ItemName, the_clock, the_catalogue, a_row, a_list, Content, is_item}
-use Rattle.casa_view.specs.declared.item.Item.{Item}
-use Rattle.casa_view.specs.declared.item.Item.TheVariants.{Row as RowOf, List as ListOf}
+use Rattle.casa_table.specs.declared.item.Item.{Item}
+use Rattle.casa_table.specs.declared.item.Item.TheVariants.{Row as RowOf, List as ListOf}
 use Rattle.casa_view.specs.declared.change.Change.{Change}
-use Rattle.casa_view.specs.Versions.{content_as, content_of}
+use Rattle.casa_table.specs.Versions.{content_as, content_of}
 use Rattle.casa_view.specs.Board.{says}
-use Rattle.casa_view.proofs.Layers.{same_test}
+use Rattle.casa_table.proofs.Layers.{same_test}
 
 -- what holds in any case holds where there is a fault
 pub on_fault : {T E P : Type 0} (r : Result T E) → P → OnErr r P

@@ -11,15 +11,15 @@ use Rattle.casa_flight.specs.Good.{AreInOrder}
 use Rattle.casa_flight.proofs.Entries.{text_cmp}
 use Rattle.casa_footprint.specs.Items.{ItemName, the_clock, the_catalogue, a_row, a_list, Content, moment, regulations}
 use Rattle.casa_footprint.specs.Items.{row_or_none, list_or_none}
-use Rattle.casa_view.specs.declared.item.Item.{Item}
+use Rattle.casa_table.specs.declared.item.Item.{Item}
 use Rattle.casa_view.specs.declared.change.Change.{Change}
-use Rattle.casa_view.specs.Laid.{laid}
-use Rattle.casa_view.specs.Versions.{Versions, IsInOrder, moment_of, regulations_of, row_of, list_of, content_as}
-use Rattle.casa_view.specs.Versions.{version_at}
+use Rattle.casa_table.specs.Laid.{laid}
+use Rattle.casa_table.specs.Versions.{Versions, IsInOrder, moment_of, regulations_of, row_of, list_of, content_as}
+use Rattle.casa_table.specs.Versions.{version_at}
 use Rattle.casa_view.specs.Change.{is_absence, IsApplied}
 use Rattle.casa_view.specs.Board.{says}
 use Rattle.casa_view.specs.Next.{AreAlike, IsVersionOf, NextOne, NextRow, NextList}
-use Rattle.casa_view.proofs.Layers.{at-laid, sorted-laid}
+use Rattle.casa_table.proofs.Layers.{at-laid, sorted-laid}
 
 -- what two lists of entries with the same names have under a name
 abbrev pub Alike : {X Y : Type 0} → (X → Y → Type 0) → Option X → Option Y → Type 0

@@ -28,15 +28,15 @@ use Rattle.casa_flight.proofs.Entries.{text_cmp, same_name}
 use Rattle.casa_laws.proofs.Kept.{Above, at_above, at-kept}
 use Rattle.casa_footprint.specs.Items.{ItemName, the_clock, the_catalogue, a_row, a_list}
 use Rattle.casa_footprint.specs.Footprint.{reads, is_subject, is_list_of, governs, is_forced}
-use Rattle.casa_view.specs.declared.item.Item.{Item}
+use Rattle.casa_table.specs.declared.item.Item.{Item}
 use Rattle.casa_view.specs.declared.view.View.{View}
-use Rattle.casa_view.specs.Versions.{Versions, regulations_of, row_of, list_at, shown_state}
+use Rattle.casa_table.specs.Versions.{Versions, regulations_of, row_of, list_at, shown_state}
 use Rattle.casa_view.specs.Standing.{StandsWell, standing}
-use Rattle.casa_view.specs.Crossed.{meets}
+use Rattle.casa_table.specs.Crossed.{meets}
 use Rattle.casa_view.specs.View.{IsTaken}
 use Rattle.casa_view.specs.Taking.{meets_if, meets_either, is_of, named, row_at, plan_at, governing_at, has_forced}
 use Rattle.casa_view.specs.Taking.{forced_at, governs_forced_at, IsRead}
-use Rattle.casa_view.proofs.Layers.{same_test}
+use Rattle.casa_table.proofs.Layers.{same_test}
 
 -- a view with the versions of these items, which are what the call reads
 pub is_read : {V E : Type 0} (item_of : V → Item) (number : V → ℕ) (vs : Versions V) (call called : Call) →

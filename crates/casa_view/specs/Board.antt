@@ -3,10 +3,10 @@ use Rattle.std.specs.Option.{option_map}
 use Rattle.std.specs.Arc.{arc_value}
 use Rattle.casa_flight.specs.Text.{at_name}
 use Rattle.casa_footprint.specs.Items.{ItemName, the_clock, the_catalogue, a_row, a_list, Content}
-use Rattle.casa_view.specs.declared.item.Item.{Item}
+use Rattle.casa_table.specs.declared.item.Item.{Item}
 use Rattle.casa_view.specs.declared.change.Change.{Change}
 use Rattle.casa_view.specs.declared.items.Items.{Items}
-use Rattle.casa_view.specs.Versions.{Versions, content_as}
+use Rattle.casa_table.specs.Versions.{Versions, content_as}
 
 -- the versions of all items, and those to which the next change turns
 abbrev pub versions : {V : Type 0} → Items V → Versions V

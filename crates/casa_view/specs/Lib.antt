@@ -1,9 +1,3 @@
-pub mod Laid
-pub mod Same
-pub mod Gathered
-pub mod Crossed
-pub mod Copies
-pub mod Versions
 pub mod Change
 pub mod Board
 pub mod Next
@@ -14,9 +8,5 @@ pub mod Sets
 pub mod Applied
 pub mod WellStanding
 pub mod Alike
-pub mod Waiting
-pub mod Passing
-pub mod Flights
-pub mod Asking
 pub mod Overlaid
 pub mod Shown

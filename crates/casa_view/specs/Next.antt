@@ -1,8 +1,8 @@
 use Rattle.std.specs.Prelude.{◌≡◌, ℕ, List, Option, None, Some, IsSome}
 use Rattle.std.specs.List.{AllZip}
 use Rattle.casa_flight.specs.Text.{Text}
-use Rattle.casa_view.specs.declared.item.Item.{Item}
-use Rattle.casa_view.specs.Versions.{row_of}
+use Rattle.casa_table.specs.declared.item.Item.{Item}
+use Rattle.casa_table.specs.Versions.{row_of}
 
 -- the same names in the same order, and under each a pair that goes together
 abbrev pub AreAlike : {X Y : Type 0} → (X → Y → Type 0) → List (Text × X) → List (Text × Y) → Type 0

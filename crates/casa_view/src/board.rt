@@ -1,21 +1,18 @@
 ghost use Rattle.std.specs.Prelude.{◌≡◌, IfOk, refl};
 ghost use Rattle.std.proofs.Props.{props};
 ghost use Rattle.casa_view.specs.Board.{versions};
-ghost use Rattle.casa_view.specs.Versions.{IsOrderly};
+ghost use Rattle.casa_table.specs.Versions.{IsOrderly};
 
-use crate::catalogue::Catalogue;
 use crate::change::Change;
-use crate::contents::{clock_in, list_in, regulations_in, row_in, shared_list_in};
+use crate::contents::{clock_in, list_in, regulations_in, shared_list_in};
 use crate::current::same_items;
-use crate::item::Item;
 use crate::items::Items;
-use crate::table::Table;
-use crate::version::{Kept, Version};
 use crate::view::View;
 use crate::writing::fit;
 use casa_commit::World;
 use casa_flight::{Call, Key, RegId, Regulation, Reply, Row};
 use casa_list::{SharedList, SlotList};
+use casa_table::{Catalogue, Item, Kept, Table, Version, row_in};
 use casa_time::Moment;
 use std::alloc::{AllocError, Global};
 use std::sync::Arc;

@@ -1,8 +1,8 @@
 ghost use Rattle.std.specs.Prelude.{◌≡◌, Some, None, OnOk, OnErr, if◌then◌else◌};
 ghost use Rattle.casa_footprint.specs.Items.{ItemName, is_item};
 
-use crate::item::Item;
 use casa_flight::{Key, RegId};
+use casa_table::Item;
 use std::alloc::{AllocError, Global};
 use std::collections::BTreeMap;
 use std::sync::Arc;
@@ -18,7 +18,7 @@ pub struct Change {
 }
 
 impl Change {
-    ghost use Rattle.casa_view.specs.Versions.{name_of, content_of};
+    ghost use Rattle.casa_table.specs.Versions.{name_of, content_of};
     ghost use Rattle.casa_view.specs.Board.{says};
 
     /// A change that writes nothing.

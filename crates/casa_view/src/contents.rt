@@ -3,12 +3,11 @@
 ghost use Rattle.std.specs.Prelude.{◌≡◌};
 ghost use Rattle.std.specs.Option.{option_copied};
 ghost use Rattle.casa_view.specs.Shown.{catalogue_of};
-ghost use Rattle.casa_view.specs.Versions.{moment_of, regulations_of, row_of, list_of};
+ghost use Rattle.casa_table.specs.Versions.{moment_of, regulations_of, list_of};
 
-use crate::catalogue::Catalogue;
-use crate::item::Item;
-use casa_flight::{Regulation, Row};
+use casa_flight::Regulation;
 use casa_list::{SharedList, SlotList};
+use casa_table::{Catalogue, Item};
 use casa_time::Moment;
 
 /// The moment that a clock shows.
@@ -38,16 +37,6 @@ pub(crate) fn regulations_in(item: &Item) -> &[Regulation]
     match item {
         Item::Catalogue(catalogue) => catalogue.as_slice(),
         _ => &[],
-    }
-}
-
-/// The row that an item contains.
-pub(crate) fn row_in(item: &Item) -> Option<&Row>
-    ensures { option_copied result ≡ row_of item.now }
-{
-    match item {
-        Item::Row(_, row) => row.as_ref(),
-        _ => None,
     }
 }
 

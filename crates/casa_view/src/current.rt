@@ -4,12 +4,9 @@ ghost use Rattle.std.specs.Prelude.{◌≡◌, ◌↔◌, IsTrue, MatchOption};
 ghost use Rattle.casa_view.specs.Board.{versions};
 ghost use Rattle.casa_view.specs.View.{same_held, IsSamePart, ShowsPart, IsCurrent, ShowsSame};
 
-use crate::comparing::{same_all, same_named};
-use crate::index::Index;
 use crate::items::Items;
-use crate::table::Table;
-use crate::version::Version;
 use crate::view::{Part, View};
+use casa_table::{Index, Table, Version, same_all, same_named};
 
 /// Whether a version is the one that a view holds, if it holds one.
 fn same_held<V: Version>(version: &V, held: &Option<V>) -> bool

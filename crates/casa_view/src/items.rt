@@ -1,10 +1,7 @@
 //! The versions of a board's items, and those that the next change will put in their place.
 
-use crate::flights::FlightIndex;
-use crate::index::NoIndex;
-use crate::table::Table;
-use crate::version::Version;
 use casa_flight::{OfFlight, OfRegulation};
+use casa_table::{FlightIndex, NoIndex, Table, Version};
 
 /// The versions of all items of a board, and those to which the next change will turn.
 #[derive(Drop)]

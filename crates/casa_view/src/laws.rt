@@ -6,7 +6,7 @@ ghost use Rattle.casa_flight.specs.Good.{AreInOrder};
 ghost use Rattle.casa_view.specs.declared.view.View.{View};
 ghost use Rattle.casa_view.specs.Shown.{row_shown, rows_shown, HasRowsInOrder};
 
-use crate::version::Version;
+use casa_table::Version;
 
 /// The rows of a view, as `rows` and `nth_row` give them, are in the order of their keys, each once; and they are those
 /// that `row` gives, key by key.

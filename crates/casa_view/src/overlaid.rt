@@ -7,8 +7,8 @@ ghost use Rattle.std.specs.Option.{option_copied, option_map};
 ghost use Rattle.casa_flight.specs.Good.{AreInOrder};
 ghost use Rattle.casa_view.specs.Overlaid.{overlaid, present, ahead};
 
-use crate::table::{Changes, Values};
 use casa_flight::Name;
+use casa_table::{Changes, Values};
 use std::cmp::Ordering;
 use std::collections::{BTreeMap, btree_map};
 use std::marker::Model;

@@ -5,15 +5,13 @@ ghost use Rattle.std.specs.Iterator.{YieldsFirstBy, item_count};
 ghost use Rattle.std.specs.List.{slice_get};
 ghost use Rattle.std.specs.Map.{values_of};
 ghost use Rattle.std.specs.Option.{option_copied};
-ghost use Rattle.casa_view.specs.Flights.{row_named, rows_named};
+ghost use Rattle.casa_table.specs.Flights.{row_named, rows_named};
 ghost use Rattle.casa_view.specs.Shown.{rows_in, rows_shown, HasRowsInOrder};
 
-use crate::contents::row_in;
-use crate::index::Index;
 use crate::overlaid::Overlaid;
-use crate::version::Version;
 use crate::view::{Part, View};
 use casa_flight::{Key, OfFlight, Row};
+use casa_table::{Index, Version, row_in};
 use std::marker::Model;
 
 impl<Kind, V: Version, I: Index<Kind, V>> Part<Kind, V, I> {
@@ -50,7 +48,7 @@ impl<'a, V: Version> Model for Rows<'a, V> {
     ghost use Rattle.std.specs.Prelude.{List};
     ghost use Rattle.casa_flight.specs.declared.row.Row.{Row};
     ghost use Rattle.casa_flight.specs.Text.{Text};
-    ghost use Rattle.casa_view.specs.Flights.{rows_named};
+    ghost use Rattle.casa_table.specs.Flights.{rows_named};
 
     ghost Value = { List (Text × Row) };
 

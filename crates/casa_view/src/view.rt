@@ -1,11 +1,7 @@
-use crate::catalogue::Catalogue;
-use crate::contents::{catalogue_in, clock_in, list_in, row_in, shared_list_in};
-use crate::flights::FlightIndex;
-use crate::index::{Index, NoIndex};
-use crate::table::{Changes, Shared};
-use crate::version::Version;
+use crate::contents::{catalogue_in, clock_in, list_in, shared_list_in};
 use casa_flight::{Key, Name, OfFlight, OfRegulation, RegId, Row};
 use casa_list::{SharedList, SlotList};
+use casa_table::{Catalogue, Changes, FlightIndex, Index, NoIndex, Shared, Version, row_in};
 use casa_time::Moment;
 
 /// Versions of all names, or of some.

@@ -4,21 +4,19 @@ ghost use Rattle.std.specs.Prelude.{◌≡◌, ◌||◌, ◌&&◌, Bool, OnOk, I
 ghost use Rattle.std.specs.Option.{option_copied};
 ghost use Rattle.casa_flight.specs.Text.{Text, at_name, same_text};
 ghost use Rattle.casa_footprint.specs.Footprint.{is_forced};
-ghost use Rattle.casa_view.specs.Crossed.{meets};
+ghost use Rattle.casa_table.specs.Crossed.{meets};
 ghost use Rattle.casa_view.specs.Board.{versions};
-ghost use Rattle.casa_view.specs.Versions.{IsInOrder, regulations_of, row_of, list_of, list_at};
+ghost use Rattle.casa_table.specs.Versions.{IsInOrder, regulations_of, row_of, list_of, list_at};
 ghost use Rattle.casa_view.specs.View.{IsTaken};
 ghost use Rattle.casa_view.specs.Taking.{Sees, SeesAlso, meets_if, meets_either, is_of, named, IsRead};
 ghost use Rattle.casa_view.specs.Taking.{row_at, plan_at, governing_at, has_forced, forced_at, governs_forced_at};
 
-use crate::contents::{list_in, row_in};
-use crate::item::Item;
+use crate::contents::list_in;
 use crate::items::Items;
-use crate::table::Changes;
-use crate::version::Version;
 use crate::view::{Part, View};
 use casa_flight::{Call, Key, OfFlight, OfRegulation, Plan, RegId, Row, Stance};
 use casa_list::SlotList;
+use casa_table::{Changes, Item, Version, row_in};
 use casa_time::Moment;
 use std::alloc::{AllocError, Global};
 use std::collections::BTreeMap;

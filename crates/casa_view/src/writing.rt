@@ -7,15 +7,13 @@ ghost use Rattle.casa_flight.specs.Text.{put};
 ghost use Rattle.casa_flight.specs.Good.{AreInOrder};
 ghost use Rattle.casa_view.specs.Board.{versions, next_versions, says};
 ghost use Rattle.casa_view.specs.Change.{IsApplied};
-ghost use Rattle.casa_view.specs.Versions.{IsInOrder};
+ghost use Rattle.casa_table.specs.Versions.{IsInOrder};
 ghost use Rattle.casa_view.specs.Next.{AreAlike, NextOne, NextRow, NextList};
 
 use crate::change::Change;
-use crate::item::Item;
 use crate::items::Items;
-use crate::table::Changes;
-use crate::version::{Kept, Version};
 use casa_flight::{Key, Name, OfFlight, OfRegulation, RegId};
+use casa_table::{Changes, Item, Kept, Version};
 use std::alloc::{AllocError, Global};
 use std::collections::BTreeMap;
 use std::sync::Arc;

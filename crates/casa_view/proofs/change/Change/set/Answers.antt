@@ -2,9 +2,9 @@ use Rattle.std.proofs.Common.{◌≡◌, sym, ap, ◌∙◌, Some}
 use Rattle.std.specs.Prelude.{if◌then◌else◌}
 use Rattle.std.specs.Arc.{arc_value}
 use Rattle.casa_footprint.specs.Items.{is_item}
-use Rattle.casa_view.specs.declared.item.Item.{Item}
-use Rattle.casa_view.specs.declared.item.Item.TheVariants.{Row as RowOf, List as ListOf}
-use Rattle.casa_view.specs.Versions.{name_of, content_of}
+use Rattle.casa_table.specs.declared.item.Item.{Item}
+use Rattle.casa_table.specs.declared.item.Item.TheVariants.{Row as RowOf, List as ListOf}
+use Rattle.casa_table.specs.Versions.{name_of, content_of}
 use Rattle.casa_view.specs.Board.{says}
 use Rattle.casa_view.proofs.Said.{on_fault, row_said, rows_unsaid, list_said, lists_unsaid}
 use Rattle.casa_view.proofs.change.Change.set.Goals as goal

@@ -3,7 +3,7 @@ use Rattle.std.specs.Option.{option_copied}
 use Rattle.casa_flight.specs.Text.{Text, same_text}
 use Rattle.casa_flight.specs.FlightPlan.{FlightPlan}
 use Rattle.casa_footprint.specs.Items.{ItemName}
-use Rattle.casa_view.specs.Versions.{regulations_of}
+use Rattle.casa_table.specs.Versions.{regulations_of}
 use Rattle.casa_view.specs.Board.{versions}
 use Rattle.casa_view.specs.Taking.{meets_either, is_of, named, plan_at, governing_at, forced_at, governs_forced_at}
 use Rattle.casa_view.proofs.WhatIsRead.{is_read, file_reads, amend_reads, cancel_reads, revise_reads, exempt_reads}

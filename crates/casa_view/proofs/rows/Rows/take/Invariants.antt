@@ -1,5 +1,5 @@
 use Rattle.std.proofs.Common.{◌≡◌, length}
-use Rattle.casa_view.specs.Flights.{rows_named}
+use Rattle.casa_table.specs.Flights.{rows_named}
 use Rattle.casa_view.proofs.rows.Rows.take.Given as goal
 
 -- only names with no row were passed over

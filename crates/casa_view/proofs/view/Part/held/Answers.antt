@@ -1,5 +1,5 @@
 use Rattle.std.proofs.Common.{sym, ap, ◌∙◌}
-use Rattle.casa_view.specs.Flights.{rows_named, rows_of}
+use Rattle.casa_table.specs.Flights.{rows_named, rows_of}
 use Rattle.casa_view.specs.Shown.{rows_in}
 use Rattle.casa_view.proofs.RowsOf.{rows-overlaid}
 use Rattle.casa_view.proofs.view.Part.held.Goals as goal

@@ -1,7 +1,7 @@
 use Rattle.std.proofs.Common.{sym, subst}
 use Rattle.casa_flight.specs.Good.{AreInOrder}
 use Rattle.casa_view.specs.Shown.{IsInOrder}
-use Rattle.casa_view.proofs.Layers.{sorted-laid}
+use Rattle.casa_table.proofs.Layers.{sorted-laid}
 use Rattle.casa_view.proofs.view.Part.in_order.Goals as goal
 
 pub returns-in-All : goal.returns-in-All

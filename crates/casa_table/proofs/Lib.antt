@@ -1,0 +1,14 @@
+pub mod Equal
+pub mod Layers
+pub mod Compared
+pub mod Gathered
+pub mod InTurn
+pub mod Crossed
+pub mod Listed
+pub mod Exact
+pub mod Due
+pub mod Over
+pub mod NotedFlights
+pub mod LaidFound
+pub mod Sequence
+pub mod Named

@@ -1,0 +1,377 @@
+//! Values under names, of which views share all.
+
+ghost use Rattle.std.specs.Prelude.{◌≡◌, ◌-◌, [], length, Some, None, IfOk, OnOk, OnErr, if◌then◌else◌};
+ghost use Rattle.std.specs.Arc.{arc_value};
+ghost use Rattle.std.specs.Option.{option_copied, option_or};
+ghost use Rattle.casa_flight.specs.Text.{Text, same_text, at_name, put, without};
+ghost use Rattle.casa_flight.specs.Good.{AreInOrder};
+ghost use Rattle.casa_table.specs.Laid.{with_value, laid};
+
+use crate::index::Index;
+use crate::version::Version;
+use casa_flight::Name;
+use std::alloc::{AllocError, Global};
+use std::collections::BTreeMap;
+use std::marker::Model;
+use std::mem;
+use std::sync::Arc;
+
+/// Values under names, with an index of them.
+///
+/// Contracts see the entries, in the order of the names.
+#[derive(Drop)]
+pub(crate) struct Base<Kind, V, I: Index<Kind, V>> {
+    values: Values<Kind, V>,
+    pub(crate) index: I,
+}
+
+impl<Kind, V, I: Index<Kind, V>> Model for Base<Kind, V, I> {
+    ghost use Rattle.std.specs.Prelude.{List};
+    ghost use Rattle.casa_flight.specs.Text.{Text, at_name};
+    ghost use Rattle.casa_flight.specs.Good.{AreInOrder};
+
+    ghost Value = { List (Text × V) };
+
+    ghost view = { λ b. b.values.entries };
+
+    ghost invariant = { λ b. AreInOrder b.values.entries × I.covers b.index (at_name b.values.entries) };
+}
+
+impl<Kind, V, I: Index<Kind, V>> Base<Kind, V, I> {
+    /// No values.
+    fn new(alloc: Global) -> Base<Kind, V, I>
+        ensures { result ≡ [] }
+    {
+        Base {
+            values: BTreeMap::new(alloc),
+            index: I::new(alloc),
+        }
+    }
+
+    /// The value under a name.
+    pub(crate) fn get(&self, name: &Name<Kind>) -> Option<&V>
+        ensures value { option_copied result ≡ at_name self.now name.now }
+        ensures ordered { AreInOrder self.now }
+    {
+        self.values.get(name)
+    }
+
+    /// All values.
+    pub(crate) fn values(&self) -> &Values<Kind, V>
+        ensures { result.now.entries ≡ self.now }
+    {
+        &self.values
+    }
+}
+
+impl<Kind: Copy, V: Drop, I: Index<Kind, V>> Base<Kind, V, I> {
+    /// Puts a value under a name. `AllocError` where there is no memory for it; the values are then as they were.
+    fn put(&mut self, name: Name<Kind>, value: V) -> Result<(), AllocError>
+        ensures written { OnOk result (self.new ≡ put self.old name value) }
+        ensures unchanged { OnErr result (self.new ≡ self.old) }
+    {
+        self.index.note(&name, &value, self.values.get(&name))?;
+        if let Some(gone) = self.values.insert(name, value)? {
+            self.index.forget(&name, &gone, self.values.get(&name));
+        }
+        Ok(())
+    }
+
+    /// Takes out the value under a name.
+    fn remove(&mut self, name: &Name<Kind>)
+        ensures { self.new ≡ without self.old name.now }
+    {
+        if let Some(gone) = self.values.remove(name) {
+            self.index.forget(name, &gone, self.values.get(name));
+        }
+    }
+}
+
+impl<Kind: Copy, V: Version, I: Index<Kind, V>> Base<Kind, V, I> {
+    /// Makes a change. `AllocError` where there is no memory for it; the values are then as they were.
+    fn write(&mut self, name: &Name<Kind>, change: &Option<V>) -> Result<(), AllocError>
+        ensures written { OnOk result (self.new ≡ with_value self.old name.now change.now) }
+        ensures unchanged { OnErr result (self.new ≡ self.old) }
+    {
+        match change {
+            Some(value) => self.put(*name, value.try_clone()?),
+            None => {
+                self.remove(name);
+                Ok(())
+            }
+        }
+    }
+
+    /// Moves the first change over to the values.
+    fn absorb_first(&mut self, changes: &mut Changes<Kind, V>) -> Result<(), AllocError>
+        ensures same { laid changes.new.entries self.new ≡ laid changes.old.entries self.old }
+        ensures fewer { OnOk result (length changes.new.entries ≡ length changes.old.entries - 1) }
+        ensures ordered { AreInOrder self.old → AreInOrder self.new }
+        ensures changes_ordered { AreInOrder changes.old.entries → AreInOrder changes.new.entries }
+    {
+        let Some((name, change)) = changes.first_key_value() else {
+            return Ok(());
+        };
+        self.write(name, change)?;
+        changes.pop_first();
+        Ok(())
+    }
+
+    /// Moves all changes over to the values. `AllocError` where there is no memory for one; what the changes lead to is
+    /// then the same.
+    fn absorb(&mut self, changes: &mut Changes<Kind, V>) -> Result<(), AllocError>
+        ensures same { laid changes.new.entries self.new ≡ laid changes.old.entries self.old }
+        ensures done { OnOk result (changes.new.entries ≡ []) }
+        ensures ordered { AreInOrder self.old → AreInOrder self.new }
+        ensures changes_ordered { AreInOrder changes.old.entries → AreInOrder changes.new.entries }
+    {
+        while !changes.is_empty() {
+            self.absorb_first(changes)?;
+        }
+        Ok(())
+    }
+
+    /// The same values, in memory of their own.
+    fn copied(&self, alloc: Global) -> Result<Base<Kind, V, I>, AllocError>
+        ensures { IfOk result (λ copy. copy ≡ self.now) }
+    {
+        let mut copy = Base::new(alloc);
+        for (name, value) in &self.values {
+            copy.put(*name, value.try_clone()?)?;
+        }
+        Ok(copy)
+    }
+
+    /// The values after these changes, in memory of their own.
+    fn merged(
+        &self,
+        alloc: Global,
+        changes: &Changes<Kind, V>,
+    ) -> Result<Base<Kind, V, I>, AllocError>
+        ensures { IfOk result (λ merged. merged ≡ laid changes.now.entries self.now) }
+    {
+        let mut merged = self.copied(alloc)?;
+        for (name, change) in changes {
+            merged.write(name, change)?;
+        }
+        Ok(merged)
+    }
+}
+
+/// Values under names.
+pub type Values<Kind, V> = BTreeMap<Name<Kind>, V>;
+
+/// Changes under names: the value that comes, or none where one goes.
+pub type Changes<Kind, V> = BTreeMap<Name<Kind>, Option<V>>;
+
+/// The largest number of changes that may lie beside a base that a view shares, before a base is made anew.
+const MOST_BESIDE: usize = 4096;
+
+/// Values under names, which change in two steps: `fit` makes the changes ready, and `turn` turns to them, which takes
+/// no memory.
+///
+/// A view may share all values, and what is shared does not change. So while a view has them, changes lie beside them;
+/// they are moved in when no view has them any more.
+///
+/// Contracts see the entries, and those that it will have once it is turned.
+#[derive(Drop)]
+pub struct Table<Kind, V, I: Index<Kind, V>> {
+    alloc: Global,
+    base: Arc<Base<Kind, V, I>>,
+    recent: Arc<Changes<Kind, V>>,
+    coming: Arc<Changes<Kind, V>>,
+}
+
+impl<Kind, V, I: Index<Kind, V>> Model for Table<Kind, V, I> {
+    ghost use Rattle.std.specs.Arc.{arc_value};
+    ghost use Rattle.casa_table.specs.Laid.{laid, Turning};
+    ghost use Rattle.casa_flight.specs.Good.{AreInOrder};
+
+    ghost Value = { Turning V };
+
+    ghost view = { λ t. record {
+      entries = laid (arc_value t.recent).entries (arc_value t.base);
+      next = laid (arc_value t.coming).entries (arc_value t.base);
+    } };
+
+    ghost invariant = { λ t.
+        AreInOrder (arc_value t.base) × AreInOrder (arc_value t.recent).entries × AreInOrder (arc_value t.coming).entries };
+}
+
+impl<Kind: Copy, V: Version, I: Index<Kind, V>> Table<Kind, V, I> {
+    /// No values.
+    pub fn new(alloc: Global) -> Result<Table<Kind, V, I>, AllocError>
+        ensures { IfOk result (λ table. table.entries ≡ []) }
+    {
+        Ok(Table {
+            alloc,
+            base: Arc::new(alloc, Base::new(alloc))?,
+            recent: Arc::new(alloc, BTreeMap::new(alloc))?,
+            coming: Arc::new(alloc, BTreeMap::new(alloc))?,
+        })
+    }
+
+    /// The value under a name.
+    pub fn get(&self, name: &Name<Kind>) -> Option<&V>
+        ensures value { option_copied result ≡ at_name self.now.entries name.now }
+        ensures ordered { AreInOrder self.now.entries }
+    {
+        match self.recent.get(name) {
+            Some(change) => change.as_ref(),
+            None => self.base.get(name),
+        }
+    }
+
+    /// The values of the base, and the changes that lie beside it.
+    pub(crate) fn layers(&self) -> (&Values<Kind, V>, &Changes<Kind, V>)
+        ensures laid { laid result.1.now.entries result.0.now.entries ≡ self.now.entries }
+        ensures ordered { AreInOrder result.0.now.entries × AreInOrder result.1.now.entries }
+    {
+        (self.base.values(), &self.recent)
+    }
+
+    /// All values, shared: this takes two counts, whatever their number.
+    pub fn share(&self) -> Result<Shared<Kind, V, I>, AllocError>
+        ensures { IfOk result (λ shared. shared ≡ self.now.entries) }
+    {
+        Ok(Shared {
+            base: Arc::try_clone(&self.base)?,
+            recent: Arc::try_clone(&self.recent)?,
+        })
+    }
+
+    /// Moves the changes that lie beside the base into it, if no view has it, or into a new one, if they are too many.
+    /// `AllocError` where there is no memory for it.
+    pub fn consolidate(&mut self) -> Result<(), AllocError>
+        ensures { self.new.entries ≡ self.old.entries }
+    {
+        absorb_alone(&mut self.base, &mut self.recent)?;
+        if MOST_BESIDE < self.recent.len() {
+            let base = Arc::new(self.alloc, self.base.merged(self.alloc, &self.recent)?)?;
+            self.recent = Arc::new(self.alloc, BTreeMap::new(self.alloc))?;
+            self.base = base;
+        }
+        Ok(())
+    }
+
+    /// Makes changes ready to be turned to. `AllocError` where there is no memory for them; the values are then as they
+    /// were.
+    pub fn fit(&mut self, changes: Changes<Kind, V>) -> Result<(), AllocError>
+        ensures same { self.new.entries ≡ self.old.entries }
+        ensures next { OnOk result (self.new.next ≡ laid changes.entries self.new.entries) }
+    {
+        self.consolidate()?;
+        let mut changes = changes;
+        keep_others(&mut changes, &self.recent)?;
+        self.coming = Arc::new(self.alloc, changes)?;
+        Ok(())
+    }
+
+    /// Turns to the changes that were made ready.
+    pub fn turn(&mut self)
+        ensures entries { self.new.entries ≡ self.old.next }
+        ensures next { self.new.next ≡ self.old.entries }
+    {
+        mem::swap(&mut self.recent, &mut self.coming);
+    }
+}
+
+/// Moves all changes over to the values, if no view has either.
+fn absorb_alone<Kind: Copy, V: Version, I: Index<Kind, V>>(
+    base: &mut Arc<Base<Kind, V, I>>,
+    changes: &mut Arc<Changes<Kind, V>>,
+) -> Result<(), AllocError>
+    ensures same { laid (arc_value changes.new).entries (arc_value base.new) ≡ laid (arc_value changes.old).entries (arc_value base.old) }
+    ensures ordered { AreInOrder (arc_value base.old) → AreInOrder (arc_value base.new) }
+    ensures changes_ordered { AreInOrder (arc_value changes.old).entries → AreInOrder (arc_value changes.new).entries }
+{
+    if let Some(base) = Arc::get_mut(base) {
+        if let Some(changes) = Arc::get_mut(changes) {
+            base.absorb(changes)?;
+        }
+    }
+    Ok(())
+}
+
+/// Keeps an earlier change, unless there is another one under its name.
+fn keep<Kind: Copy, V: Version>(
+    changes: &mut Changes<Kind, V>,
+    name: &Name<Kind>,
+    change: &Option<V>,
+) -> Result<(), AllocError>
+    ensures ordered { AreInOrder changes.old.entries → AreInOrder changes.new.entries }
+    ensures kept { OnOk result ((q : Text) →
+        at_name changes.new.entries q ≡ option_or (at_name changes.old.entries q) (if same_text name.now q then Some change.now else None)) }
+{
+    if changes.contains_key(name) {
+        return Ok(());
+    }
+    let change = match change {
+        Some(value) => Some(value.try_clone()?),
+        None => None,
+    };
+    changes.insert(*name, change)?;
+    Ok(())
+}
+
+/// Keeps earlier changes, but for those under whose names there are others.
+fn keep_others<Kind: Copy, V: Version>(
+    changes: &mut Changes<Kind, V>,
+    earlier: &Changes<Kind, V>,
+) -> Result<(), AllocError>
+    ensures were_ordered { AreInOrder changes.old.entries }
+    ensures ordered { AreInOrder changes.new.entries }
+    ensures kept { OnOk result ((q : Text) →
+        at_name changes.new.entries q ≡ option_or (at_name changes.old.entries q) (at_name earlier.now.entries q)) }
+{
+    // That the names ascend is known of a map from its length.
+    let _count = changes.len();
+    for (name, change) in earlier {
+        keep(changes, name, change)?;
+    }
+    Ok(())
+}
+
+/// All values of a table, as they stood when they were shared.
+///
+/// Contracts see the entries.
+#[derive(Drop)]
+pub struct Shared<Kind, V, I: Index<Kind, V>> {
+    pub(crate) base: Arc<Base<Kind, V, I>>,
+    pub(crate) recent: Arc<Changes<Kind, V>>,
+}
+
+impl<Kind, V, I: Index<Kind, V>> Model for Shared<Kind, V, I> {
+    ghost use Rattle.std.specs.Prelude.{List};
+    ghost use Rattle.std.specs.Arc.{arc_value};
+    ghost use Rattle.casa_flight.specs.Text.{Text};
+    ghost use Rattle.casa_flight.specs.Good.{AreInOrder};
+    ghost use Rattle.casa_table.specs.Laid.{laid};
+
+    ghost Value = { List (Text × V) };
+
+    ghost view = { λ s. laid (arc_value s.recent).entries (arc_value s.base) };
+
+    ghost invariant = { λ s. AreInOrder (arc_value s.base) × AreInOrder (arc_value s.recent).entries };
+}
+
+impl<Kind, V, I: Index<Kind, V>> Shared<Kind, V, I> {
+    /// The value under a name.
+    pub fn get(&self, name: &Name<Kind>) -> Option<&V>
+        ensures value { option_copied result ≡ at_name self.now name.now }
+        ensures ordered { AreInOrder self.now }
+    {
+        match self.recent.get(name) {
+            Some(change) => change.as_ref(),
+            None => self.base.get(name),
+        }
+    }
+
+    /// The values of the base, and the changes that lie beside it.
+    pub fn layers(&self) -> (&Values<Kind, V>, &Changes<Kind, V>)
+        ensures laid { laid result.1.now.entries result.0.now.entries ≡ self.now }
+        ensures ordered { AreInOrder result.0.now.entries × AreInOrder result.1.now.entries }
+    {
+        (self.base.values(), &self.recent)
+    }
+}

@@ -1,6 +1,0 @@
-use Rattle.std.proofs.Common.{◌≡◌, []}
-use Rattle.casa_view.proofs.Sequence.{inserted}
-use Rattle.casa_view.proofs.asking.in_order.Given as goal
-
-abbrev pub invariant-loop-key : goal.invariant-loop-key
-invariant-loop-key l = inserted l.comps.keys l.key-iterator ≡ inserted [] l.found.entries

@@ -1,6 +1,0 @@
-use Rattle.std.proofs.Common.{◌≡◌}
-use Rattle.casa_view.specs.Laid.{laid}
-use Rattle.casa_view.proofs.table.Base.merged.Given as goal
-
-abbrev pub invariant-loop-name : goal.invariant-loop-name
-invariant-loop-name g l = laid l.name-iterator l.merged ≡ laid l.changes.entries l.self
