@@ -8,7 +8,7 @@ use Rattle.casa_flight.specs.Text.{Text, at_name, same_text}
 use Rattle.casa_flight.specs.Listing.{Listing}
 use Rattle.casa_flight.specs.Good.{AreInOrder}
 use Rattle.casa_flight.proofs.Entries.{text_cmp, named, apart, itself}
-use Rattle.casa_flight.proofs.Kept.{at_above}
+use Rattle.casa_laws.proofs.Kept.{at_above}
 use Rattle.casa_footprint.specs.Items.{ItemName, the_clock, the_catalogue, a_row, a_list, Content, moment, regulations, row_or_none, list_or_none, is_item}
 use Rattle.casa_answer.specs.Sight.{Written, says, nothing_written}
 

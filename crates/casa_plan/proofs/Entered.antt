@@ -9,7 +9,7 @@ use Rattle.casa_flight.specs.State.{is_exempt, is_gone}
 use Rattle.casa_flight.specs.Listing.{Listing, stance_of, stance, eto_as}
 use Rattle.casa_flight.specs.Entry.{Offer, Situation, most_penalising, governed, choice, entered}
 use Rattle.casa_flight.specs.Good.{AreInOrder}
-use Rattle.casa_flight.proofs.Kept.{put-without}
+use Rattle.casa_laws.proofs.Kept.{put-without}
 use Rattle.casa_footprint.specs.Finding.{crossed}
 use Rattle.casa_answer.specs.Sight.{Sight, Written, list_with}
 use Rattle.casa_answer.specs.OneFlight.{offers_of}

@@ -8,9 +8,9 @@ use Rattle.casa_flight.specs.Good.{IsGood}
 use Rattle.casa_flight.specs.Listing.{competitors, occupancy}
 use Rattle.casa_flight.specs.Replies.{reply}
 use Rattle.casa_flight.specs.Steps.{next}
-use Rattle.casa_flight.proofs.Assignment.{assignment_right, comps-assignment}
-use Rattle.casa_flight.proofs.Good.{empty_good}
-use Rattle.casa_flight.proofs.GoodRegs.{next-good}
+use Rattle.casa_laws.proofs.Assignment.{assignment_right, comps-assignment}
+use Rattle.casa_laws.proofs.Good.{empty_good}
+use Rattle.casa_laws.proofs.GoodRegs.{next-good}
 use Rattle.casa_history.specs.declared.entry.Entry.{Entry}
 use Rattle.casa_commit.specs.Legal.{replay, replay_from, IsLegal}
 use Rattle.casa_footprint.specs.Items.{ItemName, the_clock, the_catalogue, a_row, a_list, contents}

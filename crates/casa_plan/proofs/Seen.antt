@@ -5,7 +5,7 @@ use Rattle.casa_flight.specs.declared.state.State.{State}
 use Rattle.casa_flight.specs.State.{row_of, catalogue}
 use Rattle.casa_flight.specs.Listing.{list_of}
 use Rattle.casa_flight.specs.Good.{IsGood}
-use Rattle.casa_flight.proofs.Kept.{same_entries}
+use Rattle.casa_laws.proofs.Kept.{same_entries}
 use Rattle.casa_footprint.specs.Items.{ItemName, the_clock, the_catalogue, a_row, a_list, contents, AgreeOn}
 use Rattle.casa_footprint.specs.Footprint.{reads}
 use Rattle.casa_footprint.proofs.EachCall.{reads_same}

@@ -2,7 +2,7 @@ use Rattle.std.proofs.Common.{◌≡◌, Some, arith, rules}
 use Rattle.std.proofs.lemmas.Grind.{common_steps}
 use Rattle.casa_flight.specs.Text.{put, without}
 use Rattle.casa_flight.specs.Listing.{Listing}
-use Rattle.casa_flight.proofs.Kept.{put-without}
+use Rattle.casa_laws.proofs.Kept.{put-without}
 use Rattle.casa_answer.specs.Sight.{Written}
 use Rattle.casa_plan.proofs.clock_moves.issue_at.Goals as goal
 
