@@ -14,6 +14,9 @@ pub trait Desk {
     // The receipts so far.
     ghost answered: { Self → Receipts };
 
+    // The receipts are as each desk of this type gives them.
+    ghost lawful: { Receipts → Type 0 };
+
     // Desks of this type may be another allocator's.
     ghost may_be_foreign: { Type 0 };
 
@@ -24,4 +27,7 @@ pub trait Desk {
         ensures called { IfOk result (λ receipt. receipt.entry.call ≡ call.now) }
         ensures err { OnErr result (answered self.new ≡ answered self.old) }
         ensures foreign { result ≡ Err CallFault.ForeignPass → may_be_foreign };
+
+    /// All receipts that a desk has given are lawful.
+    ghost always: { (desk : Self) → lawful (answered desk) };
 }

@@ -1,4 +1,4 @@
-use Rattle.std.specs.Prelude.{◌≡◌, ℕ, ◌+◌, ◌<◌, List, [], ◌∷◌, ◌++◌, length}
+use Rattle.std.specs.Prelude.{◌≡◌, ℕ, ◌+◌, ◌<◌, Some, List, [], ◌∷◌, ◌++◌, length, take, slice_get}
 use Rattle.casa_history.specs.declared.entry.Entry.{Entry}
 use Rattle.casa_history.specs.declared.entry.Receipt.{Receipt}
 use Rattle.casa_history.specs.declared.pass.Pass.{Pass}
@@ -17,6 +17,12 @@ module _ {W C V D R : Type 0} (world : WorldOf W C V D R) where
     pub calls : length (receipts_of given.entry.desk earlier) ≡ length had
     -- the latest of them is at the position of the latest of these
     pub last : last_position (receipts_of given.entry.desk earlier) ≡ last_position had
+
+  -- all receipts of a desk stand: each has the desk, and is next after some entries for the desk that had those before it
+  abbrev pub AllStand : ℕ → List (Receipt C R) → Type 0
+  AllStand desk rs =
+      (k : ℕ) (r : Receipt C R) → slice_get rs k ≡ Some r →
+      (r.entry.desk ≡ desk) × ((earlier : List (Entry C R)) × IsNextAfter (take k rs) r earlier)
 
   -- what a receipt that is given for a call tells the pass's desk
   pub record Stands (pass : Pass C R) (call : C) (given : Receipt C R) (pass' : Pass C R) : Type 0 where

@@ -1,14 +1,12 @@
-ghost use Rattle.std.specs.Prelude.{◌≡◌, ◌+◌, ◌<◌, ℕ, List, [], length, IfOk, IfErr, OnErr};
-ghost use Rattle.casa_flight.specs.declared.call.Call.{Call};
-ghost use Rattle.casa_flight.specs.declared.reply.Reply.{Reply};
-ghost use Rattle.casa_history.specs.declared.entry.Entry.{Entry};
-ghost use Rattle.casa_history.specs.Entries.{entries, receipts};
+ghost use Rattle.std.specs.Prelude.{◌≡◌, ◌+◌, ◌<◌, ◌≤◌, ◌↔◌, ℕ, [], length, Err, IfOk, IfErr, OnOk, OnErr};
+ghost use Rattle.casa_history.specs.Entries.{entries, receipts, number_of, desk_of};
 ghost use Rattle.casa_history.specs.Settlement.{IsSettled};
 ghost use Rattle.casa_commit.specs.Answers.{TakesViews, OwesAnswers};
+ghost use Rattle.casa_commit.specs.Desks.{most_desks};
 ghost use Rattle.casa_commit.specs.Legal.{IsLegal};
 ghost use Rattle.casa_commit.specs.Passes.{SamePass};
 ghost use Rattle.casa_commit.specs.Prepared.{call_of, view_of};
-ghost use Rattle.casa_commit.specs.Rooms.{world_of, entries_of, open_desks};
+ghost use Rattle.casa_commit.specs.Rooms.{world_of, history_of, entries_of, room_number, open_desks};
 ghost use Rattle.casa_footprint.specs.Stamps.{state_after};
 ghost use Rattle.casa_plan.specs.Rooms.{IsSequential};
 ghost use Rattle.casa_engine.specs.Delays.{lists_in};
@@ -40,10 +38,14 @@ pub(crate) struct CountedRoom<W: World, L: Ledger> {
 }
 
 impl<W: World, L: Ledger> CountedRoom<W, L> {
-    /// The room over a world in the opening state, with no desk and no entry.
+    /// The room with this number over a world in the opening state, with no desk and no entry.
     pub(crate) fn new(alloc: Global, world: W, number: u32, blank: Blank) -> CountedRoom<W, L>
         requires opening { W.state world ≡ W.opening }
         requires ledger { IsBlankOf L.name L.parts blank.name blank.parts }
+        ensures number { room_number result.room ≡ number }
+        ensures desks { open_desks result.room ≡ 0 }
+        ensures history { entries_of result.room ≡ [] }
+        ensures world { world_of result.room ≡ world }
     {
         let (book, spare) = blank.open::<L>();
         CountedRoom {
@@ -69,9 +71,17 @@ impl<W: World, L: Ledger> CountedRoom<W, L> {
         self.room.world().view(call)
     }
 
-    /// Opens the next desk and gives its pass.
+    /// Opens the next desk and gives its pass; `TooManyDesks` where 1,024 are open, else `NoMemory` where there is no
+    /// memory for it.
     pub(crate) fn open_desk(&mut self) -> Result<CountedPass<W, L>, DeskFault>
-        ensures { IfOk result (λ desk. receipts (pass_of desk) ≡ []) }
+        ensures full { (result ≡ Err DeskFault.TooManyDesks) ↔ (open_desks self.old.room ≡ most_desks) }
+        ensures number { IfOk result (λ desk. number_of (pass_of desk) ≡ room_number self.old.room) }
+        ensures desk { IfOk result (λ desk. desk_of (pass_of desk) ≡ open_desks self.old.room) }
+        ensures empty { IfOk result (λ desk. receipts (pass_of desk) ≡ []) }
+        ensures opened { OnOk result (open_desks self.new.room ≡ open_desks self.old.room + 1) }
+        ensures closed { OnErr result (open_desks self.new.room ≡ open_desks self.old.room) }
+        ensures same_history { history_of self.new.room ≡ history_of self.old.room }
+        ensures same_world { world_of self.new.room ≡ world_of self.old.room }
     {
         let pass = self.room.open_desk()?;
         let share = self.spare.split_off(1, 0);
@@ -124,10 +134,11 @@ impl<W: World, L: Ledger> CountedRoom<W, L> {
 }
 
 impl<K: Kept, L: Ledger> CountedRoom<Board<K>, L> {
-    /// The lists of all open regulations, shared, as a history of one thread leads to them.
+    /// The lists of all open regulations, shared, as the room's history leads to them, which is one of a single thread.
+    /// `AllocError` where there is no memory for that.
     pub(crate) fn lists(&self, alloc: Global) -> Result<Vec<SharedList>, AllocError>
-        ensures { IfOk result (λ lists. (history : List (Entry Call Reply)) × IsSequential history
-            × (lists.items ≡ lists_in (state_after history))) }
+        ensures sequential { IsSequential (entries_of self.now.room) }
+        ensures lists { IfOk result (λ lists. lists.items ≡ lists_in (state_after (entries_of self.now.room))) }
     {
         shared_lists(alloc, &self.room)
     }
@@ -140,6 +151,9 @@ impl<W: Shareable + Drop, L: Ledger> CountedRoom<W, L> {
         passes: Vec<CountedPass<W, L>>,
     ) -> (History<W::Call, W::Reply>, u32, Result<Settled, Torn>)
         requires parts { L.parts ≡ all_parts }
+        ensures history { result.0 ≡ history_of self.room }
+        ensures desks { result.1 ≡ open_desks self.room }
+        ensures opened { length passes.items ≤ result.1 }
         ensures legal { IsLegal W.after W.reply W.opening (entries result.0) }
         ensures settled { IfOk result.2 (λ s. (d : ℕ) → IsSettled d (entries result.0) (passes_in passes.items)) }
         ensures counts { IfOk result.2 (λ s. (s.desks ≡ length passes.items) × (s.entries ≡ length (entries result.0))) }
@@ -165,7 +179,9 @@ impl<W: Shareable + Drop, L: Ledger> CountedRoom<W, L> {
 
 /// The share with those of all these passes.
 fn gathered<W: World, L: Ledger>(spare: Share<L>, passes: Vec<CountedPass<W, L>>) -> Share<L>
+    requires { spare.parts ≤ L.parts }
     ensures parts { result.parts ≡ spare.parts + length passes.items }
+    ensures within { result.parts ≤ L.parts }
     ensures amount { result.amount ≡ spare.amount + calls_in passes.items }
 {
     let mut all = spare;

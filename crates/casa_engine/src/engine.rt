@@ -1,23 +1,25 @@
 //! Engines: shared rooms of boards.
 
-ghost use Rattle.std.specs.Prelude.{List, ⊤, IfOk};
+ghost use Rattle.std.specs.Prelude.{◌≡◌, ℕ, List, ⊤, IfOk};
+ghost use Rattle.std.proofs.Math.Logic.{∥∥₁_map};
 ghost use Rattle.casa_flight.specs.declared.call.Call.{Call};
 ghost use Rattle.casa_flight.specs.declared.reply.Reply.{Reply};
 ghost use Rattle.casa_history.specs.declared.entry.Entry.{Entry};
-ghost use Rattle.casa_history.specs.Entries.{receipts};
+ghost use Rattle.casa_history.specs.Entries.{receipts, desk_of};
 ghost use Rattle.casa_footprint.specs.Stamps.{state_after};
 ghost use Rattle.casa_plan.specs.Rooms.{IsSequential};
 ghost use Rattle.casa_engine.specs.Delays.{lists_in, IsAuditOf};
 ghost use Rattle.casa_engine.specs.Equality.{call_equality, reply_equality};
 ghost use Rattle.casa_engine.specs.Ledgers.{IsBlankOf};
 ghost use Rattle.casa_engine.specs.Passes.{pass_of};
+ghost use Rattle.casa_engine.specs.Receipts.{AllStand};
 
 use crate::audit::{Audit, audit_shared};
 use crate::desk::SharedDesk;
 use crate::gate::Gate;
 use crate::pass::CountedPass;
 use crate::shared::{Shareable, SharedRoom};
-use casa_commit::CallFault;
+use casa_commit::{CallFault, World};
 use casa_desk::Desk;
 use casa_flight::{Call, Reply};
 use casa_history::Receipt;
@@ -73,11 +75,16 @@ impl<L: Ledger, G: Gate<Board<Copies>> + Drop> SharedRoom<Board<Copies>, L, G> {
     }
 }
 
-/// A desk of an engine has answered what its pass has receipts of. Memory comes from the engine's allocator.
+/// A desk of an engine has answered what its pass has receipts of: all of one desk, and each next after those before it
+/// in a legal history. Memory comes from the engine's allocator.
 impl<'a, L: Ledger, G: Gate<Board<Copies>>, R: Wait> Desk for EngineDesk<'a, L, G, R> {
     ghost answered = { λ desk. receipts (pass_of desk.pass) };
 
+    ghost lawful = { λ given. ∥ ((desk : ℕ) × AllStand ⟦<Board<Copies> as World>⟧ desk given) ∥₁ };
+
     ghost may_be_foreign = { ⊤ };
+
+    ghost always = { λ desk. ∥∥₁_map desk.pass.stand (λ stand. (desk_of (pass_of desk.pass), stand)) };
 
     fn answer(&mut self, _alloc: Global, call: &Call) -> Result<Receipt<Call, Reply>, CallFault> {
         EngineDesk::answer(self, call)

@@ -1,4 +1,4 @@
-ghost use Rattle.std.specs.Prelude.{◌≡◌, ◌<◌, ◌↔◌, ℕ, true, [], length, IfOk, IfErr, OnErr};
+ghost use Rattle.std.specs.Prelude.{◌≡◌, ◌<◌, ◌≤◌, ◌↔◌, ℕ, true, [], length, IfOk, IfErr, OnErr};
 ghost use Rattle.casa_history.specs.Entries.{entries, receipts};
 ghost use Rattle.casa_history.specs.Settlement.{IsSettled};
 ghost use Rattle.casa_commit.specs.Answers.{IsAnswer};
@@ -152,12 +152,13 @@ impl<W: Shareable, L: Ledger, G: Gate<W>> SharedRoom<W, L, G> {
 }
 
 impl<W: Shareable + Drop, L: Ledger, G: Drop> SharedRoom<W, L, G> {
-    /// Ends the room. Gives the history, which is legal, how many desks were opened, and whether these passes tell the
-    /// same story.
+    /// Ends the room. Gives the history, which is legal, how many desks were opened, no fewer than the passes, and whether
+    /// these passes tell the same story.
     pub fn close(
         self,
         passes: Vec<CountedPass<W, L>>,
     ) -> (History<W::Call, W::Reply>, u32, Result<Settled, Torn>)
+        ensures opened { length passes.items ≤ result.1 }
         ensures legal { IsLegal W.after W.reply W.opening (entries result.0) }
         ensures settled { IfOk result.2 (λ s. (d : ℕ) → IsSettled d (entries result.0) (passes_in passes.items)) }
         ensures counts { IfOk result.2 (λ s. (s.desks ≡ length passes.items) × (s.entries ≡ length (entries result.0))) }
