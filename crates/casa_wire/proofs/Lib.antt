@@ -2,3 +2,4 @@ pub mod Values
 pub mod Plain
 pub mod Fields
 pub mod Behind
+pub mod FirstFaults

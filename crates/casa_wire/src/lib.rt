@@ -4,6 +4,7 @@
 #![tactic(auto)]
 
 mod fault;
+mod laws;
 mod lines;
 mod member;
 mod parts;
@@ -11,6 +12,7 @@ mod reading;
 mod texts;
 
 pub use fault::{Field, WireFault};
+pub use laws::line_has_its_first_fault;
 pub use lines::{push_fault, push_reply, reply_line};
 pub use reading::read_call;
 pub use texts::{fault_text, field_text, reply_value, too_long_line};

@@ -3,7 +3,9 @@
 
 mod help;
 mod kinds;
+mod laws;
 mod words;
 
 pub use kinds::{Task, TaskFault};
+pub use laws::words_have_the_first_wrong_value;
 pub use words::task;
