@@ -4,44 +4,49 @@ use casa_flight::{Crossing, Key, Loc, RegId};
 use casa_grid::{Period, Profile};
 use casa_time::Moment;
 use std::alloc::Global;
-use std::test::Fail;
+use std::process::Abort;
 
 /// The key with this text.
-pub fn key(text: &[u8]) -> Result<Key, Fail> {
-    Ok(Key::new(text).ok_or("a key")?)
+pub fn key(rt: &impl Abort, text: &[u8]) -> Key {
+    Key::new(text).expect(rt, "a key")
 }
 
 /// The location with this text.
-pub fn loc(text: &[u8]) -> Result<Loc, Fail> {
-    Ok(Loc::new(text).ok_or("a location")?)
+pub fn loc(rt: &impl Abort, text: &[u8]) -> Loc {
+    Loc::new(text).expect(rt, "a location")
 }
 
 /// The identifier with this text.
-pub fn reg(text: &[u8]) -> Result<RegId, Fail> {
-    Ok(RegId::new(text).ok_or("an identifier")?)
+pub fn reg(rt: &impl Abort, text: &[u8]) -> RegId {
+    RegId::new(text).expect(rt, "an identifier")
+}
+
+/// The moment this many seconds after midnight UTC.
+pub fn moment(rt: &impl Abort, secs: u32) -> Moment {
+    Moment::new(secs).expect(rt, "a moment")
 }
 
 /// The crossing of a location with this name, at this second.
-pub fn over(name: &[u8], eto: u32) -> Result<Crossing, Fail> {
-    Ok(Crossing {
-        loc: loc(name)?,
-        eto: Moment::new(eto)?,
-    })
+pub fn over(rt: &impl Abort, name: &[u8], eto: u32) -> Crossing {
+    Crossing {
+        loc: loc(rt, name),
+        eto: moment(rt, eto),
+    }
 }
 
 /// A period from `begin` to `until`, in seconds, with this many flights per hour.
-pub fn period(begin: u32, until: u32, rate: u32) -> Result<Period, Fail> {
-    Ok(Period {
-        begin: Moment::new(begin)?,
-        until: Moment::new(until)?,
+pub fn period(rt: &impl Abort, begin: u32, until: u32, rate: u32) -> Period {
+    Period {
+        begin: moment(rt, begin),
+        until: moment(rt, until),
         rate,
-    })
+    }
 }
 
 /// The profile of these periods, made again where memory was refused.
-pub fn profile(alloc: Global, periods: &[Period]) -> Result<Profile, Fail> {
+pub fn profile(rt: &impl Abort, alloc: Global, periods: &[Period]) -> Profile {
     match Profile::new(alloc, periods) {
-        Ok(profile) => Ok(profile),
-        Err(_) => Ok(Profile::new(alloc, periods)?),
+        Ok(profile) => profile,
+        Err(_) => Profile::new(alloc, periods).expect(rt, "a profile"),
     }
 }
