@@ -1,6 +1,6 @@
 -- the receipts that the sequential allocator gives, and how a session over them ends
-use Rattle.std.proofs.Common.{◌≡◌, ℕ, ◌+◌, ◌<◌, List, [], ◌∷◌, ◌++◌, refl, sym, ap, subst, ◌∙◌, length, take, arith, Option, None, Some, append-nil, append_assoc, filter}
-use Rattle.std.specs.Prelude.{fold, Result, Ok, Err, IfSome, map}
+use Rattle.std.proofs.Common.{◌≡◌, ℕ, ◌+◌, ◌<◌, List, [], ◌∷◌, ◌++◌, refl, sym, ap, subst, ◌∙◌, length, take, arith, Option, None, Some, append-nil, append_assoc, filter, inl, inr}
+use Rattle.std.specs.Prelude.{◌⊎◌, fold, Result, Ok, Err, IfSome, map}
 use Rattle.std.specs.Io.KnownBytes.{Appends}
 use Rattle.std.proofs.lemmas.List.{append_cancel_left, map-append}
 use Rattle.casa_flight.specs.declared.call.Call.{Call}
@@ -69,15 +69,23 @@ played-front m n (c ∷ cs) (r ∷ rs) last h =
     subst (λ d. r ∷ rs ≡ receipt n (entry only_desk d (reply m d)) ∷ receipts_from (n + 1) (played (next m d) (calls_of rs))) call_is
     ((ap (λ (x : Receipt Call Reply). x ∷ rs) (sym head)) ∙ ap (λ xs. receipt n (entry only_desk c (reply m c)) ∷ xs) rest)
 
+-- the calls that were answered are those before, and those of the receipts that came
+calls-grown : (before now : List Call) (more : Receipts) → receipts_played now ≡ receipts_played before ++ more → now ≡ before ++ calls_of more
+calls-grown before now more whole =
+    sym (calls-played empty 1 now) ∙ ap calls_of whole ∙ map-append (λ (r : Receipt Call Reply). r.entry.call) (receipts_played before) more
+    ∙ ap (λ cs. cs ++ calls_of more) (calls-played empty 1 before)
+
+-- so they are those of the lines, too, of which these are the receipts
+calls-lines : (before now : List Call) (rs : Receipts) (lines : List (List ℕ)) → receipts_played now ≡ receipts_played before ++ rs → calls_of rs ≡ calls lines → now ≡ before ++ calls lines
+calls-lines before now rs lines grows called = calls-grown before now rs grows ∙ ap (λ cs. before ++ cs) called
+
 -- receipts that come after those of some calls are what the sequential allocator gives after these
 given-after : (before now : List Call) (rs last : Receipts) (lines : List (List ℕ)) → receipts_played now ≡ (receipts_played before ++ rs) ++ last → calls_of rs ≡ calls lines
     → rs ≡ receipts_after before (calls lines)
 given-after before now rs last lines grows called =
     let more : Receipts = rs ++ last in
     let whole : receipts_played now ≡ receipts_played before ++ more = grows ∙ append_assoc (receipts_played before) rs last in
-    let now_is : now ≡ before ++ calls_of more =
-    sym (calls-played empty 1 now) ∙ ap calls_of whole ∙ map-append (λ (r : Receipt Call Reply). r.entry.call) (receipts_played before) more
-    ∙ ap (λ cs. cs ++ calls_of more) (calls-played empty 1 before) in
+    let now_is : now ≡ before ++ calls_of more = calls-grown before now more whole in
     let split : receipts_played before ++ receipts_after before (calls_of more) ≡ receipts_played before ++ more =
     sym (played-append empty 1 before (calls_of more)) ∙ ap receipts_played (sym now_is) ∙ whole in
     let after : receipts_after before (calls_of more) ≡ more = append_cancel_left (receipts_played before) (receipts_after before (calls_of more)) more split in
@@ -90,6 +98,17 @@ answered before now v w lines h =
 
 stopped : (before now : List Call) (v w : Option (List ℕ)) (lines left : List (List ℕ)) → Stopped (receipts_played before) (receipts_played now) v w lines left → Appends v w (transcript_after before lines)
 stopped before now v w lines left h = subst (λ rs. Appends v w (transcript rs lines)) (given-after before now h.receipts h.last lines h.grows h.called) h.written
+
+calls-stopped : (before now : List Call) (v w : Option (List ℕ)) (lines left : List (List ℕ)) → Stopped (receipts_played before) (receipts_played now) v w lines left
+    → (now ≡ before ++ calls lines) ⊎ (now ≡ before ++ (calls lines ++ calls (take 1 left)))
+calls-stopped before now v w lines left h =
+    let all : now ≡ before ++ (calls lines ++ calls_of h.last) =
+    calls-grown before now (h.receipts ++ h.last) (h.grows ∙ append_assoc (receipts_played before) h.receipts h.last)
+    ∙ ap (λ cs. before ++ cs) (map-append (λ (r : Receipt Call Reply). r.entry.call) h.receipts h.last ∙ ap (λ cs. cs ++ calls_of h.last) h.called) in
+    elim h.of_next [
+      | inl none ↦ inl (all ∙ ap (λ (rs : Receipts). before ++ (calls lines ++ calls_of rs)) none ∙ ap (λ cs. before ++ cs) (append-nil (calls lines)))
+      | inr called ↦ inr (all ∙ ap (λ cs. before ++ (calls lines ++ cs)) called)
+    ]
 
 if_some : {X : Type 0} (P Q : X → Type 0) → ((x : X) → P x → Q x) → (o : Option X) → IfSome o P → IfSome o Q
 if_some P Q f None h = tt
@@ -106,10 +125,15 @@ cut before now v w lines n h =
     )
 
 -- where the desk is alone, a session writes what the sequential allocator answers
-pub lone-ends : (before now : List Call) (result : Result ℕ SessionFault) (r s v w : Option (List ℕ)) → Ends ⊥ result r s (receipts_played before) (receipts_played now) v w → LoneEnds before result r s v w
-lone-ends before now (Ok n) r s v w h = if_some _ _ (λ xs p. (answered before now v w (lines_of xs) p.0, p.1, p.2)) r h
-lone-ends before now (Err LineTooLong) r s v w h = if_some _ _ (λ xs p. (answered before now v w (lines_of xs) p.0, p.1)) r h
-lone-ends before now (Err ReadFailed) r s v w h = (h.0, h.1, answered before now v w (ended_lines h.0) h.2, h.3)
-lone-ends before now (Err (WriteFailed n)) r s v w h = if_some _ _ (λ xs p. (p.0, p.1, p.2, cut before now v w p.0 n p.3)) r h
+pub lone-ends : (before now : List Call) (result : Result ℕ SessionFault) (r s v w : Option (List ℕ)) → Ends ⊥ result r s (receipts_played before) (receipts_played now) v w → LoneEnds before now result r s v w
+lone-ends before now (Ok n) r s v w h =
+    if_some _ _ (λ xs p. (answered before now v w (lines_of xs) p.0, p.1, p.2, calls-lines before now p.0.receipts (lines_of xs) p.0.grows p.0.called)) r h
+lone-ends before now (Err LineTooLong) r s v w h =
+    if_some _ _ (λ xs p. (answered before now v w (lines_of xs) p.0, p.1, calls-lines before now p.0.receipts (lines_of xs) p.0.grows p.0.called)) r h
+lone-ends before now (Err ReadFailed) r s v w h =
+    (h.0, h.1, answered before now v w (ended_lines h.0) h.2, h.3, calls-lines before now h.2.receipts (ended_lines h.0) h.2.grows h.2.called)
+lone-ends before now (Err (WriteFailed n)) r s v w h =
+    if_some _ _ (λ xs p. (p.0, p.1, p.2, cut before now v w p.0 n p.3, calls-lines before now p.3.receipts p.0 p.3.grows p.3.called)) r h
 lone-ends before now (Err ForeignPass) r s v w h = absurd h.0
-lone-ends before now (Err NoMemory) r s v w h = if_some _ _ (λ xs p. (p.0, p.1, p.2, p.3.short, stopped before now v w p.0 p.1 p.3)) r h
+lone-ends before now (Err NoMemory) r s v w h =
+    if_some _ _ (λ xs p. (p.0, p.1, p.2, p.3.short, stopped before now v w p.0 p.1 p.3, calls-stopped before now v w p.0 p.1 p.3)) r h

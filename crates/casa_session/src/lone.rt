@@ -58,14 +58,14 @@ impl Lone {
     /// Answers each line of the reader at the writer, and says how many there were.
     ///
     /// Replies are gathered and written together, but none waits for input. The session ends at its first fault,
-    /// which is never `ForeignPass`.
+    /// which is never `ForeignPass`. What was answered by then stands, and the next call is answered after it.
     pub fn run<R: Read, W: Write>(
         &mut self,
         alloc: Global,
         reader: &mut R,
         writer: &mut W,
     ) -> Result<u64, SessionFault>
-        ensures { LoneEnds self.old result (R.remaining reader.old) (R.remaining reader.new)
+        ensures { LoneEnds self.old self.new result (R.remaining reader.old) (R.remaining reader.new)
             (W.contents writer.old) (W.contents writer.new) }
     {
         run(alloc, reader, writer, self)
@@ -82,10 +82,18 @@ impl Lone {
     }
 }
 
+/// Its receipts are those that the sequential allocator gives to some calls.
 impl Desk for Lone {
+    ghost use Rattle.std.specs.Prelude.{List, refl};
+    ghost use Rattle.casa_flight.specs.declared.call.Call.{Call};
+
     ghost answered = { λ calls. receipts_played calls };
 
+    ghost lawful = { λ given. (calls : List Call) × (given ≡ receipts_played calls) };
+
     ghost may_be_foreign = { ⊥ };
+
+    ghost always = { λ calls. (calls, refl) };
 
     fn answer(&mut self, alloc: Global, call: &Call) -> Result<Receipt<Call, Reply>, CallFault> {
         self.receipt(alloc, call)

@@ -13,14 +13,16 @@ use std::io::{Read, Write};
 ///
 /// Replies are gathered and written together, but none waits for input: before each read all are written. A
 /// session ends at its first fault: what it had answered by then is written and stands; so may a call whose reply
-/// could not be made or written.
+/// could not be made or written. The receipts whose replies are written are the last of those that the desk then has, which
+/// are all lawful.
 pub fn run<R: Read, W: Write, D: Desk>(
     alloc: Global,
     reader: &mut R,
     writer: &mut W,
     desk: &mut D,
 ) -> Result<u64, SessionFault>
-    ensures { Ends D.may_be_foreign result
+    ensures lawful { D.lawful (D.answered desk.new) }
+    ensures ends { Ends D.may_be_foreign result
         (R.remaining reader.old) (R.remaining reader.new) (D.answered desk.old) (D.answered desk.new)
         (W.contents writer.old) (W.contents writer.new) }
 {

@@ -16,8 +16,8 @@ lines-init g c = record {
   few = omega (arith, c.new-lines.ensures.bound);
 }
 
-pub returns-in_err-answer-in-Ok-true : goal.returns-in_err-answer-in-Ok-true
-returns-in_err-answer-in-Ok-true g c =
+pub returns-in_err-answer-in-Ok-true-clause-ends : goal.returns-in_err-answer-in-Ok-true-clause-ends
+returns-in_err-answer-in-Ok-true-clause-ends g c =
     let foreign = g.D.Desk.may_be_foreign in
     let reads = g.R.Read.remaining in
     let answered = g.D.Desk.answered in
@@ -49,8 +49,8 @@ lines-preserved-in-Ok-true g c =
       few = omega (arith, fewer, c.lines.invariant.few);
     }
 
-pub returns-in_err-write-in-Ok-false : goal.returns-in_err-write-in-Ok-false
-returns-in_err-write-in-Ok-false g c =
+pub returns-in_err-write-in-Ok-false-clause-ends : goal.returns-in_err-write-in-Ok-false-clause-ends
+returns-in_err-write-in-Ok-false-clause-ends g c =
     let foreign = g.D.Desk.may_be_foreign in
     let reads = g.R.Read.remaining in
     let answered = g.D.Desk.answered in
@@ -76,8 +76,8 @@ lines-preserved g c =
       few = omega (arith, fewer, c.in-Ok-false.ensures.kept, c.lines.invariant.few);
     }
 
-pub returns-in-Failed : goal.returns-in-Failed
-returns-in-Failed g c =
+pub returns-in-Failed-clause-ends : goal.returns-in-Failed-clause-ends
+returns-in-Failed-clause-ends g c =
     let reads = g.R.Read.remaining in
     let ok = c.in-Ok-false.ensures.ok in
     let all = part_open _ _ ok.0 (pending c.take_part.new.self) c.in-Ok-false.field-0-test ok.2 in
@@ -89,19 +89,19 @@ returns-in-Failed g c =
     c.lines.invariant.between all ok.3 given written.ok written.none written.count in
     ends_unread g.D.Desk.may_be_foreign _ (reads c.read.new.source) _ _ _ _ c.write.new.self _ line between no_lf c.in-Ok-false.ensures.short written.none
 
-pub returns-in-Err-LineTooLong : goal.returns-in-Err-LineTooLong
-returns-in-Err-LineTooLong g c =
+pub returns-in-Err-LineTooLong-clause-ends : goal.returns-in-Err-LineTooLong-clause-ends
+returns-in-Err-LineTooLong-clause-ends g c =
     let (part, rest, no_lf, split, long) = c.in-Err-LineTooLong.ensures.too_long c.in-Err-LineTooLong.field-0-is in
     ends_too_long g.D.Desk.may_be_foreign c.end_too_long.result _ _ (g.R.Read.remaining c.lines.reader) _ _ _ _ (g.W.Write.contents c.end_too_long.new.writer) c.lines.replies _ c.lines.line.items part rest _
     c.lines.invariant.between split c.lines.invariant.no_lf no_lf long c.end_too_long.ensures
 
-pub returns-in-Err-NoMemory : goal.returns-in-Err-NoMemory
-returns-in-Err-NoMemory g c =
+pub returns-in-Err-NoMemory-clause-ends : goal.returns-in-Err-NoMemory-clause-ends
+returns-in-Err-NoMemory-clause-ends g c =
     ends_without_memory g.D.Desk.may_be_foreign c.end.result _ _ (g.R.Read.remaining c.lines.reader) _ _ _ _ (g.W.Write.contents c.end.new.writer) c.lines.replies _ _ _
     c.lines.invariant.between c.end.ensures
 
-pub returns-in_err-answer-in-End : goal.returns-in_err-answer-in-End
-returns-in_err-answer-in-End g c =
+pub returns-in_err-answer-in-End-clause-ends : goal.returns-in_err-answer-in-End-clause-ends
+returns-in_err-answer-in-End-clause-ends g c =
     let foreign = g.D.Desk.may_be_foreign in
     let reads = g.R.Read.remaining in
     let answered = g.D.Desk.answered in
@@ -122,8 +122,8 @@ returns-in_err-answer-in-End g c =
     passed_on _ fault P c.from_residual-in_err-answer-in-End.ensures
     (ends_at_last foreign fault _ at_end at_end _ _ (answered c.answer-in-End.new.desk) _ _ (contents c.answer-in-End.new.writer) c.write.new.self _ line between given.1 no_lf c.in-Ok-false.ensures.short some fails)
 
-pub returns-in_err-write-in-End : goal.returns-in_err-write-in-End
-returns-in_err-write-in-End g c =
+pub returns-in_err-write-in-End-clause-ends : goal.returns-in_err-write-in-End-clause-ends
+returns-in_err-write-in-End-clause-ends g c =
     let foreign = g.D.Desk.may_be_foreign in
     let reads = g.R.Read.remaining in
     let answered = g.D.Desk.answered in
@@ -145,8 +145,8 @@ returns-in_err-write-in-End g c =
     (ends_last_unwritten foreign fault _ at_end at_end _ _ (answered c.answer-in-End.new.desk) _ _ _ (contents c.write-in-End.new.writer) c.write.new.self c.answer-in-End.new.self _ line
     between given.1 no_lf c.in-Ok-false.ensures.short some answers c.in_err-write-in-End.ensures.err)
 
-pub returns-in-End : goal.returns-in-End
-returns-in-End g c =
+pub returns-in-End-clause-ends : goal.returns-in-End-clause-ends
+returns-in-End-clause-ends g c =
     let reads = g.R.Read.remaining in
     let answered = g.D.Desk.answered in
     let contents = g.W.Write.contents in
