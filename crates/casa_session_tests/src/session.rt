@@ -1,6 +1,6 @@
 //! Sessions over a desk that refuses all calls.
 
-ghost use Rattle.std.specs.Prelude.{◌≡◌, IfOk};
+ghost use Rattle.std.specs.Prelude.{◌≡◌, ⊤, IfOk};
 ghost use Rattle.casa_history.specs.Entries.{receipt};
 ghost use Rattle.casa_commit.specs.Legal.{entry};
 
@@ -34,7 +34,11 @@ fn refused(call: &Call, position: usize) -> Result<Receipt<Call, Reply>, AllocEr
 impl Desk for Refusing {
     ghost answered = { λ desk. desk.receipts.items };
 
+    ghost lawful = { λ _. ⊤ };
+
     ghost may_be_foreign = { ⊥ };
+
+    ghost always = { λ _. tt };
 
     fn answer(&mut self, alloc: Global, call: &Call) -> Result<Receipt<Call, Reply>, CallFault> {
         let _ = alloc;
@@ -107,6 +111,23 @@ impl Read for Slow<'_> {
         self.rest = &self.rest[count..];
         Ok(count)
     }
+}
+
+/// Each byte of this input comes by a read of its own, after one that was interrupted.
+#[test]
+fn a_reader_may_be_read_often(rt: HostRuntime) -> Result<(), Fail> {
+    let mut input = Vec::with_capacity(rt.alloc(), 1_000)?;
+    input.resize(1_000, b'\n')?;
+    let mut slow = Slow {
+        rest: input.as_slice(),
+        calls: 2_002,
+    };
+    let mut desk = Refusing {
+        receipts: Vec::new(rt.alloc()),
+    };
+    let mut output = Vec::new(rt.alloc());
+    assert!(rt; run(rt.alloc(), &mut slow, &mut output, &mut desk) == Ok(1_000));
+    Ok(())
 }
 
 #[test]
