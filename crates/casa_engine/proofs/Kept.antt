@@ -10,7 +10,7 @@ use Rattle.casa_history.specs.declared.entry.Receipt.{Receipt}
 use Rattle.casa_history.specs.declared.pass.Pass.{Pass}
 use Rattle.casa_history.specs.Entries.{receipts, desk_of}
 use Rattle.casa_commit.specs.declared.world.World.{Ghosts as WorldOf}
-use Rattle.casa_commit.specs.Passes.{SamePass, PassWith}
+use Rattle.casa_commit.specs.Passes.{SamePass}
 use Rattle.casa_commit.proofs.Replays.{slice_get-pushed}
 use Rattle.casa_engine.specs.Receipts.{AllStand, IsNextAfter, Stands}
 

@@ -1,5 +1,5 @@
 -- the lists of the open regulations, by their numbers in the catalogue
-use Rattle.std.proofs.Common.{◌≡◌, ℕ, zero, suc, ◌+◌, List, [], ◌∷◌, ◌++◌, map, take, Option, Some, refl, sym, ap, subst, ◌∙◌, append-nil, arith}
+use Rattle.std.proofs.Common.{◌≡◌, ℕ, zero, suc, ◌+◌, List, [], ◌∷◌, ◌++◌, map, take, Some, refl, sym, ap, subst, ◌∙◌, append-nil, arith}
 use Rattle.std.proofs.Math.Seq.{take-nil}
 use Rattle.std.specs.Option.{option_map}
 use Rattle.std.specs.List.{AllByRecursion, slice_get, cons_option}
@@ -7,11 +7,10 @@ use Rattle.casa_flight.specs.declared.call.Call.{Call}
 use Rattle.casa_flight.specs.declared.regulation.Measure.{Measure}
 use Rattle.casa_flight.specs.declared.regulation.Regulation.{Regulation}
 use Rattle.casa_flight.specs.declared.reply.Reply.{Reply}
-use Rattle.casa_flight.specs.declared.row.Row.{Row}
 use Rattle.casa_flight.specs.declared.state.State.{State}
 use Rattle.casa_flight.specs.Text.{Text, at_name}
 use Rattle.casa_flight.specs.State.{regulation, catalogue}
-use Rattle.casa_flight.specs.Listing.{Listing, listing, list_of}
+use Rattle.casa_flight.specs.Listing.{listing, list_of}
 use Rattle.casa_flight.proofs.Entries.{each_found}
 use Rattle.casa_history.specs.declared.entry.Entry.{Entry}
 use Rattle.casa_footprint.specs.Stamps.{state_after}

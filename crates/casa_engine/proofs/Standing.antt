@@ -1,13 +1,13 @@
-use Rattle.std.proofs.Common.{◌≡◌, ℕ, ◌+◌, ◌<◌, List, [], ◌∷◌, ◌++◌, length, refl, sym, ap, subst, ◌∙◌, arith}
+use Rattle.std.proofs.Common.{◌≡◌, ℕ, ◌+◌, List, [], ◌∷◌, ◌++◌, length, sym, ap, subst, ◌∙◌, arith}
 use Rattle.casa_history.specs.declared.entry.Entry.{Entry}
 use Rattle.casa_history.specs.declared.entry.Receipt.{Receipt}
 use Rattle.casa_history.specs.declared.pass.Pass.{Pass}
-use Rattle.casa_history.specs.Entries.{receipts, receipt, receipts_of, last_position, desk_of}
+use Rattle.casa_history.specs.Entries.{receipts, receipts_of, last_position, desk_of}
 use Rattle.casa_commit.specs.declared.world.World.{Ghosts as WorldOf}
 use Rattle.casa_commit.specs.declared.room.Room.{Room}
 use Rattle.casa_commit.specs.Legal.{IsLegal}
-use Rattle.casa_commit.specs.Rooms.{entries_of, next_entry, next_position, Accepts}
-use Rattle.casa_engine.specs.Receipts.{IsNextAfter, Stands}
+use Rattle.casa_commit.specs.Rooms.{entries_of, next_entry, Accepts}
+use Rattle.casa_engine.specs.Receipts.{Stands}
 use Rattle.casa_engine.proofs.Positions.{latest_within}
 
 module _ {W C V D R : Type 0} (world : WorldOf W C V D R) where

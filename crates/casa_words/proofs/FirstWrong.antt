@@ -1,12 +1,12 @@
 -- words ask for what their checks say
-use Rattle.std.proofs.Common.{◌≡◌, ◌∙◌, ◌||◌, ◌&&◌, ◌==◌, ℕ, Bool, true, false, not, cond, refl, ap, codes, List, [], ◌∷◌, length, Option, Some, None, is_some, is_none, option_map, arith}
-use Rattle.std.specs.Prelude.{option_and_then, unwrap_or, IsSome, Result, Ok, Err}
+use Rattle.std.proofs.Common.{◌≡◌, ◌∙◌, ◌||◌, ◌&&◌, ◌==◌, ℕ, Bool, true, false, not, cond, refl, codes, List, [], ◌∷◌, length, Option, Some, None, is_some, is_none, option_map, arith}
+use Rattle.std.specs.Prelude.{option_and_then, IsSome, Ok, Err}
 use Rattle.std.specs.Option.{option_map_or}
 use Rattle.std.proofs.lemmas.Bool.Decides.{nat_tests}
 use Rattle.jiff_fmt.specs.Temporal.{DateParts}
 use Rattle.clap.specs.Words.{Row, fault_of, first_of, one_of, subcommand_of}
 use Rattle.casa_flight.specs.Text.{Text}
-use Rattle.casa_words.specs.Words.{Request, WrongValue, run, report, serve, wrong_reg, wrong_day, casa_app, request_of, named_request, report_of, serve_at, or_wrong, ◌>>=◌, number_of, day_of, reg_of, turns_of, connections_of, checked_day, day_for}
+use Rattle.casa_words.specs.Words.{Request, run, report, serve, wrong_reg, wrong_day, casa_app, request_of, named_request, serve_at, or_wrong, ◌>>=◌, number_of, day_of, reg_of, turns_of, connections_of, checked_day}
 use Rattle.casa_words.specs.Checks.{AreRead, first_wrong, report_checks, report_request, serve_checks, serve_request, unless_wrong}
 use Rattle.casa_words.proofs.Served.{serve_checked}
 

@@ -5,7 +5,7 @@ use Rattle.casa_flight.specs.declared.comp.Comp.{Comp}
 use Rattle.casa_flight.specs.Listing.{delay_in}
 use Rattle.casa_list.specs.declared.standing.Standing.{Standing}
 use Rattle.casa_list.specs.Standings.{standings, count_governed}
-use Rattle.casa_engine.specs.Delays.{delay_at, delays, numbered_delay, numbered_delays}
+use Rattle.casa_engine.specs.Delays.{delay_at, numbered_delay, numbered_delays}
 use Rattle.casa_engine.proofs.Delayed.{governed_delays}
 use Rattle.casa_engine.proofs.Sums.{sum_by_next}
 use Rattle.casa_engine.proofs.audit.push_governed.Goals as goal
