@@ -1,5 +1,5 @@
 -- how many issued flights lie in each slot, as one more or one less does
-use Rattle.std.proofs.Common.{◌≡◌, ◌==◌, ℕ, ◌+◌, ◌-◌, ◌<◌, ◌≤◌, List, [], ◌∷◌, ◌++◌, append-nil, get_or, take, length, Bool, true, false, not, nat_lt, refl, sym, ◌∙◌, ap, subst, arith, zero, suc, cond, Option, None, Some, replicate, count_by}
+use Rattle.std.proofs.Common.{◌≡◌, ◌==◌, ℕ, ◌+◌, ◌-◌, ◌<◌, ◌≤◌, List, [], ◌∷◌, ◌++◌, append-nil, get_or, take, length, Bool, true, false, not, nat_lt, refl, sym, ◌∙◌, ap, subst, arith, zero, suc, cond, Option, None, Some, replicate, count_by, sum}
 use Rattle.std.specs.declared.cmp.Ordering.TheVariants.{Less, Equal, Greater}
 use Rattle.std.specs.Ordering.{is_eq, match_ordering}
 use Rattle.std.specs.Option.{option_map_or, option_and_then}
@@ -26,6 +26,7 @@ use Rattle.casa_list.specs.declared.standing.Standing.{Standing}
 use Rattle.casa_list.proofs.Ordered.{IsAbsent, put_all}
 use Rattle.casa_list.proofs.Rightly.{count_by-cons, length-counts}
 use Rattle.casa_list.proofs.Walked.{AgreeBut, AgreeAt}
+use Rattle.casa_list.proofs.Sparse.{sum_raised, sum_zeros}
 
 swapped : (a b n : ℕ) → a + (b + n) ≡ b + (a + n)
 swapped a b n = omega arith
@@ -259,3 +260,14 @@ times-kinds (e ∷ es) = time_kind e.0 e.1 (filter_map (λ (f : Text × Stance).
 pub counts-issued : (l : Listing) → counts (slots l.profile) (times_in (issued_flights l)) ≡ issued_counts (occupancy l)
 counts-issued l =
     counts-put_all (slots l.profile) (filter_map (λ (e : Text × Stance). issued_flight e.0 e.1) l.flights) ∙ ap (counts (slots l.profile)) (times-kinds l.flights)
+
+-- in all slots together lie no more times than there are
+pub counts-sum : (ps : List Period) (ts : List ℕ) → IsProfile ps → sum (counts (slots ps) ts) ≤ length ts
+counts-sum ps [] valid =
+    let none : sum (counts (slots ps) []) ≡ 0 = ap sum (counts-none (slots ps)) ∙ sum_zeros (length (slots ps)) in
+    omega (arith, none)
+counts-sum ps (t ∷ ts) valid =
+    let rest : sum (counts (slots ps) ts) ≤ length ts = counts-sum ps ts valid in
+    let more : sum (raised (counts (slots ps) ts) (window_of (slots ps) t)) ≤ sum (counts (slots ps) ts) + 1 = sum_raised (counts (slots ps) ts) (window_of (slots ps) t) in
+    let is : sum (counts (slots ps) (t ∷ ts)) ≡ sum (raised (counts (slots ps) ts) (window_of (slots ps) t)) = ap sum (counts-raised ps t ts valid) in
+    omega (arith, rest, more, is)

@@ -13,7 +13,7 @@ ghost use Rattle.casa_list.specs.Walk.{IsWithin};
 ghost use Rattle.casa_flight.specs.IssuedTimes.{with_issued};
 ghost use Rattle.casa_list.specs.Standings.{standings, count_governed, governed_place, governed_cto, issue_cto, is_forced, competing_eto, forced_eto};
 
-use crate::blocked::{block, counted, slot_of, unblock};
+use crate::blocked::{Blocked, block, counted, slot_of, unblock};
 use crate::copies::copied;
 use crate::fresh::{competitors_of, forced_of, issued_of};
 use crate::grid::SharedGrid;
@@ -45,11 +45,11 @@ pub struct SlotList {
     competitors: Vec<Assigned>,
     issued: Vec<Entry>,
     forced: Vec<Entry>,
-    blocked: Vec<usize>,
+    blocked: Blocked,
 }
 
 impl Model for SlotList {
-    ghost use Rattle.std.specs.Prelude.{vec_capacity};
+    ghost use Rattle.std.specs.Prelude.{min, vec_capacity};
     ghost use Rattle.casa_flight.specs.Listing.{Listing};
 
     ghost Value = { Listing };
@@ -63,8 +63,8 @@ impl Model for SlotList {
           competitors = l.competitors.items;
           issued = l.issued.items;
           forced = l.forced.items;
-          blocked = l.blocked.items;
-          room = vec_capacity l.issued;
+          blocked = l.blocked.counts;
+          room = min (vec_capacity l.issued) l.blocked.room;
         }) };
 }
 
@@ -104,7 +104,7 @@ impl SlotList {
         ensures { IfOk result (λ list. list ≡ record { profile = grid; flights = [] }) }
     {
         let grid = SharedGrid::new(alloc, grid)?;
-        let blocked = counted(alloc, &grid, &[])?;
+        let blocked = counted(alloc, &grid, &[], 0)?;
         Ok(SlotList {
             grid,
             flights: Stances::new(alloc),
@@ -131,8 +131,9 @@ impl SlotList {
         let mut issued = issued_of(alloc, &flights)?;
         let forced = forced_of(alloc, &flights)?;
         issued.reserve(competitors.len())?;
-        let blocked = counted(alloc, &grid, issued.as_slice())?;
-        walk_all(&grid, blocked.as_slice(), &mut competitors);
+        let room = competitors.len() + issued.len();
+        let blocked = counted(alloc, &grid, issued.as_slice(), room)?;
+        walk_all(&grid, &blocked, &mut competitors);
         Ok(SlotList {
             grid,
             flights,
@@ -196,13 +197,14 @@ impl SlotList {
         let was = self.forced_at(&comp.key);
         self.competitors.reserve(1)?;
         self.issued.reserve(self.competitors.len() + 1)?;
+        self.blocked
+            .reserve(self.competitors.len() + self.issued.len() + 1)?;
         self.flights
             .put(comp.key, Stance::Competing { eto: comp.eto })?;
         free_flight(&mut self.forced, comp.key, was);
         let at = index_of(self.competitors.as_slice(), &comp);
-        let blocked = self.blocked.as_slice();
         let competitors = &mut self.competitors;
-        Ok(put_competitor(&self.grid, blocked, competitors, at, comp))
+        Ok(put_competitor(&self.grid, &self.blocked, competitors, at, comp))
     }
 
     /// The place that `enter` would give. The regulation must not govern the flight, which may be forced.
@@ -213,8 +215,7 @@ impl SlotList {
     {
         let competitors = self.competitors.as_slice();
         let at = index_of(competitors, comp);
-        let blocked = &self.blocked;
-        place_behind(&self.grid, blocked, &competitors[..at], comp.eto)
+        place_behind(&self.grid, &self.blocked, &competitors[..at], comp.eto)
     }
 
     /// The calculated time over of the place that `enter` would give. The regulation must not govern the flight, which
@@ -260,17 +261,14 @@ impl SlotList {
     {
         let was = self.forced_at(&comp.key);
         self.issued.reserve(self.competitors.len() + 1)?;
+        self.blocked
+            .reserve(self.competitors.len() + self.issued.len() + 1)?;
         let stance = Stance::Issued { eto: comp.eto, cto };
         self.flights.put(comp.key, stance)?;
         free_flight(&mut self.forced, comp.key, was);
         put_flight(&mut self.issued, comp, Standing::Issued(cto));
         let slot = block(&self.grid, &mut self.blocked, cto);
-        walk_from_slot(
-            &self.grid,
-            self.blocked.as_slice(),
-            &mut self.competitors,
-            slot,
-        );
+        walk_from_slot(&self.grid, &self.blocked, &mut self.competitors, slot);
         Ok(())
     }
 
@@ -329,12 +327,7 @@ impl SlotList {
     {
         self.flights.remove(&comp.key);
         let at = index_of(self.competitors.as_slice(), &comp);
-        take_competitor(
-            &self.grid,
-            self.blocked.as_slice(),
-            &mut self.competitors,
-            at,
-        )
+        take_competitor(&self.grid, &self.blocked, &mut self.competitors, at)
     }
 
     /// Takes an issued flight out and gives the place of its calculated time over.
@@ -346,12 +339,7 @@ impl SlotList {
         self.flights.remove(&comp.key);
         take_flight(&mut self.issued, &comp);
         let slot = unblock(&self.grid, &mut self.blocked, cto);
-        walk_from_slot(
-            &self.grid,
-            self.blocked.as_slice(),
-            &mut self.competitors,
-            slot,
-        );
+        walk_from_slot(&self.grid, &self.blocked, &mut self.competitors, slot);
         place_from(slot)
     }
 
@@ -456,12 +444,13 @@ impl SlotList {
         ensures regridded { OnOk result (self.new ≡ record self.old { profile = grid }) }
         ensures unchanged { OnErr result (self.new ≡ self.old) }
     {
-        let alloc = *self.blocked.allocator();
+        let alloc = *self.issued.allocator();
         let grid = SharedGrid::new(alloc, grid)?;
-        let blocked = counted(alloc, &grid, self.issued.as_slice())?;
+        let room = self.competitors.len() + self.issued.len();
+        let blocked = counted(alloc, &grid, self.issued.as_slice(), room)?;
         self.grid = grid;
         self.blocked = blocked;
-        walk_all(&self.grid, self.blocked.as_slice(), &mut self.competitors);
+        walk_all(&self.grid, &self.blocked, &mut self.competitors);
         Ok(())
     }
 
@@ -471,7 +460,7 @@ impl SlotList {
     pub fn try_clone(&self) -> Result<SlotList, AllocError>
         ensures { IfOk result (λ list. list ≡ self.now) }
     {
-        let alloc = *self.blocked.allocator();
+        let alloc = *self.issued.allocator();
         let competitors = self.competitors.len() + 1;
         let issued = self.issued.len() + competitors;
         let forced = self.forced.len() + 1;
@@ -481,7 +470,7 @@ impl SlotList {
             competitors: copied(alloc, &self.competitors, competitors)?,
             issued: copied(alloc, &self.issued, issued)?,
             forced: copied(alloc, &self.forced, forced)?,
-            blocked: copied(alloc, &self.blocked, self.blocked.len())?,
+            blocked: self.blocked.try_clone(issued)?,
         })
     }
 }

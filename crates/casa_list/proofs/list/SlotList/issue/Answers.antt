@@ -1,4 +1,4 @@
-use Rattle.std.proofs.Common.{◌≡◌, ◌∙◌, ◌+◌, ◌<◌, ◌≤◌, Some, true, ap, subst, length, vec_capacity, rules}
+use Rattle.std.proofs.Common.{◌≡◌, ◌∙◌, ◌+◌, ◌<◌, ◌≤◌, Some, true, ap, subst, length, vec_capacity, min, rules, arith}
 use Rattle.std.specs.List.{remove}
 use Rattle.std.below.core.specs.declared.int.usize.TheConstants.{MAX}
 use Rattle.std.proofs.lemmas.Bool.{both_ways}
@@ -8,7 +8,7 @@ use Rattle.casa_flight.specs.declared.row.Stance.TheVariants.{Competing}
 use Rattle.casa_flight.specs.Text.{same_text}
 use Rattle.casa_flight.specs.Listing.{Listing, places, place_of}
 use Rattle.casa_laws.proofs.MovesNobody.{place_issued}
-use Rattle.casa_list.proofs.Keeping.{index_of, standing_within, kept_few, stands}
+use Rattle.casa_list.proofs.Keeping.{index_of, standing_within, kept_few, kept_roomy, fewer, stands}
 use Rattle.casa_list.proofs.Issuing.{kept_issued, issue_time}
 use Rattle.casa_list.proofs.Searched.{sorted_places, sorted_issued}
 use Rattle.casa_list.proofs.list.SlotList.issue.Goals as goal
@@ -30,8 +30,16 @@ put_flight-requires-clause-sorted c = sorted_issued c.self.invariant
 
 pub block-requires : goal.block-requires
 block-requires c =
+    let comp : Comp = record { eto = c.in_ok-eto.eto; key = c.args.key.now } in
+    let found = stands _ _ comp.key (Some (Competing comp.eto)) c.self.view_is c.in_ok-eto.ensures.found in
     let few : length c.self.inside.issued.items < MAX = search rules in
-    kept_few MAX c.self.invariant few
+    let within : index_of c.self.inside.competitors.items comp < length c.self.inside.competitors.items = standing_within comp c.self.invariant found in
+    let room = c.self.invariant.room_is in
+    let some : length c.self.inside.issued.items < c.self.inside.blocked.room = omega (arith, within, room) in
+    record {
+      few = kept_few MAX c.self.invariant few;
+      room = λ valid. kept_roomy _ c.self.invariant valid some;
+    }
 
 pub invariant_of-self : goal.invariant_of-self
 invariant_of-self c =
@@ -44,9 +52,9 @@ invariant_of-self c =
     let less : ys ≡ remove xs (index_of xs comp) = c.remove.ensures.items ∙ ap (remove xs) at in
     let room = c.self.invariant.room_is in
     let within : index_of xs comp < length xs = standing_within comp c.self.invariant found in
-    let enough : length ys + length c.put_flight.new.flights.items ≤ vec_capacity c.put_flight.new.flights = search rules in
+    let enough : length ys + length c.put_flight.new.flights.items ≤ min (vec_capacity c.put_flight.new.flights) c.block.new.blocked.room = fewer _ _ _ (search rules) (search rules) in
     rw c.write_issued.ensures
-    (kept_issued comp cto ys _ _ _ c.self.invariant c.block.ensures.valid found (issue_time _ _ comp cto c.self.view_is found c.competitor_cto-cto.ensures) less c.put_flight.ensures.items c.block.ensures.items enough)
+    (kept_issued comp cto ys _ _ _ c.self.invariant c.block.ensures.valid found (issue_time _ _ comp cto c.self.view_is found c.competitor_cto-cto.ensures) less c.put_flight.ensures.items c.block.ensures.counts enough)
 
 pub returns-clause-others : goal.returns-clause-others
 returns-clause-others c =
