@@ -1,7 +1,7 @@
 use casa_flight::{Call, Sts};
 use casa_wire::{Field, WireFault, read_call};
 use std::alloc::Global;
-use std::test::Fail;
+use std::process::Abort;
 
 const OPEN: &[u8] =
     b"{\"cmd\":\"open\",\"reg\":\"R1\",\"loc\":\"LA\",\"periods\":[{\"from\":36000,\"to\":37200,\"rate\":30}]}";
@@ -9,41 +9,39 @@ const OPEN: &[u8] =
 const FILE: &[u8] =
     b"{\"cmd\":\"file\",\"key\":\"A\",\"eobt\":30000,\"taxi\":600,\"via\":[{\"loc\":\"LA\",\"eto\":36010}],\"sts\":\"HEAD\",\"x\":1}";
 
+/// The call that a line is.
+fn call(rt: &impl Abort, alloc: Global, line: &[u8]) -> Call {
+    read_call(alloc, line).expect(rt, "a call")
+}
+
 #[test]
-fn lines_are_calls(rt: HostRuntime) -> Result<(), Fail> {
-    let Call::OpenReg(reg, loc, profile) = read_call(rt.alloc(), OPEN)? else {
-        return Err("no opening".into());
+fn an_opening_is_read(rt: HostRuntime) {
+    let Call::OpenReg(reg, loc, profile) = call(&rt, rt.alloc(), OPEN) else {
+        panic!(&rt; "no opening");
     };
-    assert!(rt; reg.as_bytes() == b"R1".as_slice() && loc.as_bytes() == b"LA".as_slice());
-    assert!(rt;
+    assert!(&rt; reg.as_bytes() == b"R1".as_slice() && loc.as_bytes() == b"LA".as_slice());
+    assert!(&rt;
         profile.periods().len() == 1
             && profile.periods()[0].until.secs() == 37200
             && profile.periods()[0].rate == 30
     );
-    let Call::File(plan) = read_call(rt.alloc(), FILE)? else {
-        return Err("no filing".into());
+}
+
+#[test]
+fn a_filing_is_read(rt: HostRuntime) {
+    let Call::File(plan) = call(&rt, rt.alloc(), FILE) else {
+        panic!(&rt; "no filing");
     };
-    assert_eq!(rt;
+    assert_eq!(&rt;
         (plan.eobt().secs(), plan.taxi(), plan.sts()),
         (30000, 600, Sts::Head)
     );
-    assert!(rt;
+    assert!(&rt;
         plan.key().as_bytes() == b"A".as_slice()
             && plan.via().len() == 1
             && plan.via()[0].eto.secs() == 36010
     );
-    let Call::List(reg) = read_call(rt.alloc(), b"{\"reg\":\"R1\",\"cmd\":\"list\"}\r")? else {
-        return Err("no list".into());
-    };
-    assert!(rt; reg.as_bytes() == b"R1".as_slice());
-    let Call::Tick(at) = read_call(rt.alloc(), b"{\"cmd\":\"tick\",\"at\":22799,\"at\":22800}")?
-    else {
-        return Err("no tick".into());
-    };
-    assert_eq!(rt; at.secs(), 22800);
-    Ok(())
 }
-
 #[test]
 fn the_first_fault_of_a_line_is_named(rt: HostRuntime) {
     for (line, fault) in [

@@ -1,8 +1,10 @@
+ghost use Rattle.std.specs.Prelude.{◌<◌};
+
 use crate::{Answer, Cells, Copying, copied};
 use casa_commit::{
     CallFault, CommitFault, DeskFault, Prepared, Room, World, commit, locked, prepare,
 };
-use casa_history::{Pass, Settled, Torn, settle};
+use casa_history::{Pass, Receipt, Settled, Torn, settle};
 use std::alloc::Global;
 use std::process::Abort;
 
@@ -24,6 +26,43 @@ fn two_desks<R: Abort>(
     (room, zero, one)
 }
 
+/// The position and the reply of a receipt, which there must be.
+fn seen<R: Abort, E: Drop>(
+    rt: &R,
+    receipt: Result<Receipt<Copying, Answer>, E>,
+) -> (usize, Answer) {
+    let receipt = receipt.ok().expect(rt, "a receipt");
+    (receipt.position, receipt.entry.reply)
+}
+
+/// An answer that is stale, and stays so when it is handed in again.
+fn stale_twice<R: Abort>(
+    rt: &R,
+    room: &mut Room<Cells>,
+    pass: &mut Pass<Copying, Answer>,
+    answer: Prepared<Cells>,
+) -> (CommitFault, CommitFault) {
+    let (fault, back) = commit(room, pass, answer).expect_err(rt, "a stale answer");
+    let (again, _) = commit(room, pass, back).expect_err(rt, "a stale answer again");
+    (fault, again)
+}
+
+/// What a room's history is with both passes, and with the first alone.
+fn settled<R: Abort>(
+    rt: &R,
+    alloc: Global,
+    room: Room<Cells>,
+    zero: Pass<Copying, Answer>,
+    one: Pass<Copying, Answer>,
+) -> (Result<Settled, Torn>, Result<Settled, Torn>) {
+    let passes = vec![in alloc; zero, one].expect(rt, "memory");
+    let history = room.into_history();
+    (
+        settle(&history, passes.as_slice()),
+        settle(&history, &passes.as_slice()[..1]),
+    )
+}
+
 #[test]
 fn the_second_write_of_a_cell_is_stale(rt: HostRuntime) {
     let (mut room, mut zero, mut one) = two_desks(&rt, rt.alloc(), 7);
@@ -31,40 +70,25 @@ fn the_second_write_of_a_cell_is_stale(rt: HostRuntime) {
     let first = prepared(&rt, &room, Copying::new(0, 1));
     let second = prepared(&rt, &room, Copying::new(0, 2));
     let third = prepared(&rt, &room, Copying::new(1, 0));
-    let receipt = commit(&mut room, &mut zero, first).expect(&rt, "the first copy");
+    let first = seen(&rt, commit(&mut room, &mut zero, first));
+    let second = seen(&rt, commit(&mut room, &mut one, second));
     assert_eq!(&rt;
-        (receipt.position, receipt.entry.reply),
-        (1, Answer::Value(0))
+        (first, second),
+        ((1, Answer::Value(0)), (2, Answer::Value(0)))
     );
-    let receipt = commit(&mut room, &mut one, second).expect(&rt, "the second copy");
-    assert_eq!(&rt;
-        (receipt.position, receipt.entry.reply),
-        (2, Answer::Value(0))
-    );
-    let (fault, back) = commit(&mut room, &mut one, third).expect_err(&rt, "a stale answer");
-    assert_eq!(&rt; fault, CommitFault::Stale);
-    let (fault, _) = commit(&mut room, &mut one, back).expect_err(&rt, "a stale answer again");
-    assert_eq!(&rt; fault, CommitFault::Stale);
-    let receipt = locked(&mut room, &mut one, &Copying::new(1, 0), &copied).expect(
+    let faults = stale_twice(&rt, &mut room, &mut one, third);
+    assert_eq!(&rt; faults, (CommitFault::Stale, CommitFault::Stale));
+    let third = seen(
         &rt,
-        "the third copy",
+        locked(&mut room, &mut one, &Copying::new(1, 0), &copied),
     );
+    assert_eq!(&rt; third, (3, Answer::Value(1)));
+    assert_eq!(&rt; (room.world().value(0), room.history().len()), (2, 3));
+    let (desks, entries) = (2, 3);
     assert_eq!(&rt;
-        (receipt.position, receipt.entry.reply),
-        (3, Answer::Value(1))
+        settled(&rt, rt.alloc(), room, zero, one),
+        (Ok(Settled { desks, entries }), Err(Torn(1)))
     );
-    assert_eq!(&rt; room.world().value(0), 2);
-    assert_eq!(&rt; room.history().len(), 3);
-    let passes = vec![in rt.alloc(); zero, one].expect(&rt, "memory");
-    let history = room.into_history();
-    assert_eq!(&rt;
-        settle(&history, passes.as_slice()),
-        Ok(Settled {
-            desks: 2,
-            entries: 3
-        })
-    );
-    assert_eq!(&rt; settle(&history, &passes.as_slice()[..1]), Err(Torn(1)));
 }
 
 /// The faults that a pass meets in this room, in `commit` and in `locked`.
@@ -106,42 +130,70 @@ fn the_desk_after_1024_is_too_many(rt: HostRuntime) {
     assert_eq!(&rt; room.desks(), 1024);
 }
 
-#[test]
-fn a_refused_growth_changes_nothing(rt: HostRuntime) {
-    let mut room = Room::new(rt.alloc(), Cells::new(), 7);
-    let mut pass = match room.open_desk() {
+/// A new room and the pass of its desk, opened again where memory was refused, which has opened none.
+fn one_desk<R: Abort>(rt: &R, alloc: Global) -> (Room<Cells>, Pass<Copying, Answer>) {
+    let mut room = Room::new(alloc, Cells::new(), 7);
+    let pass = match room.open_desk() {
         Ok(pass) => pass,
         Err(fault) => {
-            assert_eq!(&rt; (fault, room.desks()), (DeskFault::NoMemory, 0));
-            room.open_desk().expect(&rt, "a desk")
+            assert_eq!(rt; (fault, room.desks()), (DeskFault::NoMemory, 0));
+            room.open_desk().expect(rt, "a desk")
         }
     };
-    let answer = prepared(&rt, &room, Copying::new(0, 1));
-    let receipt = match commit(&mut room, &mut pass, answer) {
-        Ok(receipt) => receipt,
+    (room, pass)
+}
+
+/// How many entries a room has, how many receipts a pass has, and the value of a cell.
+fn counts(room: &Room<Cells>, pass: &Pass<Copying, Answer>, cell: usize) -> (usize, usize, u32)
+    requires { cell < 4 }
+{
+    (room.history().len(), pass.calls(), room.world().value(cell))
+}
+
+/// Commits an answer, again where memory was refused, which has changed nothing.
+fn committed<R: Abort>(
+    rt: &R,
+    room: &mut Room<Cells>,
+    pass: &mut Pass<Copying, Answer>,
+    answer: Prepared<Cells>,
+) -> (usize, Answer) {
+    match commit(room, pass, answer) {
+        Ok(receipt) => (receipt.position, receipt.entry.reply),
         Err((fault, back)) => {
-            assert_eq!(&rt; fault, CommitFault::NoMemory);
-            assert_eq!(&rt;
-                (room.history().len(), pass.calls(), room.world().value(1)),
-                (0, 0, 0)
+            assert_eq!(rt;
+                (fault, counts(room, pass, 1)),
+                (CommitFault::NoMemory, (0, 0, 0))
             );
-            commit(&mut room, &mut pass, back).expect(&rt, "the answer handed back")
+            seen(rt, commit(room, pass, back))
         }
-    };
-    assert_eq!(&rt; (receipt.position, room.world().value(1)), (1, 1));
-    let receipt = match locked(&mut room, &mut pass, &Copying::new(1, 0), &copied) {
-        Ok(receipt) => receipt,
+    }
+}
+
+/// Answers a copy in one section, again where memory was refused, which has changed nothing.
+fn answered<R: Abort>(
+    rt: &R,
+    room: &mut Room<Cells>,
+    pass: &mut Pass<Copying, Answer>,
+    call: &Copying,
+) -> (usize, Answer) {
+    match locked(room, pass, call, &copied) {
+        Ok(receipt) => (receipt.position, receipt.entry.reply),
         Err(fault) => {
-            assert_eq!(&rt; fault, CallFault::NoMemory);
-            assert_eq!(&rt;
-                (room.history().len(), pass.calls(), room.world().value(0)),
-                (1, 1, 0)
+            assert_eq!(rt;
+                (fault, counts(room, pass, 0)),
+                (CallFault::NoMemory, (1, 1, 0))
             );
-            locked(&mut room, &mut pass, &Copying::new(1, 0), &copied).expect(&rt, "the same call")
+            seen(rt, locked(room, pass, call, &copied))
         }
-    };
-    assert_eq!(&rt;
-        (receipt.position, receipt.entry.reply),
-        (2, Answer::Value(1))
-    );
+    }
+}
+
+#[test]
+fn a_refused_growth_changes_nothing(rt: HostRuntime) {
+    let (mut room, mut pass) = one_desk(&rt, rt.alloc());
+    let answer = prepared(&rt, &room, Copying::new(0, 1));
+    let first = committed(&rt, &mut room, &mut pass, answer);
+    assert_eq!(&rt; (first, room.world().value(1)), ((1, Answer::Value(0)), 1));
+    let second = answered(&rt, &mut room, &mut pass, &Copying::new(1, 0));
+    assert_eq!(&rt; second, (2, Answer::Value(1)));
 }

@@ -1,5 +1,5 @@
 use Rattle.cells.proofs.Equal.{copying_equality}
-use Rattle.cells.proofs.tests.the_second_write_of_a_cell_is_stale.Goals as goal
+use Rattle.cells.proofs.tests.settled.Goals as goal
 
 pub settle-requires-clause-calls : goal.settle-requires-clause-calls
 settle-requires-clause-calls g c x y = copying_equality x y
