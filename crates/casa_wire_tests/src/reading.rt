@@ -1,4 +1,5 @@
-use casa_flight::{Call, Sts};
+use crate::parts::{key, loc, reg};
+use casa_flight::{Call, Key, Loc, RegId, Sts};
 use casa_wire::{Field, WireFault, read_call};
 use std::alloc::Global;
 use std::process::Abort;
@@ -9,39 +10,68 @@ const OPEN: &[u8] =
 const FILE: &[u8] =
     b"{\"cmd\":\"file\",\"key\":\"A\",\"eobt\":30000,\"taxi\":600,\"via\":[{\"loc\":\"LA\",\"eto\":36010}],\"sts\":\"HEAD\",\"x\":1}";
 
-/// The call that a line is.
-fn call(rt: &impl Abort, alloc: Global, line: &[u8]) -> Call {
-    read_call(alloc, line).expect(rt, "a call")
+/// What an opening with one period has: identifier, location, the period's end and its rate.
+fn opening(call: &Call) -> Option<(RegId, Loc, u32, u32)> {
+    match call {
+        Call::OpenReg(reg, loc, profile) => match profile.periods() {
+            [period] => Some((*reg, *loc, period.until.secs(), period.rate)),
+            _ => None,
+        },
+        _ => None,
+    }
 }
 
 #[test]
 fn an_opening_is_read(rt: HostRuntime) {
-    let Call::OpenReg(reg, loc, profile) = call(&rt, rt.alloc(), OPEN) else {
-        panic!(&rt; "no opening");
-    };
-    assert!(&rt; reg.as_bytes() == b"R1".as_slice() && loc.as_bytes() == b"LA".as_slice());
-    assert!(&rt;
-        profile.periods().len() == 1
-            && profile.periods()[0].until.secs() == 37200
-            && profile.periods()[0].rate == 30
+    let call = read_call(rt.alloc(), OPEN).expect(&rt, "a call");
+    assert_eq!(&rt;
+        opening(&call),
+        Some((reg(&rt, b"R1"), loc(&rt, b"LA"), 37_200, 30))
     );
+}
+
+/// What a filing with one crossing has: key, off-block time, taxi time, status and time over.
+fn filing_read(call: &Call) -> Option<(Key, u32, u32, Sts, u32)> {
+    match call {
+        Call::File(plan) => match plan.via() {
+            [over] => Some((
+                plan.key(),
+                plan.eobt().secs(),
+                plan.taxi(),
+                plan.sts(),
+                over.eto.secs(),
+            )),
+            _ => None,
+        },
+        _ => None,
+    }
 }
 
 #[test]
 fn a_filing_is_read(rt: HostRuntime) {
-    let Call::File(plan) = call(&rt, rt.alloc(), FILE) else {
-        panic!(&rt; "no filing");
-    };
+    let call = read_call(rt.alloc(), FILE).expect(&rt, "a call");
     assert_eq!(&rt;
-        (plan.eobt().secs(), plan.taxi(), plan.sts()),
-        (30000, 600, Sts::Head)
-    );
-    assert!(&rt;
-        plan.key().as_bytes() == b"A".as_slice()
-            && plan.via().len() == 1
-            && plan.via()[0].eto.secs() == 36010
+        filing_read(&call),
+        Some((key(&rt, b"A"), 30_000, 600, Sts::Head, 36_010))
     );
 }
+
+/// The second in which a tick is.
+fn tick(call: &Call) -> Option<u32> {
+    match call {
+        Call::Tick(at) => Some(at.secs()),
+        _ => None,
+    }
+}
+
+/// Of two members with one name the last one is read, and CR at the end is passed over.
+#[test]
+fn a_tick_is_read(rt: HostRuntime) {
+    let line = b"{\"cmd\":\"tick\",\"at\":22799,\"at\":22800}\r";
+    let call = read_call(rt.alloc(), line).expect(&rt, "a call");
+    assert_eq!(&rt; tick(&call), Some(22_800));
+}
+
 #[test]
 fn the_first_fault_of_a_line_is_named(rt: HostRuntime) {
     for (line, fault) in [
@@ -101,33 +131,23 @@ fn the_first_fault_of_a_line_is_named(rt: HostRuntime) {
     }
 }
 
-/// The filing of a flight that crosses this many locations.
-fn filing(alloc: Global, crossings: usize) -> Result<Vec<u8>, Fail> {
-    let mut line = Vec::from_slice(
-        alloc,
-        b"{\"cmd\":\"file\",\"key\":\"A\",\"eobt\":1,\"taxi\":1,\"via\":[",
-    )?;
-    for i in 0..crossings {
-        if i > 0 {
-            line.push(b',')?;
-        }
-        line.extend_from_slice(b"{\"loc\":\"L")?;
-        line.push(b'A' + (i / 10 % 26) as u8)?;
-        line.push(b'0' + (i % 10) as u8)?;
-        line.extend_from_slice(b"\",\"eto\":100}")?;
+/// The line that files a flight that crosses this many locations.
+fn filing(rt: &impl Abort, alloc: Global, crossings: u32) -> String {
+    let mut line = String::new(alloc);
+    line.push_str("{\"cmd\":\"file\",\"key\":\"A\",\"eobt\":1,\"taxi\":1,\"via\":[")
+        .expect(rt, "memory");
+    for number in 0..crossings {
+        let comma = if number > 0 { "," } else { "" };
+        write!(line, "{comma}{{\"loc\":\"L{number}\",\"eto\":100}}").expect(rt, "memory");
     }
-    line.extend_from_slice(b"]}")?;
-    Ok(line)
+    line.push_str("]}").expect(rt, "memory");
+    line
 }
 
 #[test]
-fn a_plan_has_32_crossings_at_most(rt: HostRuntime) -> Result<(), Fail> {
-    let line = filing(rt.alloc(), 32)?;
-    assert!(rt; matches!(read_call(rt.alloc(), &line), Ok(Call::File(_))));
-    let line = filing(rt.alloc(), 33)?;
-    assert_eq!(rt;
-        read_call(rt.alloc(), &line).err(),
-        Some(WireFault::BadField(Field::Via))
-    );
-    Ok(())
+fn a_plan_has_32_crossings_at_most(rt: HostRuntime) {
+    for (crossings, fault) in [(32, None), (33, Some(WireFault::BadField(Field::Via)))] {
+        let line = filing(&rt, rt.alloc(), crossings);
+        assert_eq!(&rt; read_call(rt.alloc(), line.as_bytes()).err(), fault);
+    }
 }

@@ -1,163 +1,176 @@
+use crate::parts::{key, loc, moment, reg};
 use casa_flight::{
-    Answer, Call, FlightReply, Key, Kind, ListReply, ListRow, Loc, Message, Messages, Refusal,
-    RegId, Reply, Rows,
+    Answer, Call, FlightReply, Kind, ListReply, ListRow, Message, Messages, Refusal, Reply, Rows,
 };
 use casa_history::{Entry, Receipt};
-use casa_time::Moment;
 use casa_wire::{
     Field, WireFault, fault_text, field_text, push_fault, push_reply, reply_line, reply_value,
     too_long_line,
 };
-use std::test::Fail;
+use std::alloc::Global;
+use std::process::Abort;
 
-fn receipt(reply: Reply, position: usize) -> Result<Receipt<Call, Reply>, Fail> {
-    let call = Call::Tick(Moment::new(0)?);
+/// The receipt of a tick with this reply at this position.
+fn receipt(rt: &impl Abort, reply: Reply, position: usize) -> Receipt<Call, Reply> {
+    let call = Call::Tick(moment(rt, 0));
     let desk = 0;
-    Ok(Receipt {
+    Receipt {
         position,
         entry: Entry { desk, call, reply },
-    })
+    }
 }
 
-fn key(name: &[u8]) -> Result<Key, Fail> {
-    Ok(Key::new(name).ok_or("a key")?)
+/// The line of a reply at this position.
+fn line_of(rt: &impl Abort, alloc: Global, reply: Reply, position: usize) -> Vec<u8> {
+    reply_line(alloc, &receipt(rt, reply, position)).expect(rt, "memory")
 }
 
-fn reg_id(name: &[u8]) -> Result<RegId, Fail> {
-    Ok(RegId::new(name).ok_or("an identifier")?)
+/// These messages.
+fn messages<const N: usize>(rt: &impl Abort, alloc: Global, all: [Message; N]) -> Messages {
+    let all = Vec::from_slice(alloc, &all).expect(rt, "memory");
+    Messages::from_vec(all).expect(rt, "memory")
 }
 
 #[test]
-fn replies_are_lines(rt: HostRuntime) -> Result<(), Fail> {
-    let alloc = rt.alloc();
-    let refused = reply_line(alloc, &receipt(Reply::Refused(Refusal::Duplicate), 3)?)?;
-    assert!(rt;
-        refused.as_slice() == b"{\"code\":1,\"n\":3,\"refused\":\"Duplicate\"}\n".as_slice()
-    );
-    let flight = FlightReply {
-        key: key(b"E")?,
-        eobt: Moment::new(9000)?,
-        etot: 9600,
-        ctot: 9719,
+fn a_refusal_is_a_line(rt: HostRuntime) {
+    let line = line_of(&rt, rt.alloc(), Reply::Refused(Refusal::Duplicate), 3);
+    assert!(&rt; line.as_slice() == b"{\"code\":1,\"n\":3,\"refused\":\"Duplicate\"}\n".as_slice());
+}
+
+/// Flight E, issued 119 seconds late under R1.
+fn issued(rt: &impl Abort) -> FlightReply {
+    FlightReply {
+        key: key(rt, b"E"),
+        eobt: moment(rt, 9_000),
+        etot: 9_600,
+        ctot: 9_719,
         delay: 119,
         exempt: false,
         issued: true,
-        reg: Some(reg_id(b"R1")?),
-    };
-    let messages = Messages::from_vec(vec![in alloc;
-        Message::Sam(key(b"E")?, 9719, reg_id(b"R1")?),
-    ]?)?;
-    let line = reply_line(
-        alloc,
-        &receipt(Reply::Answered(Answer::Flight(flight), messages), 4)?,
-    )?;
-    assert!(rt;
-        line.as_slice()
-            == b"{\"flight\":{\"ctot\":9719,\"delay\":119,\"eobt\":9000,\"etot\":9600,\"exempt\":false,\"issued\":true,\"key\":\"E\",\"reg\":\"R1\"},\"msgs\":[{\"ctot\":9719,\"key\":\"E\",\"kind\":\"SAM\",\"reg\":\"R1\"}],\"n\":4}\n".as_slice()
-    );
-    let messages = Messages::from_vec(vec![in alloc; Message::Slc(key(b"B")?)]?)?;
-    let line = reply_line(alloc, &receipt(Reply::Answered(Answer::Done, messages), 8)?)?;
-    assert!(rt;
-        line.as_slice()
-            == b"{\"done\":true,\"msgs\":[{\"key\":\"B\",\"kind\":\"SLC\"}],\"n\":8}\n".as_slice()
-    );
-    Ok(())
+        reg: Some(reg(rt, b"R1")),
+    }
 }
 
 #[test]
-fn lists_are_lines(rt: HostRuntime) -> Result<(), Fail> {
-    let alloc = rt.alloc();
+fn a_flight_is_a_line(rt: HostRuntime) {
+    let sam = Message::Sam(key(&rt, b"E"), 9_719, reg(&rt, b"R1"));
+    let messages = messages(&rt, rt.alloc(), [sam]);
+    let reply = Reply::Answered(Answer::Flight(issued(&rt)), messages);
+    let line = line_of(&rt, rt.alloc(), reply, 4);
+    assert!(&rt;
+        line.as_slice()
+            == b"{\"flight\":{\"ctot\":9719,\"delay\":119,\"eobt\":9000,\"etot\":9600,\"exempt\":false,\"issued\":true,\"key\":\"E\",\"reg\":\"R1\"},\"msgs\":[{\"ctot\":9719,\"key\":\"E\",\"kind\":\"SAM\",\"reg\":\"R1\"}],\"n\":4}\n".as_slice()
+    );
+}
+
+/// The rows of a competitor in the first slot and of a forced flight.
+fn rows(rt: &impl Abort, alloc: Global) -> Rows {
     let first = ListRow {
-        key: key(b"B")?,
-        eto: Moment::new(36005)?,
-        cto: 36005,
+        key: key(rt, b"B"),
+        eto: moment(rt, 36_005),
+        cto: 36_005,
         kind: Kind::Pre,
         slot: Some(0),
     };
     let second = ListRow {
-        key: key(b"A")?,
-        eto: Moment::new(36010)?,
-        cto: 36310,
+        key: key(rt, b"A"),
+        eto: moment(rt, 36_010),
+        cto: 36_310,
         kind: Kind::Forced,
         slot: None,
     };
+    let rows = vec![in alloc; first, second].expect(rt, "memory");
+    Rows::from_vec(rows).expect(rt, "memory")
+}
+
+#[test]
+fn a_list_is_a_line(rt: HostRuntime) {
     let list = ListReply {
-        reg: reg_id(b"R1")?,
-        loc: Loc::new(b"LA").ok_or("a location")?,
-        start: Moment::new(36000)?,
-        end: Moment::new(37200)?,
+        reg: reg(&rt, b"R1"),
+        loc: loc(&rt, b"LA"),
+        start: moment(&rt, 36_000),
+        end: moment(&rt, 37_200),
         slots: 10,
-        rows: Rows::from_vec(vec![in alloc; first, second]?)?,
+        rows: rows(&rt, rt.alloc()),
     };
-    let reply = Reply::Answered(Answer::List(list), Messages::from_vec(Vec::new(alloc))?);
-    let line = reply_line(alloc, &receipt(reply, 4)?)?;
-    assert!(rt;
+    let reply = Reply::Answered(Answer::List(list), messages(&rt, rt.alloc(), []));
+    let line = line_of(&rt, rt.alloc(), reply, 4);
+    assert!(&rt;
         line.as_slice()
             == b"{\"list\":{\"end\":37200,\"loc\":\"LA\",\"reg\":\"R1\",\"rows\":[{\"cto\":36005,\"eto\":36005,\"key\":\"B\",\"kind\":\"pre\",\"slot\":0},{\"cto\":36310,\"eto\":36010,\"key\":\"A\",\"kind\":\"forced\",\"slot\":null}],\"slots\":10,\"start\":36000},\"msgs\":[],\"n\":4}\n".as_slice()
     );
-    Ok(())
 }
 
 #[test]
-fn faults_are_lines(rt: HostRuntime) -> Result<(), Fail> {
-    let alloc = rt.alloc();
-    let not_json = fault_text(&WireFault::NotJson);
-    let no_command = fault_text(&WireFault::NoCommand);
-    assert_eq!(rt;
-        (not_json, no_command),
+fn faults_are_texts(rt: HostRuntime) {
+    assert_eq!(&rt;
+        (
+            fault_text(&WireFault::NotJson),
+            fault_text(&WireFault::NoCommand)
+        ),
         ("{\"fault\":\"NotJson\"}", "{\"fault\":\"NoCommand\"}")
     );
-    let field = field_text(alloc, Field::Periods)?;
-    assert_eq!(rt;
+    let field = field_text(rt.alloc(), Field::Periods).expect(&rt, "memory");
+    assert_eq!(&rt;
         field.as_str(),
         "{\"fault\":\"BadField\",\"field\":\"periods\"}"
     );
-    let mut out = Vec::new(alloc);
-    push_fault(&mut out, WireFault::NoCommand)?;
-    push_fault(&mut out, WireFault::BadField(Field::At))?;
-    out.extend_from_slice(too_long_line())?;
-    assert!(rt;
-        out.as_slice()
-            == b"{\"fault\":\"NoCommand\"}\n{\"fault\":\"BadField\",\"field\":\"at\"}\n{\"fault\":\"LineTooLong\"}\n".as_slice()
-    );
-    Ok(())
+    assert!(&rt; too_long_line() == b"{\"fault\":\"LineTooLong\"}\n".as_slice());
+}
+
+/// The value of what a call of these messages is answered, as text.
+fn value_text(rt: &impl Abort, alloc: Global, messages: Messages, position: usize) -> String {
+    let receipt = receipt(rt, Reply::Answered(Answer::Done, messages), position);
+    let value = reply_value(alloc, &receipt).expect(rt, "memory");
+    value.to_string(alloc).expect(rt, "memory")
 }
 
 #[test]
-fn a_reply_is_a_value_too(rt: HostRuntime) -> Result<(), Fail> {
-    let alloc = rt.alloc();
-    let messages = Messages::from_vec(vec![in alloc;
-        Message::Sam(key(b"A")?, 30710, reg_id(b"R1")?),
-        Message::Srm(key(b"B")?, 30600, reg_id(b"R1")?),
-        Message::Slc(key(b"C")?),
-    ]?)?;
-    let receipt = receipt(Reply::Answered(Answer::Done, messages), 5)?;
-    let value = reply_value(alloc, &receipt)?;
-    let text = value.to_string(alloc)?;
-    assert_eq!(rt;
+fn a_reply_is_a_value_too(rt: HostRuntime) {
+    let all = [
+        Message::Sam(key(&rt, b"A"), 30_710, reg(&rt, b"R1")),
+        Message::Srm(key(&rt, b"B"), 30_600, reg(&rt, b"R1")),
+        Message::Slc(key(&rt, b"C")),
+    ];
+    let messages = messages(&rt, rt.alloc(), all);
+    let text = value_text(&rt, rt.alloc(), messages, 5);
+    assert_eq!(&rt;
         text.as_str(),
         "{\"done\":true,\"msgs\":[{\"ctot\":30710,\"key\":\"A\",\"kind\":\"SAM\",\"reg\":\"R1\"},{\"ctot\":30600,\"key\":\"B\",\"kind\":\"SRM\",\"reg\":\"R1\"},{\"key\":\"C\",\"kind\":\"SLC\"}],\"n\":5}"
     );
-    Ok(())
+}
+
+/// Writes a fault's line behind the others, again where memory was refused, which has written nothing.
+fn write_fault(rt: &impl Abort, out: &mut Vec<u8>, fault: WireFault) {
+    let before = out.len();
+    if push_fault(out, fault).is_err() {
+        assert_eq!(rt; out.len(), before);
+        push_fault(out, fault).expect(rt, "memory");
+    }
+}
+
+/// Writes a reply's line likewise.
+fn write_reply(rt: &impl Abort, out: &mut Vec<u8>, receipt: &Receipt<Call, Reply>) {
+    let before = out.len();
+    if push_reply(out, receipt).is_err() {
+        assert_eq!(rt; out.len(), before);
+        push_reply(out, receipt).expect(rt, "memory");
+    }
 }
 
 /// Run also with each allocation refused in turn: what stood there stays, and the same call made again gives the line.
 #[test]
-fn a_refused_growth_leaves_the_lines_before(rt: HostRuntime) -> Result<(), Fail> {
-    let receipt = receipt(Reply::Refused(Refusal::Late), 7)?;
+fn a_refused_growth_leaves_the_lines_before(rt: HostRuntime) {
     let mut out = Vec::new(rt.alloc());
-    if push_fault(&mut out, WireFault::BadField(Field::Key)).is_err() {
-        assert!(rt; out.is_empty());
-        push_fault(&mut out, WireFault::BadField(Field::Key))?;
-    }
-    let first = out.len();
-    if push_reply(&mut out, &receipt).is_err() {
-        assert_eq!(rt; out.len(), first);
-        push_reply(&mut out, &receipt)?;
-    }
-    assert!(rt;
-        out.as_slice()
-            == b"{\"fault\":\"BadField\",\"field\":\"key\"}\n{\"code\":3,\"n\":7,\"refused\":\"Late\"}\n".as_slice()
+    write_fault(&rt, &mut out, WireFault::NoCommand);
+    write_fault(&rt, &mut out, WireFault::BadField(Field::Key));
+    write_reply(
+        &rt,
+        &mut out,
+        &receipt(&rt, Reply::Refused(Refusal::Late), 7),
     );
-    Ok(())
+    assert!(&rt;
+        out.as_slice()
+            == b"{\"fault\":\"NoCommand\"}\n{\"fault\":\"BadField\",\"field\":\"key\"}\n{\"code\":3,\"n\":7,\"refused\":\"Late\"}\n".as_slice()
+    );
 }
