@@ -2,7 +2,8 @@
 
 use casa_flight::{Answer, Call, RegId, Reply};
 use casa_session::{Desk, Lone, SessionFault};
-use std::test::Fail;
+use std::alloc::Global;
+use std::process::Abort;
 
 const INPUT: &[u8] =
     b"{\"cmd\":\"open\",\"reg\":\"R1\",\"loc\":\"LA\",\"periods\":[{\"from\":36000,\"to\":37200,\"rate\":30}]}
@@ -18,31 +19,30 @@ const OUTPUT: &[u8] = b"{\"done\":true,\"msgs\":[],\"n\":1}
 /// How many rows are listed.
 fn rows(reply: &Reply) -> Option<usize> {
     match reply {
-        Reply::Answered(Answer::List(list), _) => Some(list.rows.as_slice().len()),
-        _ => None,
+        Reply::Answered(answer, _) => match answer {
+            Answer::List(list) => Some(list.rows.as_slice().len()),
+            _ => None,
+        },
+        Reply::Refused(_) => None,
     }
+}
+
+/// The position of the desk's answer to the question for R1, and how many rows it lists.
+fn listed(rt: &impl Abort, alloc: Global, lone: &mut Lone) -> (usize, Option<usize>) {
+    let list = Call::List(RegId::new(b"R1").expect(rt, "an identifier"));
+    let receipt = lone.answer(alloc, &list).ok().expect(rt, "an answer");
+    (receipt.position, rows(&receipt.entry.reply))
 }
 
 /// The calls of a session stand in the history, and a call after it comes behind them.
 #[test]
-fn a_desk_answers_after_a_session(rt: HostRuntime) -> Result<(), Fail> {
-    let alloc = rt.alloc();
-    let mut lone = Lone::new(alloc)?;
+fn a_desk_answers_after_a_session(rt: HostRuntime) {
+    let mut lone = Lone::new(rt.alloc()).expect(&rt, "memory");
     let mut input = INPUT;
-    let mut output = Vec::new(alloc);
-    assert!(rt; lone.run(alloc, &mut input, &mut output) == Ok(3));
-    assert!(rt; output.as_slice() == OUTPUT);
-    let list = Call::List(RegId::new(b"R1").ok_or("an identifier")?);
-    match lone.answer(alloc, &list) {
-        Ok(receipt) => {
-            assert_eq!(rt;
-                (receipt.position, rows(&receipt.entry.reply)),
-                (4, Some(1))
-            );
-            Ok(())
-        }
-        Err(_) => Err("no answer".into()),
-    }
+    let mut output = Vec::new(rt.alloc());
+    assert!(&rt; lone.run(rt.alloc(), &mut input, &mut output) == Ok(3));
+    assert!(&rt; output.as_slice() == OUTPUT);
+    assert_eq!(&rt; listed(&rt, rt.alloc(), &mut lone), (4, Some(1)));
 }
 
 /// Run also with each allocation refused in turn: the session then ends after whole replies, without memory or, where

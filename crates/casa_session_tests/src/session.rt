@@ -12,7 +12,7 @@ use std::alloc::{AllocError, Global};
 use std::cell::Cell;
 use std::io;
 use std::io::{ErrorKind, Read, Write};
-use std::test::Fail;
+use std::process::Abort;
 
 /// A desk that refuses all calls.
 #[derive(Drop)]
@@ -115,19 +115,16 @@ impl Read for Slow<'_> {
 
 /// Each byte of this input comes by a read of its own, after one that was interrupted.
 #[test]
-fn a_reader_may_be_read_often(rt: HostRuntime) -> Result<(), Fail> {
-    let mut input = Vec::with_capacity(rt.alloc(), 1_000)?;
-    input.resize(1_000, b'\n')?;
+fn a_reader_may_be_read_often(rt: HostRuntime) {
     let mut slow = Slow {
-        rest: input.as_slice(),
+        rest: &[b'\n'; 1_000],
         calls: 2_002,
     };
     let mut desk = Refusing {
         receipts: Vec::new(rt.alloc()),
     };
     let mut output = Vec::new(rt.alloc());
-    assert!(rt; run(rt.alloc(), &mut slow, &mut output, &mut desk) == Ok(1_000));
-    Ok(())
+    assert!(&rt; run(rt.alloc(), &mut slow, &mut output, &mut desk) == Ok(1_000));
 }
 
 #[test]
@@ -262,30 +259,32 @@ fn replies_are_written_together(rt: HostRuntime) {
     assert_eq!(rt; (replies.get(), counting.writes), (4, 2));
 }
 
+/// How a session ends whose input is a line of this many letters and an empty one, and whether it writes this text.
+fn two_lines(
+    rt: &impl Abort,
+    alloc: Global,
+    len: usize,
+    text: &[u8],
+) -> (Result<u64, SessionFault>, bool) {
+    let mut line = Vec::new(alloc);
+    line.resize(len, b'x').expect(rt, "memory");
+    line.extend_from_slice(b"\n\n").expect(rt, "memory");
+    let mut desk = Refusing {
+        receipts: Vec::new(alloc),
+    };
+    let mut input = line.as_slice();
+    let mut output = Vec::new(alloc);
+    let ended = run(alloc, &mut input, &mut output, &mut desk);
+    (ended, output.as_slice() == text)
+}
+
 #[test]
-fn a_line_may_be_too_long(rt: HostRuntime) -> Result<(), Fail> {
-    for (len, ended, text) in [
-        (
-            65_536,
-            Ok(2),
-            b"{\"fault\":\"NotJson\"}\n{\"fault\":\"NotJson\"}\n".as_slice(),
-        ),
-        (
-            65_537,
-            Err(SessionFault::LineTooLong),
-            b"{\"fault\":\"LineTooLong\"}\n",
-        ),
-    ] {
-        let mut desk = Refusing {
-            receipts: Vec::new(rt.alloc()),
-        };
-        let mut line = Vec::with_capacity(rt.alloc(), len)?;
-        line.resize(len, b'x')?;
-        line.extend_from_slice(b"\n\n")?;
-        let mut input = line.as_slice();
-        let mut output = Vec::new(rt.alloc());
-        assert!(rt; run(rt.alloc(), &mut input, &mut output, &mut desk) == ended);
-        assert!(rt; output.as_slice() == text);
-    }
-    Ok(())
+fn a_line_may_be_too_long(rt: HostRuntime) {
+    let two = b"{\"fault\":\"NotJson\"}\n{\"fault\":\"NotJson\"}\n";
+    assert_eq!(&rt; two_lines(&rt, rt.alloc(), 65_536, two), (Ok(2), true));
+    let too_long = b"{\"fault\":\"LineTooLong\"}\n";
+    assert_eq!(&rt;
+        two_lines(&rt, rt.alloc(), 65_537, too_long),
+        (Err(SessionFault::LineTooLong), true)
+    );
 }
