@@ -1,13 +1,12 @@
 //! What is done to a list step by step, and what it answers.
 
-use crate::parts::comp;
+use crate::parts::{comp, moment};
 use casa_flight::Comp;
 use casa_grid::Place;
 use casa_list::SlotList;
 use casa_time::Moment;
 use std::alloc::AllocError;
 use std::process::Abort;
-use std::test::Fail;
 
 /// What is done with a flight of a list.
 #[derive(Clone, Copy)]
@@ -43,19 +42,19 @@ type Answer = (Option<Place>, Option<Moment>);
 fn attempt(
     list: &mut SlotList,
     deed: Deed,
-    comp: Comp,
+    comp: &Comp,
     time: Option<Moment>,
 ) -> Result<Answer, AllocError> {
     let is_new = list.place_of(&comp.key).is_none();
     match (deed, time) {
         (Deed::Ask, _) if is_new => {
-            return Ok((Some(list.would_get(&comp)), Some(list.would_pass(&comp))));
+            return Ok((Some(list.would_get(comp)), Some(list.would_pass(comp))));
         }
-        (Deed::Enter, _) if is_new => return Ok((Some(list.enter(comp)?), list.cto_of(&comp.key))),
-        (Deed::Hold, Some(cto)) if is_new => list.hold(comp, cto)?,
-        (Deed::Admit, _) if is_new => list.admit(comp, None)?,
-        (Deed::AdmitIssued, _) if is_new => list.admit(comp, time)?,
-        (Deed::Force, _) if list.stance_of(&comp.key).is_none() => list.force(comp)?,
+        (Deed::Enter, _) if is_new => return Ok((Some(list.enter(*comp)?), list.cto_of(&comp.key))),
+        (Deed::Hold, Some(cto)) if is_new => list.hold(*comp, cto)?,
+        (Deed::Admit, _) if is_new => list.admit(*comp, None)?,
+        (Deed::AdmitIssued, _) if is_new => list.admit(*comp, time)?,
+        (Deed::Force, _) if list.stance_of(&comp.key).is_none() => list.force(*comp)?,
         (Deed::Issue, _) => return Ok((list.place_of(&comp.key), list.issue(&comp.key))),
         (Deed::Leave, _) => return Ok((list.leave(&comp.key), None)),
         (Deed::Read, _) => {}
@@ -66,33 +65,34 @@ fn attempt(
 
 /// The answer of a deed, which is done again where memory was refused: that has changed nothing.
 fn answer(
+    rt: &impl Abort,
     list: &mut SlotList,
     deed: Deed,
-    comp: Comp,
-    time: Option<Moment>,
-) -> Result<Answer, Fail> {
+    comp: &Comp,
+    at: Option<u32>,
+) -> Answer {
     let was = list.stance_of(&comp.key);
-    match attempt(list, deed, comp, time) {
-        Ok(answer) => Ok(answer),
-        Err(AllocError) if list.stance_of(&comp.key) == was => Ok(attempt(list, deed, comp, time)?),
-        Err(AllocError) => Err("a refused growth changed the list".into()),
+    if let Ok(answer) = attempt(list, deed, comp, moment_at(rt, at)) {
+        return answer;
     }
+    assert_eq!(rt; list.stance_of(&comp.key), was);
+    attempt(list, deed, comp, moment_at(rt, at)).expect(rt, "memory")
 }
 
-/// The moment at this second, if there is one.
-fn moment(at: Option<u32>) -> Result<Option<Moment>, Fail> {
+/// The moment at this second, if one is given.
+fn moment_at(rt: &impl Abort, at: Option<u32>) -> Option<Moment> {
     match at {
-        Some(at) => Ok(Some(Moment::new(at)?)),
-        None => Ok(None),
+        Some(at) => Some(moment(rt, at)),
+        None => None,
     }
 }
 
 /// Does the steps with the list, one after the other.
-pub fn follow(rt: &impl Abort, list: &mut SlotList, steps: &[Step]) -> Result<(), Fail> {
+pub fn follow(rt: &impl Abort, list: &mut SlotList, steps: &[Step]) {
     for (n, (deed, text, eto, place, cto)) in steps.iter().enumerate() {
-        let time = moment(*cto)?;
-        let answer = answer(list, *deed, comp(text.as_bytes(), *eto)?, time)?;
-        assert_eq!(rt; answer, (*place, time), "step {n}: {text}");
+        let comp = comp(rt, text.as_bytes(), *eto);
+        let answer = answer(rt, list, *deed, &comp, *cto);
+        let wanted = (*place, moment_at(rt, *cto));
+        assert_eq!(rt; answer, wanted, "step {n}: {text}");
     }
-    Ok(())
 }

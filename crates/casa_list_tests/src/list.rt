@@ -2,14 +2,12 @@
 
 use crate::deeds::Deed::{Admit, AdmitIssued, Ask, Enter, Force, Hold, Issue, Leave, Read};
 use crate::deeds::{Step, follow};
-use crate::parts::{comp, key, period, profile};
+use crate::parts::{comp, key, moment, period, profile};
 use casa_grid::Place::{Over, Slot};
 use casa_grid::{Grid, Period};
 use casa_list::{SlotList, Standing};
-use casa_time::Moment;
 use std::alloc::{AllocError, Global};
 use std::process::Abort;
-use std::test::Fail;
 
 /// Each deed once: B comes before A, which is issued; C comes in issued, so that B has the slot behind both; A leaves, and
 /// B is pulled up; D is forced, which moves nobody.
@@ -115,158 +113,152 @@ const CLOSED_AT_FIRST: &[Step] = &[(Enter, "A", 36_100, Some(Slot(0)), Some(36_6
 const CLOSED_AT_LAST: &[Step] = &[(Enter, "A", 36_700, Some(Over), Some(37_200))];
 
 /// The slots of these periods, made again where memory was refused.
-fn grid(alloc: Global, periods: &[Period]) -> Result<Grid, Fail> {
-    let profile = profile(alloc, periods)?;
+fn grid(rt: &impl Abort, alloc: Global, periods: &[Period]) -> Grid {
+    let profile = profile(rt, alloc, periods);
     match Grid::of(alloc, &profile) {
-        Ok(grid) => Ok(grid),
-        Err(AllocError) => Ok(Grid::of(alloc, &profile)?),
+        Ok(grid) => grid,
+        Err(AllocError) => Grid::of(alloc, &profile).expect(rt, "memory"),
     }
 }
 
 /// The list of these periods, with no flights, made likewise.
-fn list(alloc: Global, periods: &[Period]) -> Result<SlotList, Fail> {
-    match SlotList::new(alloc, grid(alloc, periods)?) {
-        Ok(list) => Ok(list),
-        Err(AllocError) => Ok(SlotList::new(alloc, grid(alloc, periods)?)?),
+fn list(rt: &impl Abort, alloc: Global, periods: &[Period]) -> SlotList {
+    match SlotList::new(alloc, grid(rt, alloc, periods)) {
+        Ok(list) => list,
+        Err(AllocError) => SlotList::new(alloc, grid(rt, alloc, periods)).expect(rt, "memory"),
     }
 }
 
 /// The list from 36000 to 37200 with 30 flights per hour, ten slots two minutes apart, after these steps.
-fn ten_slots(rt: &impl Abort, alloc: Global, steps: &[Step]) -> Result<SlotList, Fail> {
-    let mut list = list(alloc, &[period(36_000, 37_200, 30)?])?;
-    follow(rt, &mut list, steps)?;
-    Ok(list)
+fn ten_slots(rt: &impl Abort, alloc: Global, steps: &[Step]) -> SlotList {
+    let mut list = list(rt, alloc, &[period(rt, 36_000, 37_200, 30)]);
+    follow(rt, &mut list, steps);
+    list
 }
 
 /// Ten slots with three flights.
-pub fn three_flights(rt: &impl Abort, alloc: Global) -> Result<SlotList, Fail> {
+pub fn three_flights(rt: &impl Abort, alloc: Global) -> SlotList {
     ten_slots(rt, alloc, THREE_FLIGHTS)
 }
 
 /// Gives the list five slots, four minutes apart; again where memory was refused, which has changed nothing.
-fn widen(rt: &impl Abort, alloc: Global, list: &mut SlotList) -> Result<(), Fail> {
-    let wider = [period(36_000, 37_200, 15)?];
+fn widen(rt: &impl Abort, alloc: Global, list: &mut SlotList) {
+    let wider = [period(rt, 36_000, 37_200, 15)];
     let was = (list.grid().len(), list.governed());
-    if list.regrid(grid(alloc, &wider)?).is_err() {
+    if list.regrid(grid(rt, alloc, &wider)).is_err() {
         assert_eq!(rt; (list.grid().len(), list.governed()), was);
-        list.regrid(grid(alloc, &wider)?)?;
+        list.regrid(grid(rt, alloc, &wider)).expect(rt, "memory");
     }
-    Ok(())
 }
 
 /// A copy of the list, made again where memory was refused.
-fn copy(list: &SlotList) -> Result<SlotList, Fail> {
+fn copy(rt: &impl Abort, list: &SlotList) -> SlotList {
     match list.try_clone() {
-        Ok(copy) => Ok(copy),
-        Err(AllocError) => Ok(list.try_clone()?),
+        Ok(copy) => copy,
+        Err(AllocError) => list.try_clone().expect(rt, "memory"),
     }
 }
 
 #[test]
-fn a_list_through_each_deed(rt: HostRuntime) -> Result<(), Fail> {
-    let alloc = rt.alloc();
-    let mut list = ten_slots(&rt, alloc, EACH_DEED)?;
-    assert!(rt; copy(&list)? == list);
-    widen(&rt, alloc, &mut list)?;
-    follow(&rt, &mut list, WIDER_SLOTS)
+fn a_list_through_each_deed(rt: HostRuntime) {
+    let mut list = ten_slots(&rt, rt.alloc(), EACH_DEED);
+    assert!(&rt; copy(&rt, &list) == list);
+    widen(&rt, rt.alloc(), &mut list);
+    follow(&rt, &mut list, WIDER_SLOTS);
 }
 
 #[test]
-fn a_list_is_read_in_order(rt: HostRuntime) -> Result<(), Fail> {
-    let list = three_flights(&rt, rt.alloc())?;
-    let issued = Standing::Issued(Moment::new(36_015)?);
+fn a_list_is_read_in_order(rt: HostRuntime) {
+    let list = three_flights(&rt, rt.alloc());
+    let issued = Standing::Issued(moment(&rt, 36_015));
     let standings = [
-        Some((comp(b"B", 36_005)?, Standing::Pre(Slot(1)))),
-        Some((comp(b"C", 36_005)?, issued)),
-        Some((comp(b"D", 36_050)?, Standing::Forced)),
+        Some((comp(&rt, b"B", 36_005), Standing::Pre(Slot(1)))),
+        Some((comp(&rt, b"C", 36_005), issued)),
+        Some((comp(&rt, b"D", 36_050), Standing::Forced)),
         None,
     ];
     for (n, standing) in standings.iter().enumerate() {
-        assert_eq!(rt; list.nth(n), *standing);
+        assert_eq!(&rt; list.nth(n), *standing);
     }
-    Ok(())
 }
 
 #[test]
-fn forced_flights_take_no_slot(rt: HostRuntime) -> Result<(), Fail> {
-    let mut list = three_flights(&rt, rt.alloc())?;
-    assert_eq!(rt; list.governed(), 2);
-    let (c, d) = (key(b"C")?, key(b"D")?);
-    assert_eq!(rt;
+fn forced_flights_take_no_slot(rt: HostRuntime) {
+    let mut list = three_flights(&rt, rt.alloc());
+    assert_eq!(&rt; list.governed(), 2);
+    let (c, d) = (key(&rt, b"C"), key(&rt, b"D"));
+    assert_eq!(&rt;
         (list.unforce(&c), list.unforce(&d), list.unforce(&d)),
         (false, true, false)
     );
-    assert_eq!(rt; (list.governed(), list.nth(2)), (2, None));
-    Ok(())
+    assert_eq!(&rt; (list.governed(), list.nth(2)), (2, None));
+}
+
+/// How many flights a list of three governs after these steps.
+fn governed_after(rt: &impl Abort, alloc: Global, steps: &[Step]) -> usize {
+    let mut list = three_flights(rt, alloc);
+    follow(rt, &mut list, steps);
+    list.governed()
 }
 
 #[test]
-fn forced_flights_are_admitted(rt: HostRuntime) -> Result<(), Fail> {
-    let mut list = three_flights(&rt, rt.alloc())?;
-    follow(&rt, &mut list, ADMITTED)?;
-    assert_eq!(rt; (list.governed(), list.nth(3)), (3, None));
-    let mut list = three_flights(&rt, rt.alloc())?;
-    follow(&rt, &mut list, ADMITTED_AS_ISSUED)?;
-    assert_eq!(rt; list.governed(), 4);
-    Ok(())
+fn forced_flights_are_admitted(rt: HostRuntime) {
+    assert_eq!(&rt; governed_after(&rt, rt.alloc(), ADMITTED), 3);
+    assert_eq!(&rt; governed_after(&rt, rt.alloc(), ADMITTED_AS_ISSUED), 4);
 }
 
 #[test]
-fn ten_slots_are_taken(rt: HostRuntime) -> Result<(), Fail> {
+fn ten_slots_are_taken(rt: HostRuntime) {
     for steps in [
         LEFT_FREE,
         EQUAL_TIMES,
         EQUAL_TIMES_OTHER_WAY,
         AROUND_AN_ISSUED_SLOT,
     ] {
-        ten_slots(&rt, rt.alloc(), steps)?;
+        ten_slots(&rt, rt.alloc(), steps);
     }
-    Ok(())
 }
 
 #[test]
-fn a_flight_without_a_slot_is_over(rt: HostRuntime) -> Result<(), Fail> {
-    let mut list = list(rt.alloc(), &[period(36_000, 36_240, 30)?])?;
-    follow(&rt, &mut list, OVER)
+fn a_flight_without_a_slot_is_over(rt: HostRuntime) {
+    let mut list = list(&rt, rt.alloc(), &[period(&rt, 36_000, 36_240, 30)]);
+    follow(&rt, &mut list, OVER);
 }
 
 #[test]
-fn a_closed_period_has_no_slot(rt: HostRuntime) -> Result<(), Fail> {
-    let first = [period(36_000, 36_600, 0)?, period(36_600, 37_200, 30)?];
-    follow(&rt, &mut list(rt.alloc(), &first)?, CLOSED_AT_FIRST)?;
-    let last = [period(36_000, 36_600, 30)?, period(36_600, 37_200, 0)?];
-    follow(&rt, &mut list(rt.alloc(), &last)?, CLOSED_AT_LAST)
+fn a_closed_period_has_no_slot(rt: HostRuntime) {
+    for (rates, steps) in [([0, 30], CLOSED_AT_FIRST), ([30, 0], CLOSED_AT_LAST)] {
+        let periods = [
+            period(&rt, 36_000, 36_600, rates[0]),
+            period(&rt, 36_600, 37_200, rates[1]),
+        ];
+        follow(&rt, &mut list(&rt, rt.alloc(), &periods), steps);
+    }
 }
 
 /// Run also with each allocation refused in turn: the refused call has changed nothing, and is made again.
 #[test]
-fn a_refused_growth_leaves_the_flight_out(rt: HostRuntime) -> Result<(), Fail> {
-    let list = three_flights(&rt, rt.alloc())?;
-    assert_eq!(rt; list.governed(), 2);
-    Ok(())
+fn a_refused_growth_leaves_the_flight_out(rt: HostRuntime) {
+    assert_eq!(&rt; three_flights(&rt, rt.alloc()).governed(), 2);
 }
 
 /// Likewise.
 #[test]
-fn a_refused_growth_copies_nothing(rt: HostRuntime) -> Result<(), Fail> {
-    let list = three_flights(&rt, rt.alloc())?;
-    assert!(rt; copy(&list)? == list);
-    Ok(())
+fn a_refused_growth_copies_nothing(rt: HostRuntime) {
+    let list = three_flights(&rt, rt.alloc());
+    assert!(&rt; copy(&rt, &list) == list);
 }
 
 /// Likewise: a flight that stands forced stays so.
 #[test]
-fn a_refused_growth_admits_nobody(rt: HostRuntime) -> Result<(), Fail> {
-    let mut list = three_flights(&rt, rt.alloc())?;
-    follow(&rt, &mut list, ADMITTED_ALL)?;
-    assert_eq!(rt; list.governed(), 5);
-    Ok(())
+fn a_refused_growth_admits_nobody(rt: HostRuntime) {
+    assert_eq!(&rt; governed_after(&rt, rt.alloc(), ADMITTED_ALL), 5);
 }
 
 /// Likewise.
 #[test]
-fn a_refused_growth_leaves_the_slots(rt: HostRuntime) -> Result<(), Fail> {
-    let mut list = three_flights(&rt, rt.alloc())?;
-    widen(&rt, rt.alloc(), &mut list)?;
-    follow(&rt, &mut list, WIDER_SLOTS)
+fn a_refused_growth_leaves_the_slots(rt: HostRuntime) {
+    let mut list = three_flights(&rt, rt.alloc());
+    widen(&rt, rt.alloc(), &mut list);
+    follow(&rt, &mut list, WIDER_SLOTS);
 }
