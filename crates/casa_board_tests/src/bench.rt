@@ -117,9 +117,8 @@ impl Bench {
         self.apply(change)
     }
 
-    /// Does what a line asks for, and gives what it shows; where memory is refused, nothing has changed.
-    fn play(&mut self, alloc: Global, line: &str) -> Option<String> {
-        let mut out = String::with_capacity(alloc, WIDTH).ok()?;
+    /// Does what a line asks for, and writes what it shows; where memory is refused, nothing has changed.
+    fn push_played(&mut self, alloc: Global, line: &str, out: &mut String) -> Option<()> {
         let (word, rest) = line.split_once(' ')?;
         match word {
             "make" => self.make(alloc, &call_of(alloc, rest)?)?,
@@ -129,16 +128,20 @@ impl Bench {
             "drop" => drop(self.taken.pop()),
             _ => {
                 let taken = self.taken.get(rest.parse::<usize>().ok()?)?;
-                push_shown(alloc, &mut out, &self.board, &taken.view, word)?;
-                return Some(out);
+                return push_shown(alloc, out, &self.board, &taken.view, word);
             }
         }
-        self.push_letters(&mut out)?;
-        Some(out)
+        self.push_letters(out)
     }
 
-    /// The same, once more where memory is refused; `None` where it is refused twice, or a refusal changed which
-    /// views are the same.
+    /// The same, as a text of its own.
+    fn play(&mut self, alloc: Global, line: &str) -> Option<String> {
+        let mut out = String::with_capacity(alloc, WIDTH).ok()?;
+        self.push_played(alloc, line, &mut out).map(|_| out)
+    }
+
+    /// What a line shows, played once more where memory is refused; `None` where it is refused twice, or a refusal changed
+    /// which views are the same.
     fn shown(&mut self, alloc: Global, line: &str) -> Option<String> {
         let count = self.count();
         let shown = self.play(alloc, line);
@@ -153,24 +156,44 @@ impl Bench {
     }
 }
 
+/// Room for a transcript, asked for again where memory is refused.
+fn room(alloc: Global) -> Option<String> {
+    match String::with_capacity(alloc, ROOM) {
+        Ok(out) => Some(out),
+        Err(_) => String::with_capacity(alloc, ROOM).ok(),
+    }
+}
+
+/// A bench, made again where memory is refused.
+fn new_bench(alloc: Global) -> Option<Bench> {
+    match Bench::new(alloc) {
+        Some(bench) => Some(bench),
+        None => Bench::new(alloc),
+    }
+}
+
+/// Writes a line of a script with what it shows; `None` where that is not to be had.
+fn push_line(alloc: Global, bench: &mut Bench, line: &str, out: &mut String) -> Option<()> {
+    out.push_str(line).ok()?;
+    out.push_str("\n=").ok()?;
+    out.push_str(bench.shown(alloc, line)?.as_str()).ok()?;
+    out.push('\n').ok()
+}
+
+/// Writes all lines of a script likewise, but those that tell what is to be shown.
+fn push_lines(alloc: Global, bench: &mut Bench, script: &str, out: &mut String) -> Option<()> {
+    for line in script.lines() {
+        if !line.starts_with('=') {
+            push_line(alloc, bench, line, out)?;
+        }
+    }
+    Some(())
+}
+
 /// Each line of a script with what it shows; `None` where that is not to be had.
 pub fn transcript(alloc: Global, script: &str) -> Option<String> {
-    let mut out = match String::with_capacity(alloc, ROOM) {
-        Ok(out) => out,
-        Err(_) => String::with_capacity(alloc, ROOM).ok()?,
-    };
-    let mut bench = match Bench::new(alloc) {
-        Some(bench) => bench,
-        None => Bench::new(alloc)?,
-    };
-    for line in script.lines() {
-        if line.starts_with('=') {
-            continue;
-        }
-        out.push_str(line).ok()?;
-        out.push_str("\n=").ok()?;
-        out.push_str(bench.shown(alloc, line)?.as_str()).ok()?;
-        out.push('\n').ok()?;
-    }
+    let mut out = room(alloc)?;
+    let mut bench = new_bench(alloc)?;
+    push_lines(alloc, &mut bench, script, &mut out)?;
     Some(out)
 }

@@ -71,27 +71,54 @@ fn play(
     }
 }
 
-/// The lines of a script with the reply to each command in place of those that stand there, up to the first command on
-/// which the two differ.
-pub fn transcript(alloc: Global, script: &str) -> Option<String> {
-    let mut desk = match Desk::new(alloc) {
-        Some(desk) => desk,
-        None => Desk::new(alloc)?,
-    };
-    let mut plain = Plain::new(alloc);
-    let mut out = match String::with_capacity(alloc, ROOM) {
-        Ok(out) => out,
-        Err(_) => String::with_capacity(alloc, ROOM).ok()?,
-    };
+/// Writes a line that is no command and no reply.
+fn push_text(line: &str, out: &mut String) -> Option<()> {
+    out.push_str(line).ok()?;
+    out.push('\n').ok()
+}
+
+/// Writes the lines of a script with the reply to each command in place of those that stand there, up to the first command
+/// on which the two differ.
+fn push_lines(
+    alloc: Global,
+    desk: &mut Desk,
+    plain: &mut Plain,
+    script: &str,
+    out: &mut String,
+) -> Option<()> {
     for line in script.lines() {
         if line.starts_with("{'cmd':") {
-            if play(alloc, &mut desk, &mut plain, line, &mut out).is_none() {
+            if play(alloc, desk, plain, line, out).is_none() {
                 break;
             }
         } else if !line.starts_with('{') {
-            out.push_str(line).ok()?;
-            out.push('\n').ok()?;
+            push_text(line, out)?;
         }
     }
+    Some(())
+}
+
+/// A desk, made again where memory is refused.
+fn new_desk(alloc: Global) -> Option<Desk> {
+    match Desk::new(alloc) {
+        Some(desk) => Some(desk),
+        None => Desk::new(alloc),
+    }
+}
+
+/// Room for a transcript, asked for again where memory is refused.
+fn room(alloc: Global) -> Option<String> {
+    match String::with_capacity(alloc, ROOM) {
+        Ok(out) => Some(out),
+        Err(_) => String::with_capacity(alloc, ROOM).ok(),
+    }
+}
+
+/// What `push_lines` writes of a script, to a new desk and a new slow allocator; `None` where memory is refused twice.
+pub fn transcript(alloc: Global, script: &str) -> Option<String> {
+    let mut desk = new_desk(alloc)?;
+    let mut plain = Plain::new(alloc);
+    let mut out = room(alloc)?;
+    push_lines(alloc, &mut desk, &mut plain, script, &mut out)?;
     Some(out)
 }

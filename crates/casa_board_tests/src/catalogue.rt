@@ -5,7 +5,7 @@ use casa_flight::{Call, Loc, Plan, RegId, Regulation};
 use casa_time::Moment;
 use casa_view::Catalogue;
 use std::alloc::{AllocError, Global};
-use std::test::Fail;
+use std::process::Abort;
 
 /// A flight over LB and LA.
 const PLAN: &str =
@@ -35,34 +35,40 @@ fn shown(alloc: Global, all: &Catalogue, plan: &Plan) -> Result<String, AllocErr
     Ok(text)
 }
 
+/// The regulations R3 at LA until 36600 and R2 at LB.
+fn two(rt: &impl Abort, alloc: Global) -> Catalogue {
+    let early = regulation(b"R3", b"LA", 36_600).expect(rt, "R3");
+    let second = regulation(b"R2", b"LB", 37_200).expect(rt, "R2");
+    let one = Catalogue::new(alloc)
+        .with(alloc, early)
+        .expect(rt, "memory");
+    one.with(alloc, second).expect(rt, "memory")
+}
+
+/// What these regulations show of the flight.
+fn told(rt: &impl Abort, alloc: Global, all: &Catalogue) -> String {
+    let call = call_of(alloc, PLAN).expect(rt, "a filing");
+    match &call {
+        Call::File(plan) => shown(alloc, all, plan).expect(rt, "memory"),
+        _ => String::new(alloc),
+    }
+}
+
 #[test]
-fn regulations_come_and_go(rt: HostRuntime) -> Result<(), Fail> {
+fn regulations_come_and_go(rt: HostRuntime) {
     let alloc = rt.alloc();
-    let first = regulation(b"R1", b"LA", 37_200).ok_or("R1")?;
-    let second = regulation(b"R2", b"LB", 37_200).ok_or("R2")?;
-    let early = regulation(b"R3", b"LA", 36_600).ok_or("R3")?;
-    let late = regulation(b"R3", b"LA", 37_200).ok_or("R3")?;
-    let Some(Call::File(plan)) = call_of(alloc, PLAN) else {
-        return Err("a plan".into());
-    };
-    let none = Catalogue::new(alloc);
-    let two = none.with(alloc, early)?.with(alloc, second)?;
-    let three = two.with(alloc, first)?;
-    assert_eq!(rt;
-        shown(alloc, &three, &plan)?.as_str(),
-        " R1 36700 R2 36100 R3"
-    );
-    let three = three.with(alloc, late)?;
-    assert_eq!(rt;
-        shown(alloc, &three, &plan)?.as_str(),
+    let first = regulation(b"R1", b"LA", 37_200).expect(&rt, "R1");
+    let late = regulation(b"R3", b"LA", 37_200).expect(&rt, "R3");
+    let three = two(&rt, alloc).with(alloc, first).expect(&rt, "memory");
+    assert_eq!(&rt; told(&rt, alloc, &three).as_str(), " R1 36700 R2 36100 R3");
+    let three = three.with(alloc, late).expect(&rt, "memory");
+    assert_eq!(&rt;
+        told(&rt, alloc, &three).as_str(),
         " R1 36700 R2 36100 R3 36700"
     );
-    let fewer = three.without(alloc, &first.id)?;
-    assert_eq!(rt; shown(alloc, &fewer, &plan)?.as_str(), " R2 36100 R3 36700");
-    assert_eq!(rt;
-        (fewer.get(&first.id), fewer.get(&second.id)),
-        (None, Some(&second))
-    );
-    assert!(rt; fewer == two.with(alloc, late)? && fewer != three);
-    Ok(())
+    let fewer = three.without(alloc, &first.id).expect(&rt, "memory");
+    assert_eq!(&rt; told(&rt, alloc, &fewer).as_str(), " R2 36100 R3 36700");
+    assert!(&rt; fewer.get(&first.id).is_none() && fewer.get(&late.id) == Some(&late));
+    assert!(&rt; fewer == two(&rt, alloc).with(alloc, late).expect(&rt, "memory"));
+    assert!(&rt; fewer != three);
 }
