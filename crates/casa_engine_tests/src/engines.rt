@@ -1,15 +1,8 @@
 //! What desks and an engine tell after scripts of calls.
 
-ghost use Rattle.casa_engine.specs.Ledgers.{IsBlankOf};
-
-use crate::played::{Script, played};
-use casa_engine::{Audit, Direct, Engine, blank};
-use casa_history::Holds;
+use crate::played::{ENGINE, Script, played};
+use casa_engine::Audit;
 use std::alloc::{AllocError, Global};
-use std::marker::Brand;
-use std::process::Abort;
-use std::sync::Wait;
-use std::sync::ledger::{Blank, Ledger};
 
 /// The opening of R1, and the filings of two flights that want its first slot.
 const TWO_FLIGHTS: &[&str] = &[
@@ -47,23 +40,15 @@ fn receipts_are_accounted_for(rt: HostRuntime) {
     }
 }
 
-/// The number that the first pass of a new engine has.
-fn number_of_pass<L: Ledger, R: Wait + Abort>(
-    rt: &R,
-    alloc: Global,
-    blank: Blank,
-    number: u32,
-) -> u32
-    requires { IsBlankOf L.name L.parts blank.name blank.parts }
-{
-    let engine = Engine::<L, Direct>::new(alloc, blank, number, Direct).expect(rt, "memory");
-    engine.desk(rt).expect(rt, "a desk").pass().number()
-}
-
 #[test]
 fn a_pass_has_the_number_of_its_engine(rt: HostRuntime) {
-    let number = number_of_pass::<Brand, _>(&rt, rt.alloc(), blank(), 42);
-    assert_eq!(&rt; number, 42);
+    let script = Script {
+        desks: 1,
+        meet: false,
+        texts: &[],
+        passes: 1,
+    };
+    assert_eq!(&rt; played(&rt, rt.alloc(), &script).number, Some(ENGINE));
 }
 
 #[test]

@@ -1,33 +1,44 @@
 //! The sum of the delays in lists.
 
-use casa_engine::{Audit, audit_lists};
-use casa_flight::{Call, Comp, Key};
-use casa_grid::Grid;
+use casa_engine::audit_lists;
+use casa_flight::{Comp, Key};
+use casa_grid::{Grid, Period, Profile};
 use casa_list::SlotList;
 use casa_time::Moment;
-use casa_wire::read_call;
-use std::test::Fail;
+use std::alloc::Global;
+use std::process::Abort;
 
-#[test]
-fn delays_of_a_list_are_added(rt: HostRuntime) -> Result<(), Fail> {
-    let alloc = rt.alloc();
-    let line =
-        br#"{"cmd":"open","reg":"R1","loc":"LA","periods":[{"from":36000,"to":36240,"rate":30}]}"#;
-    let Call::OpenReg(_, _, profile) = read_call(alloc, line)? else {
-        return Err("no opening".into());
+/// The moment this many seconds after midnight UTC.
+fn moment(rt: &impl Abort, secs: u32) -> Moment {
+    Moment::new(secs).expect(rt, "a moment")
+}
+
+/// The list from 36000 to 36240 with 30 flights per hour: two slots.
+fn two_slots(rt: &impl Abort, alloc: Global) -> SlotList {
+    let period = Period {
+        begin: moment(rt, 36_000),
+        until: moment(rt, 36_240),
+        rate: 30,
     };
-    let mut list = SlotList::new(alloc, Grid::of(alloc, &profile)?)?;
-    for (key, eto) in [(b"A", 36_010), (b"B", 36_020), (b"C", 36_030)] {
-        let key = Key::new(key).ok_or("a key")?;
-        if list.place_of(&key).is_none() {
-            list.enter(Comp {
-                eto: Moment::new(eto)?,
-                key,
-            })?;
-        }
-    }
-    let lists = vec![in alloc; list]?;
-    let audit = audit_lists(&rt, alloc, lists.as_slice())?;
+    let profile = Profile::new(alloc, &[period]).expect(rt, "a profile");
+    SlotList::new(alloc, Grid::of(alloc, &profile).expect(rt, "memory")).expect(rt, "memory")
+}
+
+/// Puts in a flight that is not there.
+fn enter(rt: &impl Abort, list: &mut SlotList, text: &[u8], secs: u32) {
+    let (eto, key) = (moment(rt, secs), Key::new(text).expect(rt, "a key"));
+    assert!(rt; list.place_of(&key).is_none());
+    list.enter(Comp { eto, key }).expect(rt, "memory");
+}
+
+/// The third flight is over.
+#[test]
+fn delays_of_a_list_are_added(rt: HostRuntime) {
+    let mut list = two_slots(&rt, rt.alloc());
+    enter(&rt, &mut list, b"A", 36_010);
+    enter(&rt, &mut list, b"B", 36_020);
+    enter(&rt, &mut list, b"C", 36_030);
+    let lists = vec![in rt.alloc(); list].expect(&rt, "memory");
+    let audit = audit_lists(&rt, rt.alloc(), lists.as_slice()).expect(&rt, "memory");
     assert_eq!(&rt; (audit.lists, audit.delay), (1, 310));
-    Ok(())
 }

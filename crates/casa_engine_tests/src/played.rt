@@ -5,7 +5,7 @@ ghost use Rattle.casa_engine.specs.Ledgers.{IsBlankOf};
 use crate::watched::{Signals, Watched};
 use casa_engine::{Audit, DeskPass, Engine, EngineDesk, blank};
 use casa_flight::{Call, Reply};
-use casa_history::History;
+use casa_history::{History, Holds};
 use casa_plain::Plain;
 use casa_wire::{read_call, reply_line};
 use std::alloc::Global;
@@ -15,6 +15,9 @@ use std::sync::Wait;
 use std::sync::ledger::{Blank, Ledger};
 use std::thread;
 use std::thread::Threads;
+
+/// The number of each engine.
+pub const ENGINE: u32 = 7;
 
 /// What desks do.
 #[derive(Clone, Copy)]
@@ -35,6 +38,8 @@ pub struct Told {
     /// The replies of each text, by desk, and what the gate counted.
     pub replies: String,
     pub audit: Audit,
+    /// The number that the first pass has which is handed in.
+    pub number: Option<u32>,
     /// What `close` tells, and whether the slow allocator gives the replies of the history.
     pub end: String,
 }
@@ -163,18 +168,20 @@ fn played_on<L: Ledger + Send + Sync, R: Threads + Wait + Sync + Abort>(
 ) -> Told
     requires { IsBlankOf L.name L.parts blank.name blank.parts }
 {
-    let engine = Engine::<L, Watched<'_>>::new(alloc, blank, 7, Watched { signals }).expect(
+    let engine = Engine::<L, Watched<'_>>::new(alloc, blank, ENGINE, Watched { signals }).expect(
         rt, "memory",
     );
     let mut replies = String::new(alloc);
     let passes = all_calls(rt, alloc, &engine, signals, script, &mut replies);
     let audit = engine.audit(rt).expect(rt, "memory");
+    let number = passes.first().map(|pass| pass.pass().number());
     let (history, desks, settled) = engine.close(passes);
     let is_sequential = is_sequential(rt, alloc, &history);
     let end = format!(in alloc; "{desks} {settled:?} {is_sequential}").expect(rt, "memory");
     Told {
         replies,
         audit,
+        number,
         end,
     }
 }
