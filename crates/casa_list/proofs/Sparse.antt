@@ -2,8 +2,8 @@
 use Rattle.std.proofs.Common.{◌≡◌, ◌==◌, ℕ, ◌+◌, ◌-◌, ◌<◌, ◌≤◌, List, [], ◌∷◌, length, drop, get_or, set, map, Bool, true, false, nat_lt, refl, sym, ◌∙◌, ap, subst, arith, zero, suc, cond, Option, None, Some, inl, inr, ◌⊎◌, replicate, sum}
 use Rattle.std.specs.Option.{option_map_or}
 use Rattle.std.specs.Bool.{then_some}
-use Rattle.std.specs.List.{AllByRecursion, find, insert, prefix_len, range_with_len, remove, slice_get, slice_set}
-use Rattle.std.proofs.lemmas.Bool.{cases_lt, eqb-true, eq-eqb, ne_eqb, ltb-true, ltb-false, le-ltb, lt-ltb, both_ways}
+use Rattle.std.specs.List.{AllByRecursion, find, insert, range_with_len, remove, slice_get, slice_set}
+use Rattle.std.proofs.lemmas.Bool.{cases_lt, eqb-true, eq-eqb, ne_eqb, ltb-true, le-ltb, lt-ltb, both_ways}
 use Rattle.std.proofs.lemmas.List.Sums.{sum_by-cons, prefix_len-le-length}
 use Rattle.std.proofs.lemmas.List.FromFn.{length-map-range_with_len, get_or-map-range_with_len}
 use Rattle.std.proofs.lemmas.Option.{slice_get-get_or, same_Some}
