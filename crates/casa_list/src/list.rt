@@ -18,12 +18,13 @@ use crate::copies::copied;
 use crate::fresh::{competitors_of, forced_of, issued_of};
 use crate::grid::SharedGrid;
 use crate::order::{entry_at, free_flight, index_of, put_flight, take_flight};
+use crate::seat::Seat;
 use crate::stances::Stances;
 use crate::standing::{Entry, Standing};
 use crate::walk::{
     cto_at, place_behind, place_from, put_competitor, take_competitor, walk_all, walk_from_slot,
 };
-use casa_flight::{Assigned, Comp, Key, Stance};
+use casa_flight::{Comp, Key, Stance};
 use casa_grid::{Grid, Place};
 use casa_time::Moment;
 use std::alloc::{AllocError, Global};
@@ -36,13 +37,13 @@ use std::marker::Model;
 ///
 /// Contracts see it as a regulation's profile and the stance of each flight, by keys; places follow from that.
 /// It keeps the competitors in their order with their places, the issued and the forced flights in theirs, and
-/// of each slot how many issued flights block it. Its flights are in the order of their keys: `grid`, `stance_of`,
+/// which slots issued flights block. Its flights are in the order of their keys: `grid`, `stance_of`,
 /// `governed` and `nth` say so, since the law `standings_name_each_flight_once` asks for it.
 #[derive(Drop)]
 pub struct SlotList {
     grid: SharedGrid,
     flights: Stances,
-    competitors: Vec<Assigned>,
+    competitors: Vec<Seat>,
     issued: Vec<Entry>,
     forced: Vec<Entry>,
     blocked: Blocked,
@@ -380,7 +381,7 @@ impl SlotList {
         ensures within { IsWithin (length (slots self.now.profile)) result }
     {
         let at = index_of(self.competitors.as_slice(), comp);
-        self.competitors[at].place
+        self.competitors[at].place()
     }
 
     /// The calculated time over of a governed flight; `None` where the regulation governs none with this key.
@@ -427,8 +428,8 @@ impl SlotList {
         ensures keys { AreInOrder self.now.flights }
     {
         if n < self.competitors.len() {
-            let assigned = self.competitors[n];
-            return Some((assigned.comp, Standing::Pre(assigned.place)));
+            let seat = self.competitors[n];
+            return Some((*seat.comp(), Standing::Pre(seat.place())));
         }
         let n = n - self.competitors.len();
         if n < self.issued.len() {

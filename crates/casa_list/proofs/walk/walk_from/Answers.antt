@@ -1,6 +1,5 @@
 use Rattle.std.proofs.Common.{◌≡◌, ◌∙◌, ◌+◌, ◌<◌, ◌++◌, length, take, drop, set, rules}
 use Rattle.casa_grid.specs.Slots.{slots}
-use Rattle.casa_flight.specs.declared.comp.Assigned.{Assigned}
 use Rattle.casa_list.specs.Walk.{low_after, place_low, walked, comps_in}
 use Rattle.casa_list.proofs.Asked.{asked_head, asked_more}
 use Rattle.casa_list.proofs.Walks.{walked_more, follow_more}
@@ -19,13 +18,14 @@ loop-i-preserved c =
     let xs = c.loop-i.competitors in
     let x = c.index-competitors-i.result in
     let under : i < length xs = search rules in
-    let place_is : c.place_anew-place.result ≡ place_low ws bs c.loop-i.low x.comp.eto = c.place_anew-place.ensures in
+    let place_is : c.place_anew-place.result ≡ place_low ws bs c.loop-i.low x.comp.eto = c.place_anew-place.ensures.value in
     let next : c.low_after-low.result ≡ low_after (length bs) c.place_anew-place.result = search rules in
     let low_is : c.low_after-low.result ≡ low_after (length bs) (place_low ws bs c.loop-i.low x.comp.eto) = next ∙ (λ j. low_after (length bs) (place_is j)) in
-    let this : Assigned = record { comp = x.comp; place = c.place_anew-place.result } in (
-      (λ j. take (i + 1) (set xs i (record { comp = x.comp; place = place_is j })) ++ walked ws bs (low_is j) (comps_in (drop (i + 1) (set xs i (record { comp = x.comp; place = place_is j })))))
+    let seat_is : c.new.result ≡ record { comp = x.comp; place = c.place_anew-place.result } = search rules in
+    let this_is : c.new.result ≡ record { comp = x.comp; place = place_low ws bs c.loop-i.low x.comp.eto } = seat_is ∙ (λ j. record { comp = x.comp; place = place_is j }) in (
+      (λ j. take (i + 1) (set xs i (this_is j)) ++ walked ws bs (low_is j) (comps_in (drop (i + 1) (set xs i (this_is j)))))
           ∙ walked_more ws bs c.loop-i.low i xs x under c.index-competitors-i.is
           ∙ c.loop-i.invariant.0,
-      follow_more ws bs i xs this c.loop-i.invariant.1,
-      λ behind. asked_more ws bs i xs this c.loop-i.invariant.1,
+      follow_more ws bs i xs c.new.result c.loop-i.invariant.1,
+      λ behind. asked_more ws bs i xs c.new.result c.loop-i.invariant.1,
     )
