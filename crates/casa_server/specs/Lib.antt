@@ -1,3 +1,6 @@
+pub mod Begun
 pub mod Faults
 pub mod Moments
+pub mod Serving
+pub mod Sources
 pub mod Ticks

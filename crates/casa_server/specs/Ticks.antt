@@ -7,6 +7,11 @@ use Rattle.casa_flight.specs.declared.call.Call.TheVariants.{Tick}
 use Rattle.casa_flight.specs.declared.reply.Reply.{Reply}
 use Rattle.casa_flight.specs.declared.reply.Reply.TheVariants.{Refused, Answered}
 use Rattle.casa_history.specs.declared.entry.Receipt.{Receipt}
+use Rattle.casa_history.specs.Entries.{receipts, desk_of}
+use Rattle.casa_commit.specs.declared.world.World.{Ghosts as WorldOf}
+use Rattle.casa_engine.specs.declared.pass.CountedPass.{CountedPass}
+use Rattle.casa_engine.specs.Passes.{pass_of}
+use Rattle.casa_engine.specs.Receipts.{AllStand}
 use Rattle.casa_desk.specs.Receipts.{Receipts}
 use Rattle.casa_session.specs.Transcript.{calls_of}
 
@@ -43,3 +48,11 @@ pub record Ticked (coming : Option (List ℕ)) (turns : ℕ) (a b : Receipts) (n
   pub within : length moments ≤ turns
   pub first : IfSome coming (λ ms. moments ≡ take turns ms)
   pub ticks : Ticks a b moments n
+
+module _ {W V D : Type 0} (L : Type 0) (world : WorldOf W Call V D Reply) where
+  -- a pass of the engine with this ledger, which had no receipt before, has those of the ticks, n of them accepted, and each
+  -- is next after those before it in a legal history
+  pub record IsTicked (coming : Option (List ℕ)) (turns : ℕ) (n : ℕ) : Type 0 where
+    pub pass : CountedPass W L Call V D Reply world
+    pub stand : ∥ AllStand world (desk_of (pass_of pass)) (receipts (pass_of pass)) ∥₁
+    pub ticked : Ticked coming turns [] (receipts (pass_of pass)) n

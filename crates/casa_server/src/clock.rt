@@ -1,8 +1,8 @@
-ghost use Rattle.std.specs.Prelude.{ℕ, List, [], Option, None, IfOk};
-ghost use Rattle.casa_desk.specs.Receipts.{Receipts};
-ghost use Rattle.casa_server.specs.Ticks.{Tells, Ticked, TicksTo};
+ghost use Rattle.std.specs.Prelude.{ℕ, List, Option, None, IfOk};
+ghost use Rattle.casa_server.specs.Ticks.{IsTicked, Tells, Ticked, TicksTo};
 
 use crate::fault::TimerFault;
+use casa_commit::World;
 use casa_engine::{Engine, EngineDesk, Gate};
 use casa_flight::{Call, Reply};
 use casa_session::Desk;
@@ -22,8 +22,8 @@ pub trait DayClock {
         ensures { Tells (coming self.old) (coming self.new) result };
 }
 
-/// Opens a desk, and ticks with it to each moment that the clock tells, at most this many times. Says how many ticks were
-/// accepted; one that would set the engine's clock back is refused, and is not counted.
+/// Opens a desk of the engine, and ticks with it to each moment that the clock tells, at most this many times. Says how many
+/// ticks were accepted; one that would set the engine's clock back is refused, and is not counted.
 ///
 /// `NoDesk` where 1,024 desks are open, or the engine does not know its desk; `NoMemory` where there is none for the desk or
 /// a tick. The ticks that were accepted before a fault stand.
@@ -34,23 +34,28 @@ pub fn timer<L: Ledger, G: Gate<Board<Copies>>, C: DayClock, R: Wait>(
     engine: &Engine<L, G>,
     turns: u32,
 ) -> Result<u32, TimerFault>
-    ensures { IfOk result (λ accepted. (receipts : Receipts) ×
-        Ticked (C.coming clock.old) turns [] receipts accepted) }
+    ensures { IfOk result (λ accepted.
+        IsTicked L ⟦<Board<Copies> as World>⟧ (C.coming clock.old) turns accepted) }
 {
     let pass = engine.desk(rt)?;
     let mut desk = EngineDesk::new(engine, rt, pass);
-    tick_in_turns(alloc, clock, &mut desk, turns)
+    keep_time(alloc, clock, &mut desk, turns)
 }
 
-/// Ticks with a desk to each moment that the clock tells, at most this many times. How many ticks were accepted.
-fn tick_in_turns<C: DayClock, D: Desk>(
+/// Ticks with a desk to each moment that the clock tells, at most this many times. Says how many ticks were accepted; one
+/// that would set the desk's clock back is refused, and is not counted.
+///
+/// `NoDesk` where the desk is none of its allocator's, `NoMemory` where there is none for a tick. The ticks that were
+/// accepted before a fault stand.
+pub fn keep_time<C: DayClock, D: Desk>(
     alloc: Global,
     clock: &mut C,
     desk: &mut D,
     turns: u32,
 ) -> Result<u32, TimerFault>
-    ensures { IfOk result (λ accepted.
+    ensures ticked { IfOk result (λ accepted.
         Ticked (C.coming clock.old) turns (D.answered desk.old) (D.answered desk.new) accepted) }
+    ensures lawful { D.lawful (D.answered desk.new) }
 {
     let mut accepted = 0;
     'turns: for _ in 0..turns {

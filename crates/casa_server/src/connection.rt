@@ -2,14 +2,14 @@ ghost use Rattle.std.specs.Prelude.{◌≡◌, [], ⊤};
 ghost use Rattle.casa_history.specs.Entries.{receipts};
 ghost use Rattle.casa_engine.specs.Passes.{pass_of};
 ghost use Rattle.casa_session.specs.Transcript.{Ends};
+ghost use Rattle.casa_server.specs.Serving.{IsSession};
 
-use casa_commit::DeskFault;
+use casa_commit::World;
 use casa_engine::{DeskPass, Engine, EngineDesk, Gate};
 use casa_session::{SessionFault, run};
 use casa_view::{Board, Copies};
 use std::alloc::Global;
 use std::io::{Read, Write};
-use std::net::TcpStream;
 use std::sync::Wait;
 use std::sync::ledger::Ledger;
 
@@ -18,34 +18,27 @@ use std::sync::ledger::Ledger;
 /// Its type says that the pass has no receipt: nobody has made a call by it. Since a pass can't be cloned, nobody else
 /// will.
 #[derive(Drop)]
-pub(crate) struct Connection<L: Ledger> {
-    stream: TcpStream,
-    pass: DeskPass<L>,
+pub(crate) struct Connection<I, O, L: Ledger> {
+    pub(crate) ends: (I, O),
+    pub(crate) pass: DeskPass<L>,
     ghost unused: { receipts (pass_of pass) ≡ [] },
 }
 
-impl<L: Ledger> Connection<L> {
-    /// Opens a desk for a connection; where it is refused, the connection is closed.
-    pub(crate) fn open<G: Gate<Board<Copies>>, R: Wait>(
-        rt: &R,
-        engine: &Engine<L, G>,
-        stream: TcpStream,
-    ) -> Result<Connection<L>, DeskFault> {
-        let pass = engine.desk(rt)?;
-        Ok(Connection { stream, pass })
-    }
-
+impl<I: Read + Drop, O: Write + Drop, L: Ledger> Connection<I, O, L> {
     /// Answers the lines of the connection until it ends, says how many there were, and closes it.
     pub(crate) fn answer<G: Gate<Board<Copies>>, R: Wait>(
         self,
         rt: &R,
         alloc: Global,
         engine: &Engine<L, G>,
-    ) -> Result<u64, SessionFault> {
-        let Connection { stream, pass } = self;
-        // A system that refuses it may send replies later; it sends them all the same.
-        let _ = stream.set_nodelay(true);
-        let (ended, _pass) = session(rt, alloc, engine, pass, &mut &stream, &mut &stream);
+    ) -> Result<u64, SessionFault>
+        ensures { IsSession L ⟦<Board<Copies> as World>⟧ I.remaining O.contents self.ends result }
+    {
+        let Connection {
+            ends: (mut reader, mut writer),
+            pass,
+        } = self;
+        let (ended, _pass) = session(rt, alloc, engine, pass, &mut reader, &mut writer);
         ended
     }
 }

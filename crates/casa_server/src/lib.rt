@@ -1,13 +1,16 @@
 //! Serves an engine: connections that are answered by desks of their own, and the timer that moves its clock.
 #![tactic(auto)]
 
+mod begun;
 mod clock;
 mod connection;
 mod fault;
 mod moments;
 mod server;
+mod source;
 
-pub use clock::{DayClock, timer};
+pub use clock::{DayClock, keep_time, timer};
 pub use fault::{ServeFault, TimerFault};
 pub use moments::moment_at;
 pub use server::{Served, serve};
+pub use source::{Connections, StreamEnd};

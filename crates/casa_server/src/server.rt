@@ -1,15 +1,22 @@
-ghost use Rattle.std.specs.Prelude.{◌≡◌, ◌+◌, ◌≤◌, ◌<◌, ◌^◌, length, IfOk};
+ghost use Rattle.std.specs.Prelude.{◌≡◌, length, map, take, IfOk, IfSome};
+ghost use Rattle.casa_server.specs.Begun.{connection_of};
+ghost use Rattle.casa_server.specs.Serving.{Serves};
 
+use crate::begun::{Begun, SessionOf, end_all};
 use crate::connection::Connection;
 use crate::fault::ServeFault;
+use crate::source::Connections;
+use casa_commit::World;
 use casa_engine::{Engine, Gate};
 use casa_view::{Board, Copies};
 use std::alloc::Global;
-use std::net::TcpListener;
+use std::io::{Read, Write};
+use std::marker::PhantomData;
+use std::snapshot::Snapshot;
 use std::sync::Wait;
 use std::sync::ledger::Ledger;
 use std::thread;
-use std::thread::{JoinHandle, Scope, Threads};
+use std::thread::{Scope, Threads};
 
 /// What became of a server's connections.
 #[derive(Clone, Copy, PartialEq, Eq, Debug)]
@@ -20,53 +27,42 @@ pub struct Served {
     pub faulted: u32,
 }
 
-/// Accepts that many connections, and answers the lines of each by a desk of its own, in a thread of its own. Ends when
-/// all sessions have ended, and says how many there were.
+/// Accepts that many connections of the source, and answers the lines of each by a desk of its own, in a thread of its own.
+/// Ends when all sessions have ended, and says how many there were.
 ///
 /// A session's fault, or a desk that is refused since 1,024 are open or there is no memory for it, closes its connection
-/// alone, and counts as faulted. A reply is sent as soon as its session writes it: the socket is told not to wait for
-/// more bytes (`TCP_NODELAY`).
+/// alone, and counts as faulted.
 ///
-/// `AcceptFailed` where the listener gives no connection, `SpawnFailed` where the system gives no thread, `NoMemory` where
-/// there is none to keep one session more; each after the sessions that were begun have ended.
-pub fn serve<L: Ledger + Send + Sync, G: Gate<Board<Copies>> + Sync, R: Threads + Wait + Sync>(
+/// `AcceptFailed` where the source gives no connection, `SpawnFailed` where the system gives no thread, `NoMemory` where
+/// there is none to keep one connection more; each after the sessions that were begun have ended.
+pub fn serve<
+    S: Connections + Drop,
+    L: Ledger + Send + Sync,
+    G: Gate<Board<Copies>> + Sync,
+    R: Threads + Wait + Sync,
+>(
     rt: &R,
     alloc: Global,
-    listener: &TcpListener,
+    source: S,
     engine: &Engine<L, G>,
     connections: u32,
 ) -> Result<Served, ServeFault>
     ensures sessions { IfOk result (λ served. served.sessions ≡ connections) }
-    ensures faulted { IfOk result (λ served. served.faulted ≤ served.sessions) }
+    ensures served { IfOk result (λ served. Serves L ⟦<Board<Copies> as World>⟧
+        S.Reader.remaining S.Writer.contents (S.coming source) served) }
 {
-    let faulted = thread::scope(
+    thread::scope(
         thread::scope_env(),
         rt,
-        |scope| -> Result<u32, ServeFault>
-            ensures { IfOk result (λ faulted. faulted ≤ connections) }
-        {
-            let sessions = begin_sessions(scope, rt, alloc, listener, engine, connections)?;
-            Ok(sessions.end(rt))
-        },
-    )?;
-    Ok(Served {
-        sessions: connections,
-        faulted,
-    })
+        move |scope| serve_all(scope, rt, alloc, source, engine, connections),
+    )
 }
 
-/// The sessions that were begun, and how many connections were refused a desk.
-#[derive(Drop)]
-struct Sessions {
-    /// Each tells whether its session ended by a fault.
-    threads: Vec<JoinHandle<bool>>,
-    refused: u32,
-}
-
-/// Accepts that many connections, and begins a session with each that is given a desk.
-fn begin_sessions<
+/// Serves that many connections by threads of this scope.
+fn serve_all<
     's,
     E,
+    S: Connections + Drop,
     L: Ledger + Send + Sync,
     G: Gate<Board<Copies>> + Sync,
     R: Threads + Wait + Sync,
@@ -74,45 +70,88 @@ fn begin_sessions<
     scope: &'s Scope<'s, E>,
     rt: &'s R,
     alloc: Global,
-    listener: &TcpListener,
+    source: S,
     engine: &'s Engine<L, G>,
     connections: u32,
-) -> Result<Sessions, ServeFault>
-    ensures { IfOk result (λ sessions. length sessions.threads.items + sessions.refused ≡ connections) }
+) -> Result<Served, ServeFault>
+where
+    S::Reader: 's,
+    S::Writer: 's,
+    ensures sessions { IfOk result (λ served. served.sessions ≡ connections) }
+    ensures served { IfOk result (λ served. Serves L ⟦<Board<Copies> as World>⟧
+        S.Reader.remaining S.Writer.contents (S.coming source) served) }
 {
-    let mut threads = Vec::new(alloc);
-    let mut refused = 0;
+    let begun = begin_all(scope, rt, alloc, source, engine, connections)?;
+    let faulted = end_all(rt, begun);
+    Ok(Served {
+        sessions: connections,
+        faulted,
+    })
+}
+
+/// Accepts that many connections, and begins a session with each that is given a desk.
+fn begin_all<
+    's,
+    E,
+    S: Connections + Drop,
+    L: Ledger + Send + Sync,
+    G: Gate<Board<Copies>> + Sync,
+    R: Threads + Wait + Sync,
+>(
+    scope: &'s Scope<'s, E>,
+    rt: &'s R,
+    alloc: Global,
+    mut source: S,
+    engine: &'s Engine<L, G>,
+    connections: u32,
+) -> Result<Vec<Begun<S::Reader, S::Writer, Board<Copies>, L>>, ServeFault>
+where
+    S::Reader: 's,
+    S::Writer: 's,
+    ensures number { IfOk result (λ all. length all.items ≡ connections) }
+    ensures first { IfOk result (λ all. IfSome (S.coming source) (λ known.
+        map connection_of all.items ≡ take connections known)) }
+{
+    let mut all = Vec::new(alloc);
     'accepting: for _ in 0..connections {
-        let Ok((stream, _)) = listener.accept() else {
-            return Err(ServeFault::AcceptFailed);
-        };
-        let Ok(connection) = Connection::open(rt, engine, stream) else {
-            refused += 1;
-            continue;
-        };
-        let Ok(thread) = scope.spawn(move || connection.answer(rt, alloc, engine).is_err()) else {
-            return Err(ServeFault::SpawnFailed);
-        };
-        if threads.push(thread).is_err() {
+        let ends = source.next(alloc)?;
+        let begun = begin(scope, rt, alloc, ends, engine)?;
+        if all.push(begun).is_err() {
             return Err(ServeFault::NoMemory);
         }
     }
-    Ok(Sessions { threads, refused })
+    Ok(all)
 }
 
-impl Sessions {
-    /// Waits for the end of all sessions. How many connections were refused, or ended by a fault.
-    fn end<R: Threads>(self, rt: &R) -> u32
-        requires { length self.threads.items + self.refused < 2 ^ 32 }
-        ensures { result ≤ length self.threads.items + self.refused }
-    {
-        let Sessions { threads, refused } = self;
-        let mut faulted = refused;
-        for thread in threads {
-            if thread.join(rt) {
-                faulted += 1;
-            }
-        }
-        faulted
-    }
+/// Begins a session with a connection in a thread, if it is given a desk; else it is closed.
+fn begin<
+    's,
+    E,
+    I: Read + Send + Drop + 's,
+    O: Write + Send + Drop + 's,
+    L: Ledger + Send + Sync,
+    G: Gate<Board<Copies>> + Sync,
+    R: Threads + Wait + Sync,
+>(
+    scope: &'s Scope<'s, E>,
+    rt: &'s R,
+    alloc: Global,
+    ends: (I, O),
+    engine: &'s Engine<L, G>,
+) -> Result<Begun<I, O, Board<Copies>, L>, ServeFault>
+    ensures { IfOk result (λ begun. connection_of begun ≡ ends) }
+{
+    let connection = Snapshot::of(&ends);
+    let Ok(pass) = engine.desk(rt) else {
+        return Ok(Begun::Refused(connection));
+    };
+    let promise = SessionOf {
+        connection,
+        answered_by: PhantomData,
+    };
+    let connection = Connection { ends, pass };
+    let Ok(thread) = scope.spawn_with(promise, move || connection.answer(rt, alloc, engine)) else {
+        return Err(ServeFault::SpawnFailed);
+    };
+    Ok(Begun::Session(thread))
 }

@@ -2,60 +2,89 @@
 
 use std::alloc::Global;
 use std::io;
-use std::io::{BufRead, BufReader, ErrorKind, Write};
+use std::io::{BufRead, BufReader, Write};
 use std::net::{Net, Shutdown, SocketAddr, TcpStream};
 use std::time::Duration;
 
-/// What a client sends, and the line that it is to get back: an empty one where its connection is to be closed. What does
-/// not end in LF is the last that the client sends.
+/// Which client sends this, and the line that it is to get back: an empty one where its connection is to be closed. What
+/// does not end in LF is the last that the client sends.
 #[derive(Clone, Copy)]
-pub struct Talk {
-    pub sent: &'static str,
+pub struct Talk<'a> {
+    pub client: usize,
+    pub sent: &'a str,
     pub reply: &'static str,
 }
 
 /// The opening of a regulation with ten slots, as the first call.
 pub const OPENING: Talk = Talk {
+    client: 0,
     sent: "{\"cmd\":\"open\",\"reg\":\"R1\",\"loc\":\"LA\",\"periods\":[{\"from\":36000,\"to\":37200,\"rate\":30}]}\n",
     reply: "{\"done\":true,\"msgs\":[],\"n\":1}\n",
 };
 
 /// The filing of a flight there, as the second call.
 pub const FILING: Talk = Talk {
+    client: 1,
     sent: "{\"cmd\":\"file\",\"key\":\"A\",\"eobt\":30000,\"taxi\":600,\"via\":[{\"loc\":\"LA\",\"eto\":36010}]}\n",
     reply: "{\"flight\":{\"ctot\":30600,\"delay\":0,\"eobt\":30000,\"etot\":30600,\"exempt\":false,\"issued\":false,\"key\":\"A\",\"reg\":\"R1\"},\"msgs\":[],\"n\":2}\n",
 };
 
+/// The list of the regulation with the flight that was filed there, issued by a tick, as the fourth call.
+pub const LISTING: Talk = Talk {
+    client: 0,
+    sent: "{\"cmd\":\"list\",\"reg\":\"R1\"}\n",
+    reply: "{\"list\":{\"end\":37200,\"loc\":\"LA\",\"reg\":\"R1\",\"rows\":[{\"cto\":36010,\"eto\":36010,\"key\":\"A\",\"kind\":\"issued\",\"slot\":0}],\"slots\":10,\"start\":36000},\"msgs\":[],\"n\":4}\n",
+};
+
+/// The flight that was filed there, as the fifth call.
+pub const SHOWING: Talk = Talk {
+    client: 1,
+    sent: "{\"cmd\":\"show\",\"key\":\"A\"}\n",
+    reply: "{\"flight\":{\"ctot\":30600,\"delay\":0,\"eobt\":30000,\"etot\":30600,\"exempt\":false,\"issued\":true,\"key\":\"A\",\"reg\":\"R1\"},\"msgs\":[],\"n\":5}\n",
+};
+
 /// A line that breaks off.
 pub const HALF_A_LINE: Talk = Talk {
+    client: 0,
     sent: "{\"cmd\":\"file\",\"ke",
     reply: "{\"fault\":\"NotJson\"}\n",
 };
 
 /// Nothing, by a client who is refused.
 pub const NOTHING: Talk = Talk {
+    client: 0,
     sent: "",
     reply: "",
 };
 
-/// Connects a client for each talk; then they talk, one after the other, and stay connected. An error where one of them
-/// does not get its reply.
-pub fn talk_in_turn<R: Net<Stream = TcpStream>>(
+/// Connects so many clients.
+pub fn connect<R: Net<Stream = TcpStream>>(
     rt: &R,
     alloc: Global,
     server: SocketAddr,
-    talks: &[Talk],
+    number: usize,
 ) -> io::Result<Vec<TcpStream>> {
     let mut clients = Vec::new(alloc);
-    for _ in talks {
+    for _ in 0..number {
         clients.push(TcpStream::connect(rt, server)?)?;
     }
-    for (client, talk) in clients.iter().zip(talks) {
-        if reply_to(alloc, client, talk.sent)?.as_str() != talk.reply {
-            return Err(io::Error::from(ErrorKind::InvalidData));
-        }
-    }
     Ok(clients)
+}
+
+/// The clients talk, one after the other, and stay connected. Whether each of them gets its reply.
+pub fn talk_in_turn(alloc: Global, clients: &[TcpStream], talks: &[Talk]) -> bool {
+    talks.iter().all(|talk| gets_reply(alloc, clients, talk))
+}
+
+/// Whether a client gets its reply.
+fn gets_reply(alloc: Global, clients: &[TcpStream], talk: &Talk) -> bool {
+    let Some(client) = clients.get(talk.client) else {
+        return false;
+    };
+    match reply_to(alloc, client, talk.sent) {
+        Ok(reply) => reply.as_str() == talk.reply,
+        Err(_) => false,
+    }
 }
 
 /// Sends this, and reads the next line with its LF.

@@ -6,4 +6,6 @@
 #[cfg(test)]
 mod clients;
 #[cfg(test)]
+mod memory;
+#[cfg(test)]
 mod serving;

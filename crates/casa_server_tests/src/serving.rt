@@ -3,13 +3,16 @@
 ghost use Rattle.std.specs.Prelude.{Some};
 ghost use Rattle.casa_engine.specs.Ledgers.{IsBlankOf};
 
-use crate::clients::{FILING, HALF_A_LINE, NOTHING, OPENING, Talk, talk_in_turn};
+use crate::clients::{
+    FILING, HALF_A_LINE, LISTING, NOTHING, OPENING, SHOWING, Talk, connect, talk_in_turn,
+};
 use casa_engine::{Direct, Engine, blank};
 use casa_server::{DayClock, ServeFault, Served, TimerFault, serve, timer};
 use casa_time::Moment;
 use std::alloc::Global;
 use std::marker::Brand;
 use std::net::{Net, TcpListener, TcpStream};
+use std::process::Abort;
 use std::sync::Wait;
 use std::sync::ledger::{Blank, Ledger};
 use std::test::Fail;
@@ -32,15 +35,18 @@ impl<'a> DayClock for Told<'a> {
     }
 }
 
-/// So many desks are opened; then so many connections are served, to clients who talk, and when they have done so, and are
-/// still connected, the timer ticks to these moments. A listener that does not wait fails where no client is there.
+/// So many desks are opened; then so many connections are served, to clients who talk. When they have done so, and are
+/// still connected, the timer ticks to these moments, and then they talk again. A listener that does not wait fails where
+/// no client is there.
 #[derive(Clone, Copy)]
 struct Scene<'a> {
     desks: u32,
     waits: bool,
     connections: u32,
-    talks: &'a [Talk],
+    clients: usize,
+    talks: &'a [Talk<'a>],
     told: &'a [Moment],
+    later: &'a [Talk<'a>],
 }
 
 /// What is seen of it.
@@ -55,7 +61,7 @@ struct Seen {
 /// Plays a scene on a new engine.
 fn play<
     L: Ledger + Send + Sync,
-    R: Net<Listener = TcpListener, Stream = TcpStream> + Threads + Wait + Sync,
+    R: Net<Listener = TcpListener, Stream = TcpStream> + Threads + Wait + Abort + Sync,
 >(rt: &R, alloc: Global, blank: Blank, scene: Scene) -> Result<Seen, Fail>
     requires { IsBlankOf L.name L.parts blank.name blank.parts }
 {
@@ -66,7 +72,7 @@ fn play<
 /// Plays a scene on an engine.
 fn play_on<
     L: Ledger + Send + Sync,
-    R: Net<Listener = TcpListener, Stream = TcpStream> + Threads + Wait + Sync,
+    R: Net<Listener = TcpListener, Stream = TcpStream> + Threads + Wait + Abort + Sync,
 >(rt: &R, alloc: Global, engine: &Engine<L, Direct>, scene: Scene) -> Result<Seen, Fail> {
     for _ in 0..scene.desks {
         engine.desk(rt)?;
@@ -78,10 +84,14 @@ fn play_on<
         rt,
         || serve(rt, alloc, &listener, engine, scene.connections),
         || {
-            let clients = talk_in_turn(rt, alloc, server, scene.talks);
+            let clients = connect(rt, alloc, server, scene.clients).expect(rt, "a listener");
+            let replied = talk_in_turn(alloc, &clients, scene.talks);
             let mut clock = Told { left: scene.told };
             let ticked = timer(rt, alloc, &mut clock, engine, 9);
-            (clients.is_ok(), ticked)
+            (
+                replied && talk_in_turn(alloc, &clients, scene.later),
+                ticked,
+            )
         },
     );
     Ok(Seen {
@@ -96,20 +106,58 @@ const SERVED: Served = Served {
     faulted: 0,
 };
 
-/// A connection stays open while another one is answered, and both are answered on one engine.
+/// A connection stays open while another one is answered, and both are answered on one engine; the flight that the timer's
+/// tick issues is issued for both.
 #[test]
 fn two_connections(rt: HostRuntime) -> Result<(), Fail> {
     let scene = Scene {
         desks: 0,
         waits: true,
         connections: 2,
+        clients: 2,
         talks: &[OPENING, FILING],
         told: &[Moment::new(22_800)?],
+        later: &[LISTING, SHOWING],
     };
     let seen = Seen {
         served: Ok(SERVED),
         replied: true,
         ticked: Ok(1),
+    };
+    assert_eq!(&rt; play::<Brand, _>(&rt, rt.alloc(), blank(), scene)?, seen);
+    Ok(())
+}
+
+/// A line that is too long ends its connection, with its text, and is counted; the other connection goes on.
+#[test]
+fn a_line_that_is_too_long(rt: HostRuntime) -> Result<(), Fail> {
+    let line = "x".repeat(rt.alloc(), 65_537)?;
+    let too_long = Talk {
+        client: 0,
+        sent: line.as_str(),
+        reply: "{\"fault\":\"LineTooLong\"}\n",
+    };
+    let opening = Talk {
+        client: 1,
+        ..OPENING
+    };
+    let scene = Scene {
+        desks: 0,
+        waits: true,
+        connections: 2,
+        clients: 2,
+        talks: &[too_long, opening],
+        told: &[],
+        later: &[FILING],
+    };
+    let served = Served {
+        sessions: 2,
+        faulted: 1,
+    };
+    let seen = Seen {
+        served: Ok(served),
+        replied: true,
+        ticked: Ok(0),
     };
     assert_eq!(&rt; play::<Brand, _>(&rt, rt.alloc(), blank(), scene)?, seen);
     Ok(())
@@ -123,8 +171,10 @@ fn a_clock_that_goes_back(rt: HostRuntime) -> Result<(), Fail> {
         desks: 0,
         waits: true,
         connections: 2,
+        clients: 2,
         talks: &[OPENING, FILING],
         told: &[later, earlier, later],
+        later: &[],
     };
     let seen = Seen {
         served: Ok(SERVED),
@@ -142,8 +192,10 @@ fn a_connection_that_is_refused(rt: HostRuntime) -> Result<(), Fail> {
         desks: 1_024,
         waits: true,
         connections: 1,
+        clients: 1,
         talks: &[NOTHING],
         told: &[],
+        later: &[],
     };
     let served = Served {
         sessions: 1,
@@ -165,8 +217,10 @@ fn a_line_that_breaks_off(rt: HostRuntime) -> Result<(), Fail> {
         desks: 0,
         waits: true,
         connections: 1,
+        clients: 1,
         talks: &[HALF_A_LINE],
         told: &[],
+        later: &[],
     };
     let served = Served {
         sessions: 1,
@@ -188,8 +242,10 @@ fn a_listener_that_fails(rt: HostRuntime) -> Result<(), Fail> {
         desks: 0,
         waits: false,
         connections: 1,
+        clients: 0,
         talks: &[],
         told: &[],
+        later: &[],
     };
     let seen = Seen {
         served: Err(ServeFault::AcceptFailed),

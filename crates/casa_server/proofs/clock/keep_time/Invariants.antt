@@ -1,7 +1,7 @@
 use Rattle.std.proofs.Common.{◌≡◌, ◌≤◌, List, ℕ, length}
 use Rattle.std.specs.Io.KnownBytes.{Consumes}
 use Rattle.casa_server.specs.Ticks.{Ticks}
-use Rattle.casa_server.proofs.clock.tick_in_turns.Given as goal
+use Rattle.casa_server.proofs.clock.keep_time.Given as goal
 
 abbrev pub invariant-turns : goal.invariant-turns
 invariant-turns g l =

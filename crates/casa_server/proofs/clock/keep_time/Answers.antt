@@ -1,7 +1,7 @@
-use Rattle.std.proofs.Common.{◌+◌, ◌∷◌, [], ◌++◌, length-append, arith}
+use Rattle.std.proofs.Common.{◌∷◌, [], ◌++◌, length-append, arith}
 use Rattle.std.proofs.KnownBytes.{Consumes-trans}
 use Rattle.casa_server.proofs.Ticking.{at_most_one, one_more}
-use Rattle.casa_server.proofs.clock.tick_in_turns.Goals as goal
+use Rattle.casa_server.proofs.clock.keep_time.Goals as goal
 
 pub turns-preserved : goal.turns-preserved
 turns-preserved g c =

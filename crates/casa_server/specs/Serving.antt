@@ -1,0 +1,54 @@
+-- what becomes of the connections that a server accepts
+use Rattle.std.specs.Prelude.{◌≡◌, ℕ, List, [], length, map, take, Bool, true, Option, Result, is_err, IfSome, All, ⊤}
+use Rattle.std.specs.List.{count_by}
+use Rattle.casa_flight.specs.declared.call.Call.{Call}
+use Rattle.casa_flight.specs.declared.reply.Reply.{Reply}
+use Rattle.casa_history.specs.Entries.{receipts, desk_of}
+use Rattle.casa_commit.specs.declared.world.World.{Ghosts as WorldOf}
+use Rattle.casa_engine.specs.declared.pass.CountedPass.{CountedPass}
+use Rattle.casa_engine.specs.Passes.{pass_of}
+use Rattle.casa_engine.specs.Receipts.{AllStand}
+use Rattle.casa_session.specs.declared.fault.SessionFault.{SessionFault}
+use Rattle.casa_session.specs.Transcript.{Ends}
+use Rattle.casa_server.specs.declared.server.Served.{Served}
+
+-- how a connection ended: it was refused a desk, or its session ended with this result
+pub data Ending : Type 0 where
+  refused : Ending
+  ended : Result ℕ SessionFault → Ending
+
+-- the connection was refused, or its session ended by a fault
+abbrev pub is_faulted : Ending → Bool
+is_faulted refused = true
+is_faulted (ended result) = is_err result
+
+-- a connection is what is read and what is written; how much is left to read and what has been written is known, or not
+module _ {I O W V D : Type 0} (L : Type 0) (world : WorldOf W Call V D Reply)
+    (remaining : I → Option (List ℕ)) (contents : O → Option (List ℕ)) where
+  -- a connection's session ended with this result: its lines were answered by a pass of the engine with this ledger, which
+  -- had no receipt before and has now those of the lines' calls, each next after those before it in a legal history
+  pub record IsSession (before : I × O) (result : Result ℕ SessionFault) : Type 0 where
+    pub after : I × O
+    pub pass : CountedPass W L Call V D Reply world
+    pub stand : ∥ AllStand world (desk_of (pass_of pass)) (receipts (pass_of pass)) ∥₁
+    pub ends : Ends ⊤ result (remaining before.0) (remaining after.0) [] (receipts (pass_of pass))
+        (contents before.1) (contents after.1)
+
+  abbrev pub HasEnded : I × O → Ending → Type 0
+  HasEnded connection refused = ⊤
+  HasEnded connection (ended result) = IsSession connection result
+
+  -- these connections have ended, n of them faulted
+  pub record HaveEnded (connections : List (I × O)) (n : ℕ) : Type 0 where
+    -- each with how it ended
+    pub endings : List ((I × O) × Ending)
+    pub all : map (λ (e : (I × O) × Ending). e.0) endings ≡ connections
+    pub each : All (λ (e : (I × O) × Ending). HasEnded e.0 e.1) endings
+    pub faulted : n ≡ count_by (λ (e : (I × O) × Ending). is_faulted e.1) endings
+
+  -- the connections that were accepted are the first of those that are known to come, and all have ended
+  pub record Serves (coming : Option (List (I × O))) (served : Served) : Type 0 where
+    pub connections : List (I × O)
+    pub sessions : served.sessions ≡ length connections
+    pub first : IfSome coming (λ all. connections ≡ take served.sessions all)
+    pub ended : HaveEnded connections served.faulted
