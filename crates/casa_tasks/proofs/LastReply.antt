@@ -1,7 +1,9 @@
 -- the reply of the last receipt is that of its call after the calls before it
-use Rattle.std.proofs.Common.{◌≡◌, ℕ, ◌+◌, List, [], ◌∷◌, ◌++◌, refl, sym, ap, subst, ◌∙◌}
+use Rattle.std.proofs.Common.{◌≡◌, ℕ, ◌+◌, List, [], ◌∷◌, ◌++◌, refl, ap, subst, ◌∙◌}
 use Rattle.std.specs.Prelude.{fold}
+use Rattle.casa_flight.specs.Text.{Text}
 use Rattle.casa_flight.specs.declared.call.Call.{Call}
+use Rattle.casa_flight.specs.declared.call.Call.TheVariants.{List as ListOf}
 use Rattle.casa_flight.specs.declared.reply.Reply.{Reply}
 use Rattle.casa_flight.specs.declared.state.State.{State}
 use Rattle.casa_flight.specs.State.{empty}
@@ -14,6 +16,8 @@ use Rattle.casa_history.specs.declared.entry.Receipt.{Receipt}
 use Rattle.casa_history.specs.Entries.{receipt, receipts_from}
 use Rattle.casa_commit.specs.Legal.{entry}
 use Rattle.casa_session.specs.Played.{only_desk, played, receipts_played, state_after}
+use Rattle.casa_tasks.specs.Listed.{list_in}
+use Rattle.casa_tasks.specs.Reports.{list_after}
 
 reply_from : (m : State) (n : ℕ) (before now : List Call) (r : Receipt Call Reply) → receipts_from n (played m now) ≡ receipts_from n (played m before) ++ r ∷ []
     → r.entry.reply ≡ reply (fold next m before) r.entry.call
@@ -28,8 +32,13 @@ reply_from m n (b ∷ before) (c ∷ now) r h =
     let tail : receipts_from (n + 1) (played (next m c) now) ≡ receipts_from (n + 1) (played (next m b) before) ++ r ∷ [] = cc in
     reply_from (next m b) (n + 1) before now r (subst (λ d. receipts_from (n + 1) (played (next m d) now) ≡ receipts_from (n + 1) (played (next m b) before) ++ r ∷ []) call_is tail)
 
-pub last_reply : (before now : List Call) (r : Receipt Call Reply) → receipts_played now ≡ receipts_played before ++ r ∷ [] → r.entry.reply ≡ reply (state_after before) r.entry.call
+last_reply : (before now : List Call) (r : Receipt Call Reply) → receipts_played now ≡ receipts_played before ++ r ∷ [] → r.entry.reply ≡ reply (state_after before) r.entry.call
 last_reply before now r h = reply_from empty 1 before now r h
+
+-- so where a list was asked for, it is the one after the calls before
+pub last_list : (before now : List Call) (reg : Text) (r : Receipt Call Reply) → receipts_played now ≡ receipts_played before ++ r ∷ [] → r.entry.call ≡ ListOf reg
+    → list_in r.entry.reply ≡ list_after before reg
+last_list before now reg r h asked = ap list_in (last_reply before now r h ∙ ap (λ (call : Call). reply (state_after before) call) asked)
 
 good_from : (m : State) (calls : List Call) → IsGood m → IsGood (fold next m calls)
 good_from m [] good = good

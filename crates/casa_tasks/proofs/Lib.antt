@@ -1,2 +1,3 @@
 pub mod ListTimes
 pub mod LastReply
+pub mod Reported

@@ -1,7 +1,8 @@
-ghost use Rattle.std.specs.Prelude.{◌≡◌, ◌≤◌, All, IfErr, IfOk};
+ghost use Rattle.std.specs.Prelude.{◌≡◌, ◌≤◌, ◌⊎◌, All, IfErr, IfOk, None, Some};
 ghost use Rattle.std.specs.Option.{option_copied};
 ghost use Rattle.casa_session.specs.Played.{receipts_played};
 ghost use Rattle.casa_tasks.specs.Listed.{list_in};
+ghost use Rattle.casa_tasks.specs.Reports.{IsWhole, ReportEnds, SessionEnds, list_after};
 
 use crate::fault::ProgramFault;
 use casa_commit::CallFault;
@@ -16,8 +17,9 @@ use std::io::{Read, Write};
 /// Answers the command lines of the reader as a session does, without its replies, and then writes the regulation's
 /// list as a table under a heading with the day.
 ///
-/// The session's fault comes first, then `NoRegulation` where the regulation is not open after the lines, and nothing
-/// is written at either; then a fault of the report.
+/// The session's fault comes first, then `NoRegulation` where the regulation is not open after all lines, and nothing
+/// is written at either; then a fault of the report, with the beginning of it written at `WriteFailed` and nothing at
+/// its `NoMemory`. `NoMemory` where there is none for the desk or for the list, and then nothing is written.
 pub fn report<R: Read, W: Write>(
     alloc: Global,
     reg: &RegId,
@@ -25,22 +27,38 @@ pub fn report<R: Read, W: Write>(
     reader: &mut R,
     writer: &mut W,
 ) -> Result<(), ProgramFault>
+    ensures ends { ReportEnds reg.now day result (R.remaining reader.old) (R.remaining reader.new)
+        (W.contents writer.old) (W.contents writer.new) }
     ensures session { IfErr result (λ fault. (cause : SessionFault) → fault ≡ ProgramFault.Session cause →
         W.contents writer.new ≡ W.contents writer.old) }
     ensures no_regulation { IfErr result (λ fault. fault ≡ ProgramFault.NoRegulation →
         W.contents writer.new ≡ W.contents writer.old) }
 {
-    let mut lone = Lone::new(alloc)?;
-    lone.run(alloc, reader, &mut io::sink())?;
+    let mut lone = answer_lines(alloc, reader)?;
     let list = listed(alloc, &mut lone, *reg)?;
     heading(alloc, day, reg, writer)?;
     list_table(&list, writer)?;
     Ok(())
 }
 
-/// The list of a regulation as the desk shows it.
+/// A new desk that has answered all lines of the reader.
+fn answer_lines<R: Read>(alloc: Global, reader: &mut R) -> Result<Lone, ProgramFault>
+    ensures whole { IfOk result (λ lone. IsWhole (R.remaining reader.old) lone) }
+    ensures err { IfErr result (λ fault. (fault ≡ ProgramFault.NoMemory)
+        ⊎ ((cause : SessionFault) × (fault ≡ ProgramFault.Session cause)
+        × SessionEnds cause (R.remaining reader.old) (R.remaining reader.new))) }
+{
+    let mut lone = Lone::new(alloc)?;
+    lone.run(alloc, reader, &mut io::sink())?;
+    Ok(lone)
+}
+
+/// The list of a regulation as the desk shows it; `NoRegulation` where it shows none.
 fn listed(alloc: Global, lone: &mut Lone, reg: RegId) -> Result<ListReply, ProgramFault>
-    ensures { IfOk result (λ list. All (λ row. row.eto ≤ row.cto) list.rows) }
+    ensures told { IfOk result (λ list. list_after lone.old reg ≡ Some list) }
+    ensures in_time { IfOk result (λ list. All (λ row. row.eto ≤ row.cto) list.rows) }
+    ensures untold { IfErr result (λ fault. (fault ≡ ProgramFault.NoMemory)
+        ⊎ ((fault ≡ ProgramFault.NoRegulation) × (list_after lone.old reg ≡ None))) }
 {
     let receipt = match lone.answer(alloc, &Call::List(reg)) {
         Ok(receipt) => receipt,

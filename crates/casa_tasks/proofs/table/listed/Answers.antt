@@ -1,19 +1,28 @@
-use Rattle.std.proofs.Common.{◌≡◌, ◌∙◌, sym, ap, Some, rules}
-use Rattle.casa_flight.specs.declared.call.Call.{Call}
-use Rattle.casa_flight.specs.declared.call.Call.TheVariants.{List as ListOf}
-use Rattle.casa_flight.specs.Replies.{reply}
+use Rattle.std.proofs.Common.{◌≡◌, ◌∙◌, refl, sym, None, Some, inr, rules}
 use Rattle.casa_session.specs.Played.{state_after}
 use Rattle.casa_tasks.specs.Listed.{list_in}
-use Rattle.casa_tasks.proofs.LastReply.{last_reply, good_after}
+use Rattle.casa_tasks.specs.Reports.{list_after}
+use Rattle.casa_tasks.proofs.LastReply.{good_after, last_list}
 use Rattle.casa_tasks.proofs.ListTimes.{told_in_time}
 use Rattle.casa_tasks.proofs.table.listed.Goals as goal
 
-pub returns-in-Some : goal.returns-in-Some
-returns-in-Some c =
+pub returns-in-Some-clause-told : goal.returns-in-Some-clause-told
+returns-in-Some-clause-told c =
     let receipt = c.in-Ok.receipt in
-    let m = state_after c.args.lone.now in
-    let answered = last_reply c.args.lone.now c.answer.new.self receipt c.in-Ok.ensures.ok in
-    let asked : receipt.entry.call ≡ ListOf c.args.reg = c.in-Ok.ensures.called in
-    let reply_is : receipt.entry.reply ≡ reply m (ListOf c.args.reg) = answered ∙ ap (λ (call : Call). reply m call) asked in
-    let told : list_in (reply m (ListOf c.args.reg)) ≡ Some c.in-Some.list.now = ap list_in (sym reply_is) ∙ search (rules) in
-    rw c.in_ok-try_clone-in-Some.ensures (told_in_time m c.args.reg c.in-Some.list.now (good_after c.args.lone.now) told)
+    let asked = last_list c.args.lone.now c.answer.new.self c.args.reg receipt c.in-Ok.ensures.ok c.in-Ok.ensures.called in
+    let told : list_after c.args.lone.now c.args.reg ≡ Some c.in-Some.list.now = sym asked ∙ search (rules) in
+    rw c.in_ok-try_clone-in-Some.ensures told
+
+pub returns-in-Some-clause-in_time : goal.returns-in-Some-clause-in_time
+returns-in-Some-clause-in_time c =
+    let receipt = c.in-Ok.receipt in
+    let asked = last_list c.args.lone.now c.answer.new.self c.args.reg receipt c.in-Ok.ensures.ok c.in-Ok.ensures.called in
+    let told : list_after c.args.lone.now c.args.reg ≡ Some c.in-Some.list.now = sym asked ∙ search (rules) in
+    rw c.in_ok-try_clone-in-Some.ensures (told_in_time (state_after c.args.lone.now) c.args.reg c.in-Some.list.now (good_after c.args.lone.now) told)
+
+pub returns-clause-untold : goal.returns-clause-untold
+returns-clause-untold c =
+    let receipt = c.in-Ok.receipt in
+    let asked = last_list c.args.lone.now c.answer.new.self c.args.reg receipt c.in-Ok.ensures.ok c.in-Ok.ensures.called in
+    let untold : list_in receipt.entry.reply ≡ None = search (rules) in
+    inr (refl, sym asked ∙ untold)
