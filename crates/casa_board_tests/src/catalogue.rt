@@ -35,7 +35,7 @@ fn shown(alloc: Global, all: &Catalogue, plan: &Plan) -> Result<String, AllocErr
     Ok(text)
 }
 
-/// The regulations R3 at LA until 36600 and R2 at LB.
+/// The regulations of LA until 36600, with the last identifier, and of LB.
 fn two(rt: &impl Abort, alloc: Global) -> Catalogue {
     let early = regulation(b"R3", b"LA", 36_600).expect(rt, "R3");
     let second = regulation(b"R2", b"LB", 37_200).expect(rt, "R2");
