@@ -40,6 +40,7 @@ fn receipts_are_accounted_for(rt: HostRuntime) {
     }
 }
 
+/// Nothing is regulated there, so that nobody has a delay.
 #[test]
 fn a_pass_has_the_number_of_its_engine(rt: HostRuntime) {
     let script = Script {
@@ -48,7 +49,9 @@ fn a_pass_has_the_number_of_its_engine(rt: HostRuntime) {
         texts: &[],
         passes: 1,
     };
-    assert_eq!(&rt; played(&rt, rt.alloc(), &script).number, Some(ENGINE));
+    let told = played(&rt, rt.alloc(), &script);
+    let audit = Audit { lists: 0, delay: 0 };
+    assert_eq!(&rt; (told.number, told.audit), (Some(ENGINE), audit));
 }
 
 #[test]

@@ -7,6 +7,7 @@ use casa_list::SlotList;
 use casa_time::Moment;
 use std::alloc::Global;
 use std::process::Abort;
+use std::thread::Threads;
 
 /// The moment this many seconds after midnight UTC.
 fn moment(rt: &impl Abort, secs: u32) -> Moment {
@@ -31,14 +32,45 @@ fn enter(rt: &impl Abort, list: &mut SlotList, text: &[u8], secs: u32) {
     list.enter(Comp { eto, key }).expect(rt, "memory");
 }
 
-/// The third flight is over.
+/// Two slots with three flights, of which the third is over.
+fn three_flights(rt: &impl Abort, alloc: Global) -> SlotList {
+    let mut list = two_slots(rt, alloc);
+    enter(rt, &mut list, b"A", 36_010);
+    enter(rt, &mut list, b"B", 36_020);
+    enter(rt, &mut list, b"C", 36_030);
+    list
+}
+
+/// The same with six flights more behind them, which are over too.
+fn nine_flights(rt: &impl Abort, alloc: Global) -> SlotList {
+    let mut list = three_flights(rt, alloc);
+    for text in [b"D", b"E", b"F", b"G", b"H", b"I"] {
+        enter(rt, &mut list, text, 36_030);
+    }
+    list
+}
+
+/// How many lists these are, and the sum of their delays.
+fn audited<R: Threads + Sync + Abort>(rt: &R, alloc: Global, lists: &[SlotList]) -> (usize, u128) {
+    let audit = audit_lists(rt, alloc, lists).expect(rt, "memory");
+    (audit.lists, audit.delay)
+}
+
 #[test]
 fn delays_of_a_list_are_added(rt: HostRuntime) {
-    let mut list = two_slots(&rt, rt.alloc());
-    enter(&rt, &mut list, b"A", 36_010);
-    enter(&rt, &mut list, b"B", 36_020);
-    enter(&rt, &mut list, b"C", 36_030);
+    let list = three_flights(&rt, rt.alloc());
     let lists = vec![in rt.alloc(); list].expect(&rt, "memory");
-    let audit = audit_lists(&rt, rt.alloc(), lists.as_slice()).expect(&rt, "memory");
-    assert_eq!(&rt; (audit.lists, audit.delay), (1, 310));
+    assert_eq!(&rt; audited(&rt, rt.alloc(), lists.as_slice()), (1, 310));
+}
+
+/// Of each list 310 seconds and six times 210.
+#[test]
+fn delays_of_256_lists_are_added(rt: HostRuntime) {
+    let mut lists = Vec::new(rt.alloc());
+    for _ in 0..256 {
+        lists
+            .push(nine_flights(&rt, rt.alloc()))
+            .expect(&rt, "memory");
+    }
+    assert_eq!(&rt; audited(&rt, rt.alloc(), lists.as_slice()), (256, 401_920));
 }

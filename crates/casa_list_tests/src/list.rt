@@ -106,6 +106,27 @@ const OVER: &[Step] = &[
     (Read, "C", 36_030, Some(Slot(1)), Some(36_120)),
 ];
 
+/// B leaves the slot in which it was issued to A, and is then nobody here.
+const ISSUED_FLIGHT_LEAVES: &[Step] = &[
+    (Enter, "A", 36_010, Some(Slot(0)), Some(36_010)),
+    (Enter, "B", 36_005, Some(Slot(0)), Some(36_005)),
+    (Issue, "B", 36_005, Some(Slot(0)), Some(36_005)),
+    (Leave, "B", 36_005, Some(Slot(0)), None),
+    (Read, "A", 36_010, Some(Slot(0)), Some(36_010)),
+    (Leave, "B", 36_005, None, None),
+    (Issue, "B", 36_005, None, None),
+];
+
+/// Three flights ask for the last slot of a day, which goes on to the next when the first leaves.
+const LAST_SLOT_OF_A_DAY: &[Step] = &[
+    (Enter, "A", 86_394, Some(Slot(14_399)), Some(86_394)),
+    (Enter, "B", 86_394, Some(Over), Some(86_400)),
+    (Enter, "C", 86_394, Some(Over), Some(86_400)),
+    (Leave, "A", 86_394, Some(Slot(14_399)), None),
+    (Read, "B", 86_394, Some(Slot(14_399)), Some(86_394)),
+    (Read, "C", 86_394, Some(Over), Some(86_400)),
+];
+
 /// The first ten minutes have no slot.
 const CLOSED_AT_FIRST: &[Step] = &[(Enter, "A", 36_100, Some(Slot(0)), Some(36_600))];
 
@@ -223,6 +244,25 @@ fn ten_slots_are_taken(rt: HostRuntime) {
 fn a_flight_without_a_slot_is_over(rt: HostRuntime) {
     let mut list = list(&rt, rt.alloc(), &[period(&rt, 36_000, 36_240, 30)]);
     follow(&rt, &mut list, OVER);
+}
+
+#[test]
+fn an_issued_flight_leaves_its_slot(rt: HostRuntime) {
+    let mut list = ten_slots(&rt, rt.alloc(), ISSUED_FLIGHT_LEAVES);
+    assert!(&rt; !list.unforce(&key(&rt, b"B")));
+}
+
+/// A day at the highest rate: 14,400 slots, six seconds apart.
+#[test]
+fn a_day_has_14400_slots(rt: HostRuntime) {
+    let mut list = list(&rt, rt.alloc(), &[period(&rt, 0, 86_400, 600)]);
+    let grid = list.grid();
+    assert_eq!(&rt; grid.len(), 14_400);
+    assert_eq!(&rt; grid.begin(14_399).secs(), 86_394);
+    for (at, slot) in [(86_399, 14_399), (5, 0), (6, 1)] {
+        assert_eq!(&rt; grid.wanted(moment(&rt, at)), Some(slot), "at {at}");
+    }
+    follow(&rt, &mut list, LAST_SLOT_OF_A_DAY);
 }
 
 #[test]
