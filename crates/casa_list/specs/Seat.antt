@@ -14,12 +14,12 @@ abbrev pub number_of_place : Place → ℕ
 number_of_place (Slot k) = k
 number_of_place Over = MAX
 
-same_number : (n : ℕ) → number_of_place (place_of_number n) ≡ n
+pub same_number : (n : ℕ) → number_of_place (place_of_number n) ≡ n
 same_number n =
     elim (n == MAX) as (λ b. (n == MAX) ≡ b → number_of_place (if b then Over else Slot n) ≡ n) [
       | true ↦ λ is. sym (eqb-true n MAX is)
       | false ↦ λ is. refl
     ] refl
 
-pub same_seat : (s : Inside) → Unit {0} → record { comp = s.comp; slot = number_of_place (place_of_number s.slot) } ≡ s
-same_seat s h = λ i. record { comp = s.comp; slot = same_number s.slot i }
+pub same_seat : (s : Inside) → Unit {0} → record { comp = s.comp; number = number_of_place (place_of_number s.number) } ≡ s
+same_seat s h = λ i. record { comp = s.comp; number = same_number s.number i }

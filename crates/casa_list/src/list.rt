@@ -15,15 +15,13 @@ ghost use Rattle.casa_list.specs.Standings.{standings, count_governed, governed_
 
 use crate::blocked::{Blocked, block, counted, slot_of, unblock};
 use crate::copies::copied;
-use crate::fresh::{competitors_of, forced_of, issued_of};
+use crate::fresh::forced_of;
+use crate::governed::Governed;
 use crate::grid::SharedGrid;
-use crate::order::{entry_at, free_flight, index_of, put_flight, take_flight};
-use crate::seat::Seat;
+use crate::order::{forced_entry, free_flight, index_of, put_forced, take_forced};
 use crate::stances::Stances;
-use crate::standing::{Entry, Standing};
-use crate::walk::{
-    cto_at, place_behind, place_from, put_competitor, take_competitor, walk_all, walk_from_slot,
-};
+use crate::standing::Standing;
+use crate::walk::{cto_at, place_behind, place_from};
 use casa_flight::{Comp, Key, Stance};
 use casa_grid::{Grid, Place};
 use casa_time::Moment;
@@ -36,21 +34,21 @@ use std::marker::Model;
 /// stands there.
 ///
 /// Contracts see it as a regulation's profile and the stance of each flight, by keys; places follow from that.
-/// It keeps the competitors in their order with their places, the issued and the forced flights in theirs, and
-/// which slots issued flights block. Its flights are in the order of their keys: `grid`, `stance_of`,
+/// It keeps the competitors in their order with their places and the issued flights in theirs, in one row, the forced
+/// flights in theirs, and which slots issued flights block. Its flights are in the order of their keys: `grid`, `stance_of`,
 /// `governed` and `nth` say so, since the law `standings_name_each_flight_once` asks for it.
 #[derive(Drop)]
 pub struct SlotList {
     grid: SharedGrid,
     flights: Stances,
-    competitors: Vec<Seat>,
-    issued: Vec<Entry>,
-    forced: Vec<Entry>,
+    governed: Governed,
+    forced: Vec<Comp>,
     blocked: Blocked,
 }
 
 impl Model for SlotList {
-    ghost use Rattle.std.specs.Prelude.{min, vec_capacity};
+    ghost use Rattle.std.specs.Prelude.{map};
+    ghost use Rattle.casa_list.specs.Governing.{forced_in};
     ghost use Rattle.casa_flight.specs.Listing.{Listing};
 
     ghost Value = { Listing };
@@ -61,11 +59,11 @@ impl Model for SlotList {
 
     ghost invariant = { λ l. IsKept (record { profile = l.grid; flights = l.flights })
         (record {
-          competitors = l.competitors.items;
-          issued = l.issued.items;
-          forced = l.forced.items;
+          competitors = l.governed.competitors;
+          issued = l.governed.issued;
+          forced = map forced_in l.forced.items;
           blocked = l.blocked.counts;
-          room = min (vec_capacity l.issued) l.blocked.room;
+          room = l.blocked.room;
         }) };
 }
 
@@ -109,8 +107,7 @@ impl SlotList {
         Ok(SlotList {
             grid,
             flights: Stances::new(alloc),
-            competitors: Vec::new(alloc),
-            issued: Vec::new(alloc),
+            governed: Governed::new(alloc),
             forced: Vec::new(alloc),
             blocked,
         })
@@ -128,18 +125,14 @@ impl SlotList {
     {
         let grid = SharedGrid::new(alloc, grid)?;
         let flights = Stances::of(alloc, &flights)?;
-        let mut competitors = competitors_of(alloc, &flights)?;
-        let mut issued = issued_of(alloc, &flights)?;
+        let mut governed = Governed::of(alloc, &flights)?;
         let forced = forced_of(alloc, &flights)?;
-        issued.reserve(competitors.len())?;
-        let room = competitors.len() + issued.len();
-        let blocked = counted(alloc, &grid, issued.as_slice(), room)?;
-        walk_all(&grid, &blocked, &mut competitors);
+        let blocked = counted(alloc, &grid, governed.issued(), governed.len())?;
+        governed.walk_all(&grid, &blocked);
         Ok(SlotList {
             grid,
             flights,
-            competitors,
-            issued,
+            governed,
             forced,
             blocked,
         })
@@ -196,16 +189,13 @@ impl SlotList {
         ensures unchanged { OnErr result (self.new ≡ self.old) }
     {
         let was = self.forced_at(&comp.key);
-        self.competitors.reserve(1)?;
-        self.issued.reserve(self.competitors.len() + 1)?;
-        self.blocked
-            .reserve(self.competitors.len() + self.issued.len() + 1)?;
+        self.governed.reserve()?;
+        self.blocked.reserve(self.governed.len() + 1)?;
         self.flights
             .put(comp.key, Stance::Competing { eto: comp.eto })?;
         free_flight(&mut self.forced, comp.key, was);
-        let at = index_of(self.competitors.as_slice(), &comp);
-        let competitors = &mut self.competitors;
-        Ok(put_competitor(&self.grid, &self.blocked, competitors, at, comp))
+        let at = index_of(self.governed.competitors(), &comp);
+        Ok(self.governed.put(&self.grid, &self.blocked, at, comp))
     }
 
     /// The place that `enter` would give. The regulation must not govern the flight, which may be forced.
@@ -214,7 +204,7 @@ impl SlotList {
         ensures place { result ≡ place_of (with_competitor self.now comp.now.key comp.now.eto) comp.now.key }
         ensures within { IsWithin (length (slots self.now.profile)) result }
     {
-        let competitors = self.competitors.as_slice();
+        let competitors = self.governed.competitors();
         let at = index_of(competitors, comp);
         place_behind(&self.grid, &self.blocked, &competitors[..at], comp.eto)
     }
@@ -261,15 +251,15 @@ impl SlotList {
         ensures unchanged { OnErr result (self.new ≡ self.old) }
     {
         let was = self.forced_at(&comp.key);
-        self.issued.reserve(self.competitors.len() + 1)?;
-        self.blocked
-            .reserve(self.competitors.len() + self.issued.len() + 1)?;
+        self.governed.reserve()?;
+        self.blocked.reserve(self.governed.len() + 1)?;
         let stance = Stance::Issued { eto: comp.eto, cto };
         self.flights.put(comp.key, stance)?;
         free_flight(&mut self.forced, comp.key, was);
-        put_flight(&mut self.issued, comp, Standing::Issued(cto));
+        self.governed.put_issued(comp, cto);
         let slot = block(&self.grid, &mut self.blocked, cto);
-        walk_from_slot(&self.grid, &self.blocked, &mut self.competitors, slot);
+        self.governed
+            .walk_from_slot(&self.grid, &self.blocked, slot);
         Ok(())
     }
 
@@ -286,7 +276,7 @@ impl SlotList {
         self.forced.reserve(1)?;
         self.flights
             .put(comp.key, Stance::Forced { eto: comp.eto })?;
-        put_flight(&mut self.forced, comp, Standing::Forced);
+        put_forced(&mut self.forced, comp);
         Ok(())
     }
 
@@ -299,7 +289,7 @@ impl SlotList {
             return false;
         };
         self.flights.remove(key);
-        take_flight(&mut self.forced, &Comp { eto, key: *key });
+        take_forced(&mut self.forced, &Comp { eto, key: *key });
         true
     }
 
@@ -327,8 +317,8 @@ impl SlotList {
         ensures left { self.new ≡ record self.old { flights = without self.old.flights comp.key } }
     {
         self.flights.remove(&comp.key);
-        let at = index_of(self.competitors.as_slice(), &comp);
-        take_competitor(&self.grid, &self.blocked, &mut self.competitors, at)
+        let at = index_of(self.governed.competitors(), &comp);
+        self.governed.take(&self.grid, &self.blocked, at)
     }
 
     /// Takes an issued flight out and gives the place of its calculated time over.
@@ -338,9 +328,10 @@ impl SlotList {
         ensures left { self.new ≡ record self.old { flights = without self.old.flights comp.key } }
     {
         self.flights.remove(&comp.key);
-        take_flight(&mut self.issued, &comp);
+        self.governed.take_issued(&comp);
         let slot = unblock(&self.grid, &mut self.blocked, cto);
-        walk_from_slot(&self.grid, &self.blocked, &mut self.competitors, slot);
+        self.governed
+            .walk_from_slot(&self.grid, &self.blocked, slot);
         place_from(slot)
     }
 
@@ -355,10 +346,10 @@ impl SlotList {
         let eto = self.competing_at(key)?;
         let comp = Comp { eto, key: *key };
         let cto = self.competitor_cto(&comp);
-        let at = index_of(self.competitors.as_slice(), &comp);
-        self.competitors.remove(at);
+        let at = index_of(self.governed.competitors(), &comp);
+        let _many = self.governed.len();
         write_issued(&mut self.flights, &comp, cto);
-        put_flight(&mut self.issued, comp, Standing::Issued(cto));
+        self.governed.issue(at, comp, cto);
         block(&self.grid, &mut self.blocked, cto);
         Some(cto)
     }
@@ -380,8 +371,9 @@ impl SlotList {
         ensures place { result ≡ place_of self.now comp.now.key }
         ensures within { IsWithin (length (slots self.now.profile)) result }
     {
-        let at = index_of(self.competitors.as_slice(), comp);
-        self.competitors[at].place()
+        let competitors = self.governed.competitors();
+        let at = index_of(competitors, comp);
+        competitors[at].place()
     }
 
     /// The calculated time over of a governed flight; `None` where the regulation governs none with this key.
@@ -416,7 +408,7 @@ impl SlotList {
         ensures number { result ≡ count_governed self.now }
         ensures keys { AreInOrder self.now.flights }
     {
-        self.competitors.len() + self.issued.len()
+        self.governed.len()
     }
 
     /// Flight number `n` as it stands; `None` from the number of flights on.
@@ -427,15 +419,11 @@ impl SlotList {
         ensures flight { result ≡ slice_get (standings self.now) n }
         ensures keys { AreInOrder self.now.flights }
     {
-        if n < self.competitors.len() {
-            let seat = self.competitors[n];
-            return Some((*seat.comp(), Standing::Pre(seat.place())));
+        let governed = self.governed.len();
+        if n < governed {
+            return self.governed.nth(n);
         }
-        let n = n - self.competitors.len();
-        if n < self.issued.len() {
-            return Some(self.issued[n]);
-        }
-        entry_at(self.forced.as_slice(), n - self.issued.len())
+        forced_entry(self.forced.as_slice(), n - governed)
     }
 
     /// Gives the list the slots of this grid. Competitors are placed anew; issued flights keep their times.
@@ -445,13 +433,13 @@ impl SlotList {
         ensures regridded { OnOk result (self.new ≡ record self.old { profile = grid }) }
         ensures unchanged { OnErr result (self.new ≡ self.old) }
     {
-        let alloc = *self.issued.allocator();
+        let alloc = *self.forced.allocator();
         let grid = SharedGrid::new(alloc, grid)?;
-        let room = self.competitors.len() + self.issued.len();
-        let blocked = counted(alloc, &grid, self.issued.as_slice(), room)?;
+        let room = self.governed.len();
+        let blocked = counted(alloc, &grid, self.governed.issued(), room)?;
         self.grid = grid;
         self.blocked = blocked;
-        walk_all(&self.grid, &self.blocked, &mut self.competitors);
+        self.governed.walk_all(&self.grid, &self.blocked);
         Ok(())
     }
 
@@ -461,17 +449,14 @@ impl SlotList {
     pub fn try_clone(&self) -> Result<SlotList, AllocError>
         ensures { IfOk result (λ list. list ≡ self.now) }
     {
-        let alloc = *self.issued.allocator();
-        let competitors = self.competitors.len() + 1;
-        let issued = self.issued.len() + competitors;
+        let alloc = *self.forced.allocator();
         let forced = self.forced.len() + 1;
         Ok(SlotList {
             grid: self.grid.share()?,
             flights: self.flights.try_clone()?,
-            competitors: copied(alloc, &self.competitors, competitors)?,
-            issued: copied(alloc, &self.issued, issued)?,
+            governed: self.governed.try_clone()?,
             forced: copied(alloc, &self.forced, forced)?,
-            blocked: self.blocked.try_clone(issued)?,
+            blocked: self.blocked.try_clone(self.governed.len() + 1)?,
         })
     }
 }

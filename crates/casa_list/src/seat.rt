@@ -1,22 +1,28 @@
-//! Competitors in their places, as a list keeps them.
+//! The seats of governed flights, as a list keeps them.
 
 ghost use Rattle.std.specs.Prelude.{◌≡◌};
+ghost use Rattle.casa_list.specs.Governing.{HoldsTime, issued_in};
+ghost use Rattle.casa_list.specs.Seat.{number_of_place, place_of_number};
 ghost use Rattle.casa_list.specs.Walk.{IsWithin};
+ghost use Rattle.casa_list.specs.declared.standing.Standing.{Standing};
 
+use crate::standing::{Entry, Standing};
 use casa_flight::Comp;
 use casa_grid::Place;
+use casa_time::Moment;
 use std::marker::Model;
 
 /// Stands for the place of a flight that is over: no grid has as many slots.
 const OVER: u32 = u32::MAX;
 
-/// A competitor with the place that it has, in little memory: a list has one for each, and copies them all.
+/// A governed flight with a number, in little memory: a list has one for each, and copies them all. The number is that of
+/// a competitor's slot, or the calculated time over of an issued flight, in seconds.
 ///
-/// Contracts see it as an `Assigned`.
+/// Contracts see it as an `Assigned`: a competitor in its place. What it says of an issued flight is `issued_in`.
 #[derive(Clone, Copy)]
 pub struct Seat {
     comp: Comp,
-    slot: u32,
+    number: u32,
 }
 
 impl Model for Seat {
@@ -25,9 +31,9 @@ impl Model for Seat {
 
     ghost Value = { Assigned };
 
-    ghost view = { λ s. record { comp = s.comp; place = place_of_number s.slot } };
+    ghost view = { λ s. record { comp = s.comp; place = place_of_number s.number } };
 
-    ghost inverse = { λ a. record { comp = a.comp; slot = number_of_place a.place } };
+    ghost inverse = { λ a. record { comp = a.comp; number = number_of_place a.place } };
 
     ghost inverse_ok = { same_seat };
 }
@@ -38,27 +44,55 @@ impl Seat {
         requires { IsWithin u32.MAX place }
         ensures { result ≡ record { comp = comp; place = place } }
     {
-        let slot = match place {
+        let number = match place {
             Place::Slot(k) => k as u32,
             Place::Over => OVER,
         };
-        Seat { comp, slot }
+        Seat { comp, number }
     }
 
-    /// The competitor.
+    /// An issued flight with its calculated time over.
+    pub fn held(comp: Comp, cto: Moment) -> Seat
+        ensures issued { issued_in result ≡ (comp, Standing.Issued cto) }
+        ensures comp { result.comp ≡ comp }
+        ensures time { HoldsTime result }
+    {
+        Seat {
+            comp,
+            number: cto.secs(),
+        }
+    }
+
+    /// The flight.
     pub fn comp(&self) -> &Comp
         ensures { result.now ≡ self.now.comp }
     {
         &self.comp
     }
 
-    /// The place that it has.
+    /// The place that a competitor has.
     pub fn place(&self) -> Place
         ensures { result ≡ self.now.place }
     {
-        if self.slot == OVER {
+        if self.number == OVER {
             return Place::Over;
         }
-        Place::Slot(self.slot as usize)
+        Place::Slot(self.number as usize)
+    }
+
+    /// The calculated time over of an issued flight, which the seat must have been given.
+    pub fn cto(&self) -> Moment
+        requires { HoldsTime self.now }
+        ensures { result ≡ number_of_place self.now.place }
+    {
+        Moment::new(self.number).unwrap()
+    }
+
+    /// An issued flight as it stands.
+    pub fn held_entry(&self) -> Entry
+        requires { HoldsTime self.now }
+        ensures { result ≡ issued_in self.now }
+    {
+        (self.comp, Standing::Issued(self.cto()))
     }
 }
