@@ -6,3 +6,5 @@ pub mod Entered
 pub mod Opened
 pub mod Closed
 pub mod Answered
+pub mod Members
+pub mod Rows

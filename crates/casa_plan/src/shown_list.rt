@@ -1,25 +1,28 @@
 //! The planner of the question for a list.
 
-ghost use Rattle.std.specs.Prelude.{◌≡◌, ◌≤◌, IfOk, Some, map, option_copied};
+ghost use Rattle.std.specs.Prelude.{◌≡◌, ◌≤◌, IfOk, map, option_copied};
 ghost use Rattle.std.specs.Option.{option_map_or};
 ghost use Rattle.casa_time.specs.Moment.{last_moment};
-ghost use Rattle.casa_flight.specs.declared.row.Stance.{Stance};
-ghost use Rattle.casa_flight.specs.Text.{Text, at_name};
-ghost use Rattle.casa_flight.specs.Listing.{stance_of};
+ghost use Rattle.casa_flight.specs.declared.comp.Comp.{Comp};
+ghost use Rattle.casa_flight.specs.Text.{at_name};
+ghost use Rattle.casa_flight.specs.Good.{AreInOrder};
+ghost use Rattle.casa_list.specs.declared.standing.Standing.{Standing};
+ghost use Rattle.casa_list.specs.Standings.{standings};
 ghost use Rattle.casa_answer.specs.Sight.{regulations_in};
 ghost use Rattle.casa_answer.specs.Told.{delay_by};
 ghost use Rattle.casa_footprint.specs.Finding.{by_id};
-ghost use Rattle.casa_answer.specs.Look.{row_shown, rows_shown, list_shown, list};
+ghost use Rattle.casa_answer.specs.Look.{rows_shown, list_shown, list};
+ghost use Rattle.casa_plan.specs.Rows.{row_as};
 ghost use Rattle.casa_plan.specs.Seen.{sight};
 
 use crate::draft::Draft;
 use crate::replies::{no_messages, refused};
 use crate::telling::delay_shown;
 use casa_flight::{
-    Answer, Key, ListReply, ListRow, Refusal, RegId, Regulation, Reply, Rows, Stance, slot_number,
-    sort_rows,
+    Answer, Comp, Key, Kind, ListReply, ListRow, Refusal, RegId, Regulation, Reply, Rows,
+    slot_number, sort_rows,
 };
-use casa_list::SlotList;
+use casa_list::{SlotList, Standing};
 use casa_view::{Version, View};
 use std::alloc::{AllocError, Global};
 
@@ -35,40 +38,46 @@ fn forced_delay<V: Version>(view: &View<V>, key: &Key) -> u32
     }
 }
 
-/// A flight as its list shows it.
-fn row_shown<V: Version>(view: &View<V>, list: &SlotList, key: &Key, stance: &Stance) -> ListRow
-    requires { stance_of list.now key.now ≡ Some stance.now }
-    ensures { result ≡ row_shown (sight V.item_of view.now) list.now key.now stance.now }
+/// A flight as its list shows it, by how it stands there.
+fn row_shown<V: Version>(view: &View<V>, list: &SlotList, comp: Comp, standing: Standing) -> ListRow
+    ensures { result ≡ row_as (sight V.item_of view.now) list.now comp standing }
 {
-    let (cto, slot) = match stance {
-        Stance::Competing { .. } => {
-            let cto = list.cto_of(key).unwrap();
-            (cto.secs(), slot_number(list.place_of(key).unwrap()))
+    let (kind, cto, slot) = match standing {
+        Standing::Pre(place) => {
+            let cto = list.grid().cto(comp.eto, place);
+            (Kind::Pre, cto.secs(), slot_number(place))
         }
-        Stance::Issued { cto, .. } => (cto.secs(), list.grid().window_of(*cto)),
-        Stance::Forced { eto } => (eto.secs() + forced_delay(view, key), None),
+        Standing::Issued(cto) => (Kind::Issued, cto.secs(), list.grid().window_of(cto)),
+        Standing::Forced => {
+            let delay = forced_delay(view, &comp.key);
+            (Kind::Forced, comp.eto.secs() + delay, None)
+        }
     };
     ListRow {
-        key: *key,
-        eto: stance.eto(),
+        key: comp.key,
+        eto: comp.eto,
         cto,
-        kind: stance.kind(),
+        kind,
         slot,
     }
 }
 
-/// The flights of a list as it shows them, by keys. `AllocError` where there is no memory for them.
+/// The flights of a list as it shows them, in the order in which they stand there. `AllocError` where there is no memory
+/// for them.
 fn flights_shown<V: Version>(
     alloc: Global,
     view: &View<V>,
     list: &SlotList,
 ) -> Result<Vec<ListRow>, AllocError>
-    ensures { IfOk result (λ rows. rows.items ≡
-        map (λ (e : Text × Stance). row_shown (sight V.item_of view.now) list.now e.0 e.1) list.now.flights) }
+    ensures rows { IfOk result (λ rows. rows.items ≡
+        map (λ (f : Comp × Standing). row_as (sight V.item_of view.now) list.now f.0 f.1) (standings list.now)) }
+    ensures keys { AreInOrder list.now.flights }
 {
-    let mut rows = Vec::new(alloc);
-    for (key, stance) in list.flights() {
-        rows.push(row_shown(view, list, key, stance))?;
+    let count = list.flights().len();
+    let mut rows = Vec::with_capacity(alloc, count)?;
+    for n in 0..count {
+        let (comp, standing) = list.nth(n).unwrap();
+        rows.push(row_shown(view, list, comp, standing))?;
     }
     Ok(rows)
 }

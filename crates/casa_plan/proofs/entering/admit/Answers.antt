@@ -1,4 +1,4 @@
-use Rattle.std.proofs.Common.{ap, sym, ◌∙◌, true}
+use Rattle.std.proofs.Common.{sym, ◌∙◌, true}
 use Rattle.std.proofs.lemmas.Result.{on_ok_weaker}
 use Rattle.casa_flight.specs.Text.{Text}
 use Rattle.casa_flight.specs.Listing.{Listing, stance}

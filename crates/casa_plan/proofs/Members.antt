@@ -1,0 +1,103 @@
+-- the flights of a list as they stand are its flights, each once, in another order
+use Rattle.std.proofs.Common.{◌≡◌, List, [], ◌∷◌, ◌++◌, length, map, Bool, Option, refl, sym, ap, subst, ◌∙◌, Some, unwrap_or}
+use Rattle.std.specs.Map.{keys_of}
+use Rattle.std.specs.Option.{option_map}
+use Rattle.std.specs.List.{AllByRecursion, Contains, filter_map, fold}
+use Rattle.std.specs.List.Sorted.{IsPermutation}
+use Rattle.std.proofs.lemmas.List.{append-nil, length-map, map-append}
+use Rattle.std.proofs.lemmas.List.Sorted.{IsPermutation-refl, IsPermutation-sym, IsPermutation-trans, IsPermutation-cons, IsPermutation-middle, IsPermutation-insert, IsPermutation-append, IsPermutation-append_left, IsPermutation-append_right, IsPermutation-map, length_permutation}
+use Rattle.casa_flight.specs.declared.comp.Comp.{Comp}
+use Rattle.casa_flight.specs.declared.comp.Assigned.{Assigned}
+use Rattle.casa_flight.specs.declared.row.Stance.{Stance}
+use Rattle.casa_flight.specs.declared.row.Stance.TheVariants.{Competing, Issued, Forced}
+use Rattle.casa_flight.specs.Text.{Text, at_name}
+use Rattle.casa_flight.specs.Good.{AreInOrder}
+use Rattle.casa_flight.specs.Listing.{Listing, put_by, in_order, is_before, competitor, competitors, places}
+use Rattle.casa_flight.proofs.Entries.{all-each, each_found}
+use Rattle.casa_flight.proofs.PutBy.{each_itself}
+use Rattle.casa_list.specs.declared.standing.Standing.{Standing}
+use Rattle.casa_list.specs.declared.standing.Standing.TheVariants.{Pre, Forced as NoSlot}
+use Rattle.casa_list.specs.Standings.{issued_flight, forced_flight, is_flight_before, issued_flights, forced_flights, standings, standing_as, standing_of}
+use Rattle.casa_list.proofs.Changes.{comps-places}
+use Rattle.casa_list.proofs.Once.{standings_who}
+
+-- a list put in order has the same elements
+fold_moved : {X : Type 0} (precedes : X → X → Bool) (xs ys : List X) → IsPermutation (xs ++ ys) (fold (λ (zs : List X) (x : X). put_by precedes x zs) ys xs)
+fold_moved precedes [] ys = IsPermutation-refl ys
+fold_moved precedes (x ∷ xs) ys =
+    IsPermutation-trans _ _ _ (IsPermutation-sym _ _ (IsPermutation-middle xs x ys))
+    (IsPermutation-trans _ _ _ (IsPermutation-append_right xs (x ∷ ys) (put_by precedes x ys) (IsPermutation-insert ys _ x)) (fold_moved precedes xs (put_by precedes x ys)))
+
+pub in_order_moved : {X : Type 0} (precedes : X → X → Bool) (xs : List X) → IsPermutation xs (in_order precedes xs)
+in_order_moved {X} precedes xs = subst (λ (ys : List X). IsPermutation ys (in_order precedes xs)) (append-nil xs) (fold_moved precedes xs [])
+
+-- the keys of a list's flights, by how these stand
+abbrev key_of : Comp × Standing → Text
+key_of f = f.0.key
+
+keys_parted : (es : List (Text × Stance)) → IsPermutation (keys_of es)
+    (map (λ (c : Comp). c.key) (filter_map (λ (e : Text × Stance). competitor e.0 e.1) es)
+    ++ map key_of (filter_map (λ (e : Text × Stance). issued_flight e.0 e.1) es)
+    ++ map key_of (filter_map (λ (e : Text × Stance). forced_flight e.0 e.1) es))
+keys_parted [] = IsPermutation-refl []
+keys_parted ((key, Competing eto) ∷ es) = IsPermutation-cons key _ _ (keys_parted es)
+keys_parted ((key, Issued eto cto) ∷ es) =
+    let cs : List Text = map (λ (c : Comp). c.key) (filter_map (λ (e : Text × Stance). competitor e.0 e.1) es) in
+    let gs : List Text = map key_of (filter_map (λ (e : Text × Stance). issued_flight e.0 e.1) es) in
+    let fs : List Text = map key_of (filter_map (λ (e : Text × Stance). forced_flight e.0 e.1) es) in
+    IsPermutation-trans _ _ _ (IsPermutation-cons key _ _ (keys_parted es))
+    (IsPermutation-sym _ _ (IsPermutation-append_left fs _ _ (IsPermutation-middle cs key gs)))
+keys_parted ((key, Forced eto) ∷ es) =
+    let cs : List Text = map (λ (c : Comp). c.key) (filter_map (λ (e : Text × Stance). competitor e.0 e.1) es) in
+    let gs : List Text = map key_of (filter_map (λ (e : Text × Stance). issued_flight e.0 e.1) es) in
+    let fs : List Text = map key_of (filter_map (λ (e : Text × Stance). forced_flight e.0 e.1) es) in
+    IsPermutation-trans _ _ _ (IsPermutation-cons key _ _ (keys_parted es)) (IsPermutation-sym _ _ (IsPermutation-middle (cs ++ gs) key fs))
+
+keys-places : (ps : List Assigned) → map key_of (map (λ (a : Assigned). (a.comp, Pre a.place)) ps) ≡ map (λ (c : Comp). c.key) (map (λ (a : Assigned). a.comp) ps)
+keys-places [] = refl
+keys-places (a ∷ ps) = ap (λ (ks : List Text). a.comp.key ∷ ks) (keys-places ps)
+
+keys_moved : (l : Listing) → IsPermutation (keys_of l.flights) (map key_of (standings l))
+keys_moved l =
+    let ps : List (Comp × Standing) = map (λ (a : Assigned). (a.comp, Pre a.place)) (places l) in
+    let gs : List (Comp × Standing) = issued_flights l in
+    let fs : List (Comp × Standing) = forced_flights l in
+    let whose : Comp → Text = λ c. c.key in
+    let first : map key_of ps ≡ map whose (competitors l) = keys-places (places l) ∙ ap (map whose) (comps-places l) in
+    let parts : map key_of (standings l) ≡ map whose (competitors l) ++ map key_of gs ++ map key_of fs =
+    map-append key_of (ps ++ gs) fs ∙ ap (λ (ks : List Text). ks ++ map key_of fs) (map-append key_of ps gs ∙ ap (λ (ks : List Text). ks ++ map key_of gs) first) in
+    subst (IsPermutation (keys_of l.flights)) (sym parts)
+    (IsPermutation-trans _ _ _ (keys_parted l.flights)
+    (IsPermutation-append _ _ _ _
+    (IsPermutation-append _ _ _ _ (IsPermutation-map whose _ _ (in_order_moved is_before _)) (IsPermutation-map key_of _ _ (in_order_moved is_flight_before _)))
+    (IsPermutation-map key_of _ _ (in_order_moved is_flight_before _))))
+
+-- how the flight with a key stands, if there is one
+abbrev standing_at : Listing → Text → Comp × Standing
+standing_at l key = unwrap_or (standing_of l key) (record { eto = 0; key = key }, NoSlot)
+
+own_standings : (l : Listing) (fs : List (Comp × Standing)) → AllByRecursion (λ (f : Comp × Standing). standing_at l (key_of f) ≡ f) fs → map (standing_at l) (map key_of fs) ≡ fs
+own_standings l [] h = refl
+own_standings l (f ∷ fs) h = λ i. h.0 i ∷ own_standings l fs h.1 i
+
+entry_standings : (l : Listing) (es : List (Text × Stance)) → AllByRecursion (λ (e : Text × Stance). at_name l.flights e.0 ≡ Some e.1) es
+    → map (standing_at l) (keys_of es) ≡ map (λ (e : Text × Stance). standing_as l e.0 e.1) es
+entry_standings l [] h = refl
+entry_standings l (e ∷ es) h =
+    let here : standing_at l e.0 ≡ standing_as l e.0 e.1 =
+    ap (λ (o : Option Stance). unwrap_or (option_map (standing_as l e.0) o) (record { eto = 0; key = e.0 }, NoSlot)) h.0 in
+    λ i. here i ∷ entry_standings l es h.1 i
+
+pub standings_moved : (l : Listing) → AreInOrder l.flights → IsPermutation (map (λ (e : Text × Stance). standing_as l e.0 e.1) l.flights) (standings l)
+standings_moved l sorted =
+    let each : AllByRecursion (λ (f : Comp × Standing). standing_at l (key_of f) ≡ f) (standings l) =
+    all-each (Contains (standings l)) (λ (f : Comp × Standing). standing_at l (key_of f) ≡ f)
+    (λ f h. ap (λ (o : Option (Comp × Standing)). unwrap_or o (record { eto = 0; key = key_of f }, NoSlot)) ((standings_who l f sorted).0 h)) (standings l) (each_itself (standings l)) in
+    subst (λ (fs : List (Comp × Standing)). IsPermutation fs (standings l)) (entry_standings l l.flights (each_found l.flights sorted))
+    (subst (IsPermutation (map (standing_at l) (keys_of l.flights))) (own_standings l (standings l) each)
+    (IsPermutation-map (standing_at l) _ _ (keys_moved l)))
+
+-- so there are as many
+pub length-standings : (l : Listing) → AreInOrder l.flights → length (standings l) ≡ length l.flights
+length-standings l sorted =
+    length_permutation _ _ (standings_moved l sorted) ∙ length-map l.flights (λ (e : Text × Stance). standing_as l e.0 e.1)
