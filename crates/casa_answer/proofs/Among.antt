@@ -12,13 +12,11 @@ use Rattle.casa_flight.specs.State.{subject}
 use Rattle.casa_flight.specs.Listing.{is_before}
 use Rattle.casa_flight.specs.Steps.{flights_over}
 use Rattle.casa_flight.specs.Good.{AreInOrder}
-use Rattle.casa_flight.proofs.Entries.{text_cmp, same_name, named, all-each}
+use Rattle.casa_flight.proofs.Entries.{text_cmp, same_name}
 use Rattle.casa_laws.proofs.Kept.{at_above}
-use Rattle.casa_flight.proofs.PutBy.{PairsByRecursion}
-use Rattle.casa_laws.proofs.InOrder.{HasName, AreApart, apart-planned}
+use Rattle.casa_laws.proofs.InOrder.{HasName}
 use Rattle.casa_laws.proofs.GoodRegs.{comp_if, any-in_order}
 use Rattle.casa_answer.proofs.Changes.{test_same}
-use Rattle.casa_answer.proofs.Entered.{AreDistinct}
 use Rattle.casa_answer.proofs.Entries.{enters_among}
 
 -- whether any of what is made of entries has this name, by the entry that has it
@@ -105,16 +103,3 @@ any_flights g h test r rows all =
     each (e ∷ es) a =
         one e (test e.1) (subject e.1.plan r) (filter_map (λ (e : Text × Row). comp_if (test e.1) (subject e.1.plan r) e.0) es) a.0
         ∙ ap (λ b. (test e.1 && h e.1) || b) (each es a.1)
-
-distinct_from : (cs : List Comp) → PairsByRecursion (AreApart (λ (c : Comp). c)) cs → AreDistinct cs
-distinct_from [] h = tt
-distinct_from (c ∷ cs) h = (all-each (AreApart (λ (c : Comp). c) c) (λ (d : Comp). same_text c.key d.key ≡ false) (λ d other. by d other (same_text c.key d.key) refl) cs h.0, distinct_from cs h.1)
-  where
-    by : (d : Comp) → (c.key ≡ d.key → ⊥) → (b : Bool) → same_text c.key d.key ≡ b → b ≡ false
-    by d other true e = absurd (other (named c.key d.key e))
-    by d other false e = refl
-
--- each of them enters once
-pub distinct_over : (test : Row → Bool) (r : Regulation) (rows : List (Text × Row)) → AreInOrder rows → AreDistinct (flights_over test r rows)
-distinct_over test r rows sorted =
-    distinct_from (flights_over test r rows) (apart-planned (λ (c : Comp). c) (λ (e : Text × Row). comp_if (test e.1) (subject e.1.plan r) e.0) (comp_named test r) rows sorted)

@@ -58,8 +58,3 @@ one_written {X} {Y} f g k x e q =
       | true ↦ λ h. ap (λ (y : Y). Some y) (e ∙ ap g (named k q h))
       | false ↦ λ h. refl
     ] refl)
-
-pub same_answer : (m : State) (call : Call) (r s : Reply) (w x : Written) → r ≡ s → w ≡ x → IsAnswer m call (s, x) → IsAnswer m call (r, w)
-same_answer m call r s w x p q h =
-    let pair : Reply → Written → Reply × Written = λ a b. (a, b) in
-    subst (IsAnswer m call) (λ i. pair (sym p i) (sym q i)) h

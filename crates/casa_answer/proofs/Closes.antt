@@ -28,9 +28,8 @@ use Rattle.casa_laws.proofs.RegMessages.{freed_plan}
 use Rattle.casa_laws.proofs.GoodRegs.{next-good}
 use Rattle.casa_laws.proofs.ChangeMessages.{StaysOpen, governed_by}
 use Rattle.casa_footprint.specs.Items.{moment, regulations}
-use Rattle.casa_footprint.specs.Footprint.{is_subject, governs}
+use Rattle.casa_footprint.specs.Footprint.{is_subject, is_list_of, governs}
 use Rattle.casa_answer.specs.Sight.{Sight, Written, nothing_written, row_with, IsSightOf, IsAnswer, IsPlanned, clock_in, regulations_in}
-use Rattle.casa_answer.specs.OneFlight.{crossed_by}
 use Rattle.casa_footprint.specs.Finding.{by_id}
 use Rattle.casa_answer.specs.Closing.{without_regulation, governed_flights, closing, closing_with, after_closing, close_if, close_reg}
 use Rattle.casa_answer.specs.Enter.{with_reentry, with_entries}
@@ -38,11 +37,9 @@ use Rattle.casa_answer.specs.Told.{messages_shown, done}
 use Rattle.casa_answer.proofs.Changes.{refusal, acceptance, at-put_by}
 use Rattle.casa_answer.proofs.Board.{Shows, says_shown}
 use Rattle.casa_answer.proofs.Messages.{messages_are}
-use Rattle.casa_answer.proofs.Entered.{IsUngoverned}
-use Rattle.casa_answer.proofs.Entries.{HasLists, Entries, entries, entries_ordered, enters_among}
-use Rattle.casa_answer.proofs.Among.{among_over, any_flights, distinct_over}
-use Rattle.casa_answer.proofs.Shared.{shown_with_all, has_list, there_with_all, crossed_subject}
-use Rattle.casa_answer.proofs.Freed.{list-closed, row-closed, freed_ungoverned, governed_in_list}
+use Rattle.casa_answer.proofs.Entries.{lists_among, AreThere, Entries, entries, entries_ordered, enters_among}
+use Rattle.casa_answer.proofs.Among.{among_over, any_flights}
+use Rattle.casa_answer.proofs.Freed.{list-closed, row-closed, governed_in_list}
 use Rattle.casa_answer.proofs.Opens.{values-by_id}
 use Rattle.casa_answer.proofs.NewRates.{measure_none, measure_some}
 
@@ -84,23 +81,12 @@ entries_as clock rs v rows w (c ∷ cs) same =
     step : with_reentry clock rs v w c.key (row_with v w c.key) ≡ with_reentry clock rs (with_shown v rows) w c.key (row_with (with_shown v rows) w c.key)
     step = by (row_with v w c.key) (row_with (with_shown v rows) w c.key) (rest (at_name w.rows c.key))
 
-any_each : {X : Type 0} (p : X → Bool) (xs : List X) → AllByRecursion (λ (x : X). p x ≡ true → list_any p xs ≡ true) xs
-any_each p [] = tt
-any_each {X} p (x ∷ xs) = (
-  λ h. ap (λ b. b || list_any p xs) h,
-  all-each (λ (y : X). p y ≡ true → list_any p xs ≡ true) (λ (y : X). p y ≡ true → (p x || list_any p xs) ≡ true) (λ y f h. either (p x) (list_any p xs) (f h)) xs (any_each p xs),
-)
-  where
-    either : (a b : Bool) → b ≡ true → (a || b) ≡ true
-    either true b h = refl
-    either false b h = h
-
 closes : (m : State) (id : Text) (measure : Measure) (l : Listing) (v : Sight) → IsGood m → IsSightOf m (CloseReg id) v → measure_of m id ≡ Some measure → listing m.rows id measure ≡ l
     → IsAnswer m (CloseReg id) (done v (after_closing v id l))
 unfolding IsStrictlySortedBy
 closes m id measure l v good is opened listed =
     let all : Entries m.clock rs u begin s cs =
-    entries m.clock rs u begin s cs refl (sym new) begun rows_sorted regs_sorted (distinct_over (is_governed_by id) r m.rows good.rows_in_order) free has in
+    entries m.clock rs u begin s cs refl (sym new) begun rows_sorted regs_sorted there in
     let regs : n.regs ≡ without m.regs id = regs-enter_all s cs in
     let stepped : step m call ≡ leads n = ap (close_regulation m id) opened in
     let then_good : IsGood n = subst (λ t. IsGood (after m t)) stepped (next-good m call good) in
@@ -138,7 +124,7 @@ closes m id measure l v good is opened listed =
     gone = put [] id None
 
     begin : Written
-    begin = closing v id rs cs
+    begin = closing id rs
 
     -- the view as it shows the freed flights
     u : Sight
@@ -199,15 +185,18 @@ closes m id measure l v good is opened listed =
         ] refl)
 
     begun : Shows u begin s
-    begun = record { rows = λ q. refl; lists = λ q. shown_with_all v rs gone cs q ∙ list_now q }
+    begun = record { rows = λ q. refl; lists = list_now }
+
+    freed_row : (key : Text) (row : Row) → row_of m key ≡ Some row → row_of s key ≡ Some (freed (is_governed_by id row) row)
+    freed_row key row f = row-closed m id key ∙ ap (option_map (λ (row : Row). freed (is_governed_by id row) row)) f
 
     found : AllByRecursion (λ (e : Text × Row). row_of m e.0 ≡ Some e.1) m.rows
     found = each_found m.rows good.rows_in_order
 
-    free : AllByRecursion (λ (c : Comp). IsUngoverned s c.key) cs
-    free = all-flights_over (IsUngoverned s) (is_governed_by id) r m.rows
-        (all-each (λ (e : Text × Row). row_of m e.0 ≡ Some e.1) (λ (e : Text × Row). is_governed_by id e.1 ≡ true → is_some (subject e.1.plan r) ≡ true → IsUngoverned s e.0)
-        (λ e f a b. freed_ungoverned m id e.0 e.1 f a) m.rows found)
+    there : AreThere s cs
+    there = all-flights_over (λ (key : Text). is_some (row_of s key) ≡ true) (is_governed_by id) r m.rows
+        (all-each (λ (e : Text × Row). row_of m e.0 ≡ Some e.1) (λ (e : Text × Row). is_governed_by id e.1 ≡ true → is_some (subject e.1.plan r) ≡ true → is_some (row_of s e.0) ≡ true)
+        (λ e f a b. ap is_some (freed_row e.0 e.1 f)) m.rows found)
 
     -- the flights that enter are those that the regulation governs
     subject_too : (key : Text) (row : Row) → row_of m key ≡ Some row → is_governed_by id row ≡ true → is_some (subject row.plan r) ≡ true
@@ -242,51 +231,18 @@ closes m id measure l v good is opened listed =
         by None h = refl
         by (Some row) h = sym (ap (λ b. Some (freed b row)) h)
 
-    -- the lists of a flight
-    lists_of_flight : (key q : Text) (row : Row) → row_of m key ≡ Some row → has_list v rs q key ≡ is_subject s row.plan q
-    lists_of_flight key q row f =
-        (λ i. list_any (λ (e : Text × ℕ). same_text e.0 q) (crossed_by (new i) ((is.row key refl ∙ f) i)))
-        ∙ crossed_subject s row.plan q regs_sorted
-
-    there : (q : Text) → is_some (at_name begin.lists q) ≡ (is_some (at_name gone q) || list_any (λ (c : Comp). has_list v rs q c.key) cs)
-    there q = or_none (is_some (at_name begin.lists q)) ∙ there_with_all v rs gone cs q false ∙ ap (λ b. is_some (at_name gone q) || b) (sym (or_none (list_any (λ (c : Comp). has_list v rs q c.key) cs)))
-      where
-        or_none : (b : Bool) → b ≡ (b || false)
-        or_none true = refl
-        or_none false = refl
-
-    has : AllByRecursion (λ (c : Comp). HasLists s begin c.key) cs
-    has = all_lists cs (λ q. any_each (λ (c : Comp). has_list v rs q c.key) cs)
-      where
-        all_lists : (ds : List Comp) → ((q : Text) → AllByRecursion (λ (c : Comp). has_list v rs q c.key ≡ true → list_any (λ (c : Comp). has_list v rs q c.key) cs ≡ true) ds) → AllByRecursion (λ (c : Comp). HasLists s begin c.key) ds
-        all_lists [] h = tt
-        all_lists (d ∷ ds) h = (λ row f q sub. one d row f q sub ((h q).0), all_lists ds (λ q. (h q).1))
-          where
-            either : (a b : Bool) → b ≡ true → (a || b) ≡ true
-            either true b h = refl
-            either false b h = h
-
-            one : (c : Comp) (row : Row) → row_of s c.key ≡ Some row → (q : Text) → is_subject s row.plan q ≡ true
-                → (has_list v rs q c.key ≡ true → list_any (λ (c : Comp). has_list v rs q c.key) cs ≡ true) → is_some (at_name begin.lists q) ≡ true
-            one c row f q sub g = there q ∙ either (is_some (at_name gone q)) (list_any (λ (c : Comp). has_list v rs q c.key) cs) (g (by (row_of m c.key) refl))
-              where
-                by : (o : Option Row) → row_of m c.key ≡ o → has_list v rs q c.key ≡ true
-                by None e = let no : None ≡ Some row = sym (row-closed m id c.key ∙ ap (option_map (λ (row : Row). freed (is_governed_by id row) row)) e) ∙ f in cc
-                by (Some old) e =
-                    let both : Some (freed (is_governed_by id old) old) ≡ Some row = sym (row-closed m id c.key ∙ ap (option_map (λ (row : Row). freed (is_governed_by id row) row)) e) ∙ f in
-                    let same : freed (is_governed_by id old) old ≡ row = cc in
-                    lists_of_flight c.key q old e ∙ ap (λ (p : FlightPlan). is_subject s p q) (sym (freed_plan (is_governed_by id old) old)) ∙ ap (λ (x : Row). is_subject s x.plan q) same ∙ sub
-
-    lists_there : (q : Text) → is_some (at_name begin.lists q) ≡ (same_text id q || list_any (λ (e : Text × Row). is_governed_by id e.1 && is_subject m e.1.plan q) m.rows)
+    -- the lists that are written are those of the flights that it governed
+    lists_there : (q : Text) → (is_some (at_name begin.lists q) || lists_among s q cs) ≡ (same_text id q || list_any (λ (e : Text × Row). is_governed_by id e.1 && is_subject m e.1.plan q) m.rows)
     lists_there q =
-        there q ∙ ap (λ (o : Option (Option Listing)). is_some o || list_any (λ (c : Comp). has_list v rs q c.key) cs) (at-put_by q id None []) ∙
-        (elim (same_text id q) as (λ b. same_text id q ≡ b → (is_some {T = Option Listing} (if b then Some None else None) || list_any (λ (c : Comp). has_list v rs q c.key) cs) ≡ (b || list_any (λ (e : Text × Row). is_governed_by id e.1 && is_subject m e.1.plan q) m.rows)) [
+        ap (λ (o : Option (Option Listing)). is_some o || lists_among s q cs) (at-put_by q id None []) ∙
+        (elim (same_text id q) as (λ b. same_text id q ≡ b → (is_some {T = Option Listing} (if b then Some None else None) || lists_among s q cs) ≡ (b || list_any (λ (e : Text × Row). is_governed_by id e.1 && is_subject m e.1.plan q) m.rows)) [
           | true ↦ λ h. refl
-          | false ↦ λ h. any_flights (has_list v rs q) (λ (row : Row). is_subject m row.plan q) (is_governed_by id) r m.rows
-              (all-each (λ (e : Text × Row). row_of m e.0 ≡ Some e.1) (λ (e : Text × Row). is_governed_by id e.1 ≡ true → (is_some (subject e.1.plan r) ≡ true) × (has_list v rs q e.0 ≡ is_subject m e.1.plan q))
+          | false ↦ λ h. any_flights (λ (key : Text). is_list_of s key q) (λ (row : Row). is_subject m row.plan q) (is_governed_by id) r m.rows
+              (all-each (λ (e : Text × Row). row_of m e.0 ≡ Some e.1) (λ (e : Text × Row). is_governed_by id e.1 ≡ true → (is_some (subject e.1.plan r) ≡ true) × (is_list_of s e.0 q ≡ is_subject m e.1.plan q))
               (λ e f g. (
                 subject_too e.0 e.1 f g,
-                lists_of_flight e.0 q e.1 f
+                ap (λ (o : Option Row). option_map_or (λ (row : Row). is_subject s row.plan q) o false) (freed_row e.0 e.1 f)
+                    ∙ ap (λ (p : FlightPlan). is_subject s p q) (freed_plan (is_governed_by id e.1) e.1)
                     ∙ ap (λ (o : Option Measure). option_map_or (λ (x : Measure). is_some (subject e.1.plan (regulation q x))) o false) (at-without_other q id m.regs (apart id q h)),
               )) m.rows found)
         ] refl)

@@ -16,8 +16,9 @@ use Rattle.casa_flight.specs.Good.{AreInOrder}
 use Rattle.casa_flight.proofs.Entries.{filter_map-map}
 use Rattle.casa_footprint.specs.Finding.{crossed}
 use Rattle.casa_answer.specs.Sight.{Sight, regulations_in, situation_in}
-use Rattle.casa_answer.specs.OneFlight.{offers_of, best_offer, crossed_by}
-use Rattle.casa_answer.proofs.Puts.{kept_by, at-kept_by, sorted-kept_by}
+use Rattle.casa_answer.specs.OneFlight.{offers_of, best_offer}
+use Rattle.casa_answer.specs.Write.{crossed_by}
+use Rattle.casa_laws.proofs.Kept.{kept_by, at-kept_by, sorted-kept_by}
 
 -- in a state they are kept of the open regulations, by name
 crossed_open : (m : State) (plan : FlightPlan) → crossed plan (catalogue m) ≡ kept_by (λ id measure. subject plan (regulation id measure)) m.regs

@@ -1,153 +1,145 @@
 -- what is written as flights enter one by one
-use Rattle.std.proofs.Common.{◌≡◌, ℕ, List, [], ◌∷◌, Bool, true, false, refl, sym, ap, subst, ◌∙◌, ◌||◌, Option, None, Some, IfSome, is_some, if◌then◌else◌, map}
-use Rattle.std.specs.Option.{option_map, option_map_or}
+use Rattle.std.proofs.Common.{◌≡◌, ℕ, List, [], ◌∷◌, Bool, true, false, refl, sym, ap, subst, ◌∙◌, ◌||◌, Option, None, Some, is_some, if◌then◌else◌, map}
+use Rattle.std.specs.Option.{option_map_or}
 use Rattle.std.specs.List.{AllByRecursion, list_any}
 use Rattle.casa_flight.specs.declared.comp.Comp.{Comp}
 use Rattle.casa_flight.specs.declared.regulation.Measure.{Measure}
 use Rattle.casa_flight.specs.declared.regulation.Regulation.{Regulation}
 use Rattle.casa_flight.specs.declared.row.Row.{Row}
 use Rattle.casa_flight.specs.declared.state.State.{State}
-use Rattle.casa_flight.specs.Text.{Text, same_text, at_name, put}
+use Rattle.casa_flight.specs.Text.{Text, same_text, at_name}
 use Rattle.casa_flight.specs.FlightPlan.{FlightPlan}
-use Rattle.casa_flight.specs.State.{row_of, regulation, catalogue, subject, ungoverned}
-use Rattle.casa_flight.specs.Listing.{Listing}
-use Rattle.casa_flight.specs.Entry.{Situation, situation, entered, reenter, enter_all}
+use Rattle.casa_flight.specs.State.{row_of, regulation, catalogue, ungoverned}
+use Rattle.casa_flight.specs.Entry.{situation, entered, reenter, enter_all}
 use Rattle.casa_flight.specs.Good.{AreInOrder}
-use Rattle.casa_flight.proofs.Entries.{named, all-each, all-both, sorted-put}
-use Rattle.casa_footprint.specs.Footprint.{is_subject}
-use Rattle.casa_footprint.proofs.Entering.{entered_own}
-use Rattle.casa_answer.specs.Sight.{Sight, Written, row_with, list_with}
-use Rattle.casa_answer.specs.Enter.{situation_with, admitted, with_entered_by, with_entered, with_reentry, with_entries}
+use Rattle.casa_flight.proofs.Entries.{named, all-each, sorted-put}
+use Rattle.casa_laws.proofs.EnterAll.{entered_plan}
+use Rattle.casa_footprint.specs.Footprint.{is_subject, is_list_of}
+use Rattle.casa_answer.specs.Sight.{Sight, Written, row_with}
+use Rattle.casa_answer.specs.Write.{stances}
+use Rattle.casa_answer.specs.Enter.{situation_with, with_entry, with_reentry, with_entries}
 use Rattle.casa_answer.proofs.Changes.{at-put_by}
 use Rattle.casa_answer.proofs.Board.{Shows, row_put}
 use Rattle.casa_answer.proofs.Naming.{some_put, or_none}
-use Rattle.casa_answer.proofs.Entered.{AreDistinct, IsUngoverned, sighted, reentry_shown, reentry_free, reentry_sorted, reentry_clock, reentry_regs}
+use Rattle.casa_answer.proofs.Stances.{once-stances, lists_named}
+use Rattle.casa_answer.proofs.Written.{stances_named}
+use Rattle.casa_answer.proofs.Entered.{reentry_is, reentry_shown, reentry_sorted, reentry_clock, reentry_regs}
 
--- the row of the flight is written, and no list beside those that the change has
-rows-entered : (v : Sight) (w : Written) (key : Text) (new : Row) (q : Text) (rest : Bool) → (is_some (at_name (with_entered v w key new).rows q) || rest) ≡ (is_some (at_name w.rows q) || (same_text key q || rest))
-rows-entered v w key new q rest = by new.governing ∙ ap (λ y. is_some y || rest) (at-put_by q key (Some new) w.rows) ∙ some_put q key (Some new) (at_name w.rows q) rest
-  where
-    by : (g : Option Text) → (is_some (at_name (with_entered_by v w key new g).rows q) || rest) ≡ (is_some (at_name (put w.rows key (Some new)) q) || rest)
-    by None = refl
-    by (Some id) = refl
-
-lists-entered : (v : Sight) (w : Written) (key : Text) (new : Row) → IfSome new.governing (λ id. is_some (at_name w.lists id) ≡ true) → (q : Text) → is_some (at_name (with_entered v w key new).lists q) ≡ is_some (at_name w.lists q)
-lists-entered v w key new there q = by new.governing there
-  where
-    by : (g : Option Text) → IfSome g (λ id. is_some (at_name w.lists id) ≡ true) → is_some (at_name (with_entered_by v w key new g).lists q) ≡ is_some (at_name w.lists q)
-    by None h = refl
-    by (Some id) h =
-        let x : Option Listing = option_map (admitted key new.issued) (list_with v w id) in
-        or_none (is_some (at_name (put w.lists id x) q)) ∙ ap (λ o. is_some o || false) (at-put_by q id x w.lists) ∙ some_put q id x (at_name w.lists q) false ∙
-        (elim (same_text id q) as (λ b. same_text id q ≡ b → (is_some (at_name w.lists q) || (b || false)) ≡ is_some (at_name w.lists q)) [
-          | true ↦ λ e. let here : is_some (at_name w.lists q) ≡ true = subst (λ t. is_some (at_name w.lists t) ≡ true) (named id q e) h in ap (λ b. b || true) here ∙ sym here
-          | false ↦ λ e. sym (or_none (is_some (at_name w.lists q)))
-        ] refl)
-
-clock-entered : (v : Sight) (w : Written) (key : Text) (new : Row) → (with_entered v w key new).clock ≡ w.clock
-clock-entered v w key new = by new.governing
-  where
-    by : (g : Option Text) → (with_entered_by v w key new g).clock ≡ w.clock
-    by None = refl
-    by (Some id) = refl
-
-catalogue-entered : (v : Sight) (w : Written) (key : Text) (new : Row) → (with_entered v w key new).catalogue ≡ w.catalogue
-catalogue-entered v w key new = by new.governing
-  where
-    by : (g : Option Text) → (with_entered_by v w key new g).catalogue ≡ w.catalogue
-    by None = refl
-    by (Some id) = refl
-
--- the change has the lists of a flight
-abbrev pub HasLists : State → Written → Text → Type 0
-HasLists s w key = (row : Row) → row_of s key ≡ Some row → (q : Text) → is_subject s row.plan q ≡ true → is_some (at_name w.lists q) ≡ true
-
+-- whether a flight is among these, and whether a list is one of theirs
 abbrev pub enters_among : Text → List Comp → Bool
 enters_among q cs = list_any (λ (c : Comp). same_text c.key q) cs
 
--- one by one, the change shows the state in which these flights have entered, and it has their rows, and no lists beside
--- those that it had
+abbrev pub lists_among : State → Text → List Comp → Bool
+lists_among s q cs = list_any (λ (c : Comp). is_list_of s c.key q) cs
+
+-- flights that are there enter one by one: the change shows the state in which they have entered, and it has their rows and
+-- their lists
+abbrev pub AreThere : State → List Comp → Type 0
+AreThere s cs = AllByRecursion (λ (c : Comp). is_some (row_of s c.key) ≡ true) cs
+
 pub record Entries (clock : ℕ) (rs : List Regulation) (v : Sight) (w : Written) (s : State) (cs : List Comp) : Type 0 where
   pub shows : Shows v (with_entries clock rs v w cs) (enter_all s cs)
   pub clock_kept : (with_entries clock rs v w cs).clock ≡ w.clock
   pub catalogue_kept : (with_entries clock rs v w cs).catalogue ≡ w.catalogue
   pub rows : (q : Text) → is_some (at_name (with_entries clock rs v w cs).rows q) ≡ (is_some (at_name w.rows q) || enters_among q cs)
-  pub lists : (q : Text) → is_some (at_name (with_entries clock rs v w cs).lists q) ≡ is_some (at_name w.lists q)
+  pub lists : (q : Text) → is_some (at_name (with_entries clock rs v w cs).lists q) ≡ (is_some (at_name w.lists q) || lists_among s q cs)
+
+-- a flight keeps its plan as another enters or it does
+row_stays : (s : State) (key other : Text) (row : Row) (q : Text) → row_of s key ≡ Some row → is_list_of (reenter s key (Some row)) other q ≡ is_list_of s other q
+row_stays s key other row q found =
+    ap (λ (o : Option Row). option_map_or (λ (r : Row). is_subject s r.plan q) o false) (row_put s key new other) ∙
+    (elim (same_text key other) as (λ b. same_text key other ≡ b → option_map_or (λ (r : Row). is_subject s r.plan q) (if b then Some new else row_of s other) false ≡ is_list_of s other q) [
+      | true ↦ λ t.
+          ap (λ (p : FlightPlan). is_subject s p q) (entered_plan (situation s) key (ungoverned row))
+          ∙ sym (ap (λ (o : Option Row). option_map_or (λ (r : Row). is_subject s r.plan q) o false) (subst (λ k. row_of s k ≡ Some row) (named key other t) found))
+      | false ↦ λ t. refl
+    ] refl)
+  where
+    new : Row
+    new = entered (situation s) key (ungoverned row)
+
+there_stays : (s : State) (key other : Text) → is_some (row_of s other) ≡ true → is_some (row_of (reenter s key (row_of s key)) other) ≡ true
+there_stays s key other h = by (row_of s key)
+  where
+    either : (row : Row) (b : Bool) → is_some (if b then Some row else row_of s other) ≡ true
+    either row true = refl
+    either row false = h
+
+    by : (o : Option Row) → is_some (row_of (reenter s key o) other) ≡ true
+    by None = h
+    by (Some row) = ap is_some (row_put s key (entered (situation s) key (ungoverned row)) other) ∙ either (entered (situation s) key (ungoverned row)) (same_text key other)
+
+among_stay : (s : State) (key : Text) (row : Row) (q : Text) (ds : List Comp) → row_of s key ≡ Some row → lists_among (reenter s key (Some row)) q ds ≡ lists_among s q ds
+among_stay s key row q [] found = refl
+among_stay s key row q (d ∷ ds) found = λ i. row_stays s key d.key row q found i || among_stay s key row q ds found i
+
+-- a flight, and then those after it
+entries_from : (clock : ℕ) (rs : List Regulation) (v : Sight) (w : Written) (s : State) (c : Comp) (cs : List Comp) → s.clock ≡ clock → catalogue s ≡ rs
+    → Shows v w s → AreInOrder s.regs → is_some (row_of s c.key) ≡ true
+    → Entries clock rs v (with_reentry clock rs v w c.key (row_with v w c.key)) (reenter s c.key (row_of s c.key)) cs → Entries clock rs v w s (c ∷ cs)
+entries_from clock rs v w s c cs at is shows ordered there rest = by (row_of s c.key) refl there
+  where
+    key : Text
+    key = c.key
+
+    next : Written
+    next = with_reentry clock rs v w key (row_with v w key)
+
+    assoc : (a b c : Bool) → ((a || b) || c) ≡ (a || (b || c))
+    assoc true b c = refl
+    assoc false b c = refl
+
+    twice : (b : Bool) → (b || b) ≡ b
+    twice true = refl
+    twice false = refl
+
+    by : (o : Option Row) → row_of s key ≡ o → is_some o ≡ true → Entries clock rs v w s (c ∷ cs)
+    by None found h = cc
+    by (Some row) found h =
+        let free : Row = ungoverned row in
+        let new : Row = entered (situation s) key free in
+        let here : reenter s key (row_of s key) ≡ reenter s key (Some row) = ap (reenter s key) found in
+        let same : next ≡ with_entry clock rs v w key free new = (λ i. with_reentry (sym at i) (sym is i) v w key (row_with v w key)) ∙ reentry_is v w s key row shows found ∙ (λ i. with_entry (at i) (is i) v w key free new) in
+        let lists_now : (q : Text) → is_some (at_name next.lists q) ≡ (is_some (at_name w.lists q) || is_list_of s key q) =
+        λ q. ap (λ (x : Written). is_some (at_name x.lists q)) same
+        ∙ ap (λ (x : List Regulation). is_some (at_name (with_entry clock x v w key free new).lists q)) (sym is)
+        ∙ lists_named v key w.lists (stances (catalogue s) (Some free) (Some new)) q (once-stances s (Some free) (Some new) ordered)
+        ∙ ap (λ b. is_some (at_name w.lists q) || b) (stances_named s (Some free) (Some new) q ordered
+        ∙ ap (λ (p : FlightPlan). is_subject s row.plan q || is_subject s p q) (entered_plan (situation s) key free) ∙ twice (is_subject s row.plan q)
+        ∙ sym (ap (λ (o : Option Row). option_map_or (λ (r : Row). is_subject s r.plan q) o false) found)) in
+        record {
+          shows = rest.shows;
+          clock_kept = rest.clock_kept ∙ ap (λ (x : Written). x.clock) same;
+          catalogue_kept = rest.catalogue_kept ∙ ap (λ (x : Written). x.catalogue) same;
+          rows = λ q. rest.rows q ∙ ap (λ (x : Written). is_some (at_name x.rows q) || enters_among q cs) same
+              ∙ ap (λ o. is_some o || enters_among q cs) (at-put_by q key (Some new) w.rows) ∙ some_put q key (Some new) (at_name w.rows q) (enters_among q cs);
+          lists = λ q. rest.lists q ∙ (λ i. lists_now q i || (ap (λ (t : State). lists_among t q cs) here ∙ among_stay s key row q cs found) i)
+              ∙ assoc (is_some (at_name w.lists q)) (is_list_of s key q) (lists_among s q cs);
+        }
 
 pub entries : (clock : ℕ) (rs : List Regulation) (v : Sight) (w : Written) (s : State) (cs : List Comp) → s.clock ≡ clock → catalogue s ≡ rs
-    → Shows v w s → AreInOrder s.rows → AreInOrder s.regs → AreDistinct cs → AllByRecursion (λ (c : Comp). IsUngoverned s c.key) cs → AllByRecursion (λ (c : Comp). HasLists s w c.key) cs
-    → Entries clock rs v w s cs
-entries clock rs v w s [] at is shows sorted ordered distinct free has = record { shows = shows; clock_kept = refl; catalogue_kept = refl; rows = λ q. or_none _; lists = λ q. refl }
-entries clock rs v w s (c ∷ cs) at is shows sorted ordered distinct free has =
-    let key : Text = c.key in
-    let o : IsUngoverned s key = free.0 in
-    let n : State = reenter s key (row_of s key) in
-    let next : Written = with_reentry clock rs v w key (row_with v w key) in
-    let new : Row = entered (situation s) key (ungoverned o.row) in
-    let own = entered_own s key (ungoverned o.row) ordered refl in
-    let step : with_reentry s.clock (catalogue s) v w key (row_with v w key) ≡ with_entered v w key new =
-    ap (with_reentry s.clock (catalogue s) v w key) (shows.rows key ∙ o.found) ∙ ap (λ (t : Situation). with_entered v w key (entered t key (ungoverned o.row))) (sighted v w s shows) in
-    let same : next ≡ with_entered v w key new = (λ i. with_reentry (sym at i) (sym is i) v w key (row_with v w key)) ∙ step in
-    let then_shows : Shows v next n =
-    subst (λ t. Shows v (with_reentry t rs v w key (row_with v w key)) n) at
-    (subst (λ q. Shows v (with_reentry s.clock q v w key (row_with v w key)) n) is (reentry_shown v w s key o shows sorted ordered)) in
-    let regs_now : n.regs ≡ s.regs = reentry_regs s key in
-    let there : IfSome new.governing (λ id. is_some (at_name w.lists id) ≡ true) = owned new.governing own.0 (λ q h. has.0 o.row o.found q (subst (λ (p : FlightPlan). is_subject s p q ≡ true) own.1 h)) in
-    let lists_now : (q : Text) → is_some (at_name next.lists q) ≡ is_some (at_name w.lists q) = λ q. ap (λ (y : Written). is_some (at_name y.lists q)) same ∙ lists-entered v w key new there q in
-    let then_has : AllByRecursion (λ (d : Comp). HasLists n next d.key) cs =
-    all-each (λ (d : Comp). (same_text key d.key ≡ false) × HasLists s w d.key) (λ (d : Comp). HasLists n next d.key)
-    (λ d h row found q sub. lists_now q ∙ h.1 row (sym (others s key d.key h.0) ∙ found) q (ap (λ (w : Option Measure). option_map_or (λ (measure : Measure). is_some (subject row.plan (regulation q measure))) w false) (ap (λ rs. at_name rs q) (sym regs_now)) ∙ sub)) cs
-    (all-both (λ (d : Comp). same_text key d.key ≡ false) (λ (d : Comp). HasLists s w d.key) cs distinct.0 has.1) in
-    let rest : Entries clock rs v next n cs =
-    entries clock rs v next n cs (reentry_clock s key ∙ at) (ap (λ q. map (λ (e : Text × Measure). regulation e.0 e.1) q) regs_now ∙ is) then_shows (reentry_sorted s key sorted)
-    (subst AreInOrder (sym regs_now) ordered) distinct.1
-    (all-each (λ (d : Comp). (same_text key d.key ≡ false) × IsUngoverned s d.key) (λ (d : Comp). IsUngoverned n d.key) (λ d h. reentry_free s key d.key h.0 h.1) cs
-    (all-both (λ (d : Comp). same_text key d.key ≡ false) (λ (d : Comp). IsUngoverned s d.key) cs distinct.0 free.1)) then_has in
-    record {
-      shows = rest.shows;
-      clock_kept = rest.clock_kept ∙ ap (λ (y : Written). y.clock) same ∙ clock-entered v w key new;
-      catalogue_kept = rest.catalogue_kept ∙ ap (λ (y : Written). y.catalogue) same ∙ catalogue-entered v w key new;
-      rows = λ q. rest.rows q ∙ ap (λ (y : Written). is_some (at_name y.rows q) || enters_among q cs) same ∙ rows-entered v w key new q (enters_among q cs);
-      lists = λ q. rest.lists q ∙ lists_now q;
-    }
-  where
-    owned : (g : Option Text) → IfSome g (λ id. is_subject s (entered (situation s) c.key (ungoverned free.0.row)).plan id ≡ true)
-        → ((q : Text) → is_subject s (entered (situation s) c.key (ungoverned free.0.row)).plan q ≡ true → is_some (at_name w.lists q) ≡ true) → IfSome g (λ id. is_some (at_name w.lists id) ≡ true)
-    owned None h f = tt
-    owned (Some id) h f = f id h
-
-    others : (s : State) (key other : Text) → same_text key other ≡ false → row_of (reenter s key (row_of s key)) other ≡ row_of s other
-    others s key other apart = by (row_of s key)
-      where
-        by : (w : Option Row) → row_of (reenter s key w) other ≡ row_of s other
-        by None = refl
-        by (Some row) = row_put s key (entered (situation s) key (ungoverned row)) other ∙ ap (λ b. if b then Some (entered (situation s) key (ungoverned row)) else row_of s other) apart
+    → Shows v w s → AreInOrder s.rows → AreInOrder s.regs → AreThere s cs → Entries clock rs v w s cs
+entries clock rs v w s [] at is shows sorted ordered there = record { shows = shows; clock_kept = refl; catalogue_kept = refl; rows = λ q. or_none _; lists = λ q. or_none _ }
+entries clock rs v w s (c ∷ cs) at is shows sorted ordered there =
+    let n : State = reenter s c.key (row_of s c.key) in
+    let next : Written = with_reentry clock rs v w c.key (row_with v w c.key) in
+    let then_shows : Shows v next n = subst (λ x. Shows v x n) (λ i. with_reentry (at i) (is i) v w c.key (row_with v w c.key)) (reentry_shown v w s c.key shows sorted ordered) in
+    let regs_now : n.regs ≡ s.regs = reentry_regs s c.key in
+    entries_from clock rs v w s c cs at is shows ordered there.0
+    (entries clock rs v next n cs (reentry_clock s c.key ∙ at) (ap (λ q. map (λ (e : Text × Measure). regulation e.0 e.1) q) regs_now ∙ is) then_shows (reentry_sorted s c.key sorted)
+    (subst AreInOrder (sym regs_now) ordered)
+    (all-each (λ (d : Comp). is_some (row_of s d.key) ≡ true) (λ (d : Comp). is_some (row_of n d.key) ≡ true) (λ d h. there_stays s c.key d.key h) cs there.1))
 
 -- the rows of the change come in the order of their keys
-ordered-entered : (v : Sight) (w : Written) (key : Text) (new : Row) → AreInOrder w.rows → AreInOrder (with_entered v w key new).rows
-ordered-entered v w key new sorted = by new.governing
-  where
-    by : (g : Option Text) → AreInOrder (with_entered_by v w key new g).rows
-    by None = sorted-put key (Some new) w.rows sorted
-    by (Some id) = sorted-put key (Some new) w.rows sorted
-
 pub entries_ordered : (clock : ℕ) (rs : List Regulation) (v : Sight) (w : Written) (cs : List Comp) → AreInOrder w.rows → AreInOrder (with_entries clock rs v w cs).rows
 entries_ordered clock rs v w [] sorted = sorted
 entries_ordered clock rs v w (c ∷ cs) sorted = entries_ordered clock rs v (with_reentry clock rs v w c.key (row_with v w c.key)) cs (by (row_with v w c.key))
   where
     by : (o : Option Row) → AreInOrder (with_reentry clock rs v w c.key o).rows
     by None = sorted
-    by (Some row) = ordered-entered v w c.key (entered (situation_with clock rs v w) c.key (ungoverned row)) sorted
+    by (Some row) = sorted-put c.key (Some (entered (situation_with clock rs v w) c.key (ungoverned row))) w.rows sorted
 
 -- a catalogue that is written afterwards might have been written before
-catalogue-after : (v : Sight) (w : Written) (key : Text) (new : Row) (c : Option (List Regulation))
-    → with_entered v (record w { catalogue = c }) key new ≡ record (with_entered v w key new) { catalogue = c }
-catalogue-after v w key new c = by new.governing
-  where
-    by : (g : Option Text) → with_entered_by v (record w { catalogue = c }) key new g ≡ record (with_entered_by v w key new g) { catalogue = c }
-    by None = refl
-    by (Some id) = refl
-
 pub entries_catalogue : (clock : ℕ) (rs : List Regulation) (v : Sight) (w : Written) (c : Option (List Regulation)) (cs : List Comp)
     → with_entries clock rs v (record w { catalogue = c }) cs ≡ record (with_entries clock rs v w cs) { catalogue = c }
 entries_catalogue clock rs v w c [] = refl
@@ -156,4 +148,4 @@ entries_catalogue clock rs v w c (d ∷ cs) =
   where
     by : (o : Option Row) → with_reentry clock rs v (record w { catalogue = c }) d.key o ≡ record (with_reentry clock rs v w d.key o) { catalogue = c }
     by None = refl
-    by (Some row) = catalogue-after v w d.key (entered (situation_with clock rs v w) d.key (ungoverned row)) c
+    by (Some row) = refl

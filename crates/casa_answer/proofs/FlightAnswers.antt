@@ -27,7 +27,8 @@ use Rattle.casa_answer.specs.Sight.{Sight, Written, says, nothing_written, IsAns
 use Rattle.casa_answer.specs.OneFlight.{entry_offer, with_offer, offered_delay, flight_told, flight_written, ctot_shown_if, told}
 use Rattle.casa_answer.specs.FlightCalls.{refusal, unchanged, rewritten}
 use Rattle.casa_answer.proofs.FlightOffers.{offer_found, Finds, entry_same, entered_is, entered_delay}
-use Rattle.casa_answer.proofs.FlightLists.{Rewrites, is_over_in, has_written, change_is}
+use Rattle.casa_answer.proofs.FlightLists.{Rewrites, has_written, change_is}
+use Rattle.casa_answer.proofs.Written.{is_over_in}
 
 -- the reply to a call that writes the row of one flight
 told_one : (m : State) (key : Text) (row : Row) (delay : ℕ) → IsGood m → delay_of (with_row m key row) key row ≡ delay

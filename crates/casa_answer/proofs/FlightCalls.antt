@@ -32,7 +32,8 @@ use Rattle.casa_answer.specs.Told.{ctot_by}
 use Rattle.casa_answer.specs.FlightCalls.{unchanged, taking, taking_if, filed, amended, cancelled, revised, exempted, exempted_if, shown, is_taken}
 use Rattle.casa_answer.specs.FlightCalls as planned
 use Rattle.casa_answer.proofs.FlightOffers.{offer_found, Finds, entry_same, entered_is, entered_delay}
-use Rattle.casa_answer.proofs.FlightLists.{Rewrites, set_row, is_over_in, has_written, change_is}
+use Rattle.casa_answer.proofs.FlightLists.{Rewrites, has_written, change_is}
+use Rattle.casa_answer.proofs.Written.{set_row, is_over_in}
 use Rattle.casa_answer.proofs.FlightAnswers.{ShowsLists, refused_answer, row_answer, entering_answer, led_change, governing_there, unchanged_answer, plan_kept}
 
 clock_is : (v : Sight) (m : State) (call : Call) → IsSightOf m call v → reads m call the_clock ≡ true → clock_in v ≡ m.clock

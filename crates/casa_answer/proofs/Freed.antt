@@ -8,13 +8,12 @@ use Rattle.casa_flight.specs.declared.row.Stance.{Stance}
 use Rattle.casa_flight.specs.declared.comp.Comp.{Comp}
 use Rattle.casa_flight.specs.declared.state.State.{State}
 use Rattle.casa_flight.specs.Text.{Text, same_text}
-use Rattle.casa_flight.specs.State.{row_of, measure_of, regulation, subject, is_governed_by, ungoverned}
+use Rattle.casa_flight.specs.State.{row_of, measure_of, regulation, subject, is_governed_by}
 use Rattle.casa_flight.specs.Listing.{listing, list_of, stance, stance_in, kept, in_order, is_before}
 use Rattle.casa_flight.specs.Steps.{freed, closed, flights_over}
 use Rattle.casa_flight.proofs.Entries.{apart, named, at-map, at-without_other}
 use Rattle.casa_answer.specs.Closing.{governed_comp}
 use Rattle.casa_answer.proofs.Naming.{other_text, forced_either}
-use Rattle.casa_answer.proofs.Entered.{IsUngoverned}
 
 -- what one regulation governs, no other governs
 governed_once : (id other : Text) (row : Row) → same_text id other ≡ false → is_governed_by id row ≡ true → is_governed_by other row ≡ false
@@ -45,14 +44,6 @@ list-closed m id other apart_is =
 
 pub row-closed : (m : State) (id key : Text) → row_of (closed m id) key ≡ option_map (λ (row : Row). freed (is_governed_by id row) row) (row_of m key)
 row-closed m id key = at-map (λ _ row. freed (is_governed_by id row) row) key m.rows
-
--- a freed flight is ungoverned
-pub freed_ungoverned : (m : State) (id key : Text) (row : Row) → row_of m key ≡ Some row → is_governed_by id row ≡ true → IsUngoverned (closed m id) key
-freed_ungoverned m id key row found governs = record {
-  row = ungoverned row;
-  found = row-closed m id key ∙ ap (option_map (λ (row : Row). freed (is_governed_by id row) row)) found ∙ ap (λ b. Some (freed b row)) governs;
-  free = refl;
-}
 
 -- the flights that a regulation governs are those that its list governs: no other row need be looked at
 pub governed_in_list : (id : Text) (measure : Measure) (rows : List (Text × Row))

@@ -3,7 +3,8 @@ pub mod Board
 pub mod Over
 pub mod Messages
 pub mod Naming
-pub mod Puts
+pub mod Stances
+pub mod Written
 pub mod Crossings
 pub mod FlightOffers
 pub mod FlightLists
@@ -14,11 +15,9 @@ pub mod Entries
 pub mod Among
 pub mod Opens
 pub mod NewRates
-pub mod IssuedEach
-pub mod AtOnce
+pub mod Issued
 pub mod Ticks
 pub mod Listed
-pub mod Shared
 pub mod Freed
 pub mod Closes
 pub mod Newcomers

@@ -1,9 +1,8 @@
 -- the answer to a regulation that opens
-use Rattle.std.proofs.Common.{◌≡◌, ℕ, List, [], ◌∷◌, map, length, Bool, true, false, refl, sym, ap, subst, ◌∙◌, Option, None, Some, is_some, if◌then◌else◌, unwrap_or, nat_le}
+use Rattle.std.proofs.Common.{◌≡◌, ℕ, List, [], ◌∷◌, map, length, Bool, true, false, refl, sym, ap, subst, ◌∙◌, ◌||◌, Option, None, Some, is_some, if◌then◌else◌, unwrap_or, nat_le}
 use Rattle.std.specs.Option.{option_map, option_map_or}
 use Rattle.std.specs.List.{AllByRecursion, cons_option}
 use Rattle.std.specs.List.Sorted.{IsStrictlySortedBy}
-use Rattle.std.proofs.lemmas.Bool.{both_ways}
 use Rattle.casa_grid.specs.declared.period.Period.{Period}
 use Rattle.casa_flight.specs.declared.call.Call.{Call}
 use Rattle.casa_flight.specs.declared.call.Call.TheVariants.{OpenReg}
@@ -18,18 +17,17 @@ use Rattle.casa_flight.specs.declared.row.Stance.{Stance}
 use Rattle.casa_flight.specs.declared.row.Stance.TheVariants.{Forced}
 use Rattle.casa_flight.specs.declared.state.State.{State}
 use Rattle.casa_flight.specs.Text.{Text, same_text, at_name, put}
-use Rattle.casa_flight.specs.State.{row_of, measure_of, regulation, catalogue, subject, is_exempt, is_gone, is_governed_by}
+use Rattle.casa_flight.specs.State.{row_of, measure_of, regulation, catalogue, subject, is_governed_by}
 use Rattle.casa_flight.specs.Listing.{Listing, listing, list_of, stance, stance_in, kept}
 use Rattle.casa_flight.specs.Entry.{enter_all}
 use Rattle.casa_flight.specs.Steps.{most_regulations, flights_over, may_compete, open_regulation, leads, step, after}
 use Rattle.casa_flight.specs.Good.{AreInOrder, IsGood, IsGoverned}
 use Rattle.casa_flight.proofs.Entries.{text_cmp, same_name, apart, named, all-each, each_found, at-put_same, at-put_other, sorted-put}
 use Rattle.casa_laws.proofs.EnterAll.{regs-enter_all, all-flights_over}
-use Rattle.casa_laws.proofs.RegMessages.{competes}
 use Rattle.casa_laws.proofs.GoodRegs.{next-good}
 use Rattle.casa_laws.proofs.ChangeMessages.{StaysOpen, governed_by}
 use Rattle.casa_footprint.specs.Items.{moment, regulations}
-use Rattle.casa_footprint.specs.Footprint.{is_subject}
+use Rattle.casa_footprint.specs.Footprint.{is_subject, is_list_of}
 use Rattle.std.specs.declared.cmp.Ordering.TheVariants.{Less, Equal, Greater}
 use Rattle.std.specs.Ordering.{is_eq, match_ordering}
 use Rattle.casa_answer.specs.Sight.{Sight, Written, nothing_written, IsSightOf, IsAnswer, IsPlanned, clock_in, regulations_in}
@@ -42,9 +40,8 @@ use Rattle.std.proofs.lemmas.List.{length-map}
 use Rattle.casa_answer.proofs.Changes.{refusal, acceptance, at-put_by}
 use Rattle.casa_answer.proofs.Board.{Shows, says_shown}
 use Rattle.casa_answer.proofs.Messages.{messages_are}
-use Rattle.casa_answer.proofs.Entered.{IsUngoverned}
-use Rattle.casa_answer.proofs.Entries.{HasLists, Entries, entries, entries_ordered}
-use Rattle.casa_answer.proofs.Among.{among_over, distinct_over}
+use Rattle.casa_answer.proofs.Entries.{lists_among, AreThere, Entries, entries, entries_ordered}
+use Rattle.casa_answer.proofs.Among.{among_over}
 use Rattle.casa_answer.proofs.NewRates.{measure_none, measure_some}
 
 -- a regulation that is not open governs nobody
@@ -101,7 +98,7 @@ opens : (m : State) (id loc : Text) (profile : List Period) (v : Sight) → IsGo
 unfolding IsStrictlySortedBy
 opens m id loc profile v good is absent room =
     let all : Entries m.clock rs v begin started cs =
-    entries m.clock rs v begin started cs refl (sym new) begun good.rows_in_order (sorted-put id measure m.regs good.regs_in_order) (distinct_over (may_compete m.clock) r m.rows good.rows_in_order) free has in
+    entries m.clock rs v begin started cs refl (sym new) begun good.rows_in_order (sorted-put id measure m.regs good.regs_in_order) there in
     let shows : Shows v w n = all.shows in
     let regs : n.regs ≡ put m.regs id measure = regs-enter_all started cs in
     let stepped : step m call ≡ leads n = ap (λ (w : Option Measure). open_regulation m id measure w (nat_le most_regulations (length m.regs))) absent ∙ ap (open_regulation m id measure None) room in
@@ -114,7 +111,7 @@ opens m id loc profile v good is absent room =
     (says_shown m call v w n shows (ap (option_map moment) all.clock_kept)
     (ap (option_map regulations) all.catalogue_kept ∙ ap (λ q. Some (regulations q)) (new ∙ sym (ap (map (λ (e : Text × Measure). regulation e.0 e.1)) regs)))
     (λ q. all.rows q ∙ among_over (may_compete m.clock) r q m.rows good.rows_in_order)
-    (λ q. all.lists q ∙ ap is_some (at-put_by q id (Some list) []) ∙ some_if (same_text id q))))
+    (λ q. all.lists q ∙ ap (λ b. b || lists_among started q cs) (ap is_some (at-put_by q id (Some list) []) ∙ some_if (same_text id q)) ∙ its_own q (same_text id q) refl)))
   where
     measure : Measure
     measure = record { loc = loc; profile = profile }
@@ -199,23 +196,25 @@ opens m id loc profile v good is absent room =
           ] refl);
     }
 
-    free : AllByRecursion (λ (c : Comp). IsUngoverned started c.key) cs
-    free = all-flights_over (IsUngoverned started) (may_compete m.clock) r m.rows
-        (all-each (λ (e : Text × Row). row_of m e.0 ≡ Some e.1) (λ (e : Text × Row). may_compete m.clock e.1 ≡ true → is_some (subject e.1.plan r) ≡ true → IsUngoverned started e.0)
-        (λ e f a b. record { row = e.1; found = f; free = (competes (is_exempt e.1) (is_gone m.clock e.1.plan) e.1.governing a).2 }) m.rows found)
+    there : AreThere started cs
+    there = all-flights_over (λ (key : Text). is_some (row_of started key) ≡ true) (may_compete m.clock) r m.rows
+        (all-each (λ (e : Text × Row). row_of m e.0 ≡ Some e.1) (λ (e : Text × Row). may_compete m.clock e.1 ≡ true → is_some (subject e.1.plan r) ≡ true → is_some (row_of started e.0) ≡ true)
+        (λ e f a b. ap is_some f) m.rows found)
 
-    own : (key : Text) (row : Row) → row_of m key ≡ Some row → may_compete m.clock row ≡ true → (q : Text) → is_subject started row.plan q ≡ true → is_some (at_name begin.lists q) ≡ true
-    own key row f a q sub =
-        ap is_some (at-put_by q id (Some list) []) ∙ some_if (same_text id q) ∙
-        (elim (same_text id q) as (λ b. same_text id q ≡ b → b ≡ true) [
-          | true ↦ λ h. refl
-          | false ↦ λ h. absurd (both_ways _ (ap (λ (w : Option Measure). option_map_or (λ (y : Measure). is_some (subject row.plan (regulation q y))) w false) (measures q h) ∙ subject_to_none m key row q good f a) sub)
-        ] refl)
+    -- what may compete is subject to nothing that was open
+    no_other : (q : Text) → same_text id q ≡ false → AllByRecursion (λ (c : Comp). is_list_of started c.key q ≡ false) cs
+    no_other q h = all-flights_over (λ (key : Text). is_list_of started key q ≡ false) (may_compete m.clock) r m.rows
+        (all-each (λ (e : Text × Row). row_of m e.0 ≡ Some e.1) (λ (e : Text × Row). may_compete m.clock e.1 ≡ true → is_some (subject e.1.plan r) ≡ true → is_list_of started e.0 q ≡ false)
+        (λ e f a b. ap (λ (o : Option Row). option_map_or (λ (row : Row). is_subject started row.plan q) o false) f
+        ∙ ap (λ (w : Option Measure). option_map_or (λ (y : Measure). is_some (subject e.1.plan (regulation q y))) w false) (measures q h) ∙ subject_to_none m e.0 e.1 q good f a) m.rows found)
 
-    has : AllByRecursion (λ (c : Comp). HasLists started begin c.key) cs
-    has = all-flights_over (HasLists started begin) (may_compete m.clock) r m.rows
-        (all-each (λ (e : Text × Row). row_of m e.0 ≡ Some e.1) (λ (e : Text × Row). may_compete m.clock e.1 ≡ true → is_some (subject e.1.plan r) ≡ true → HasLists started begin e.0)
-        (λ e f a b row there q sub. let both : Some e.1 ≡ Some row = sym f ∙ there in let same : e.1 ≡ row = cc in own e.0 e.1 f a q (subst (λ (x : Row). is_subject started x.plan q ≡ true) (sym same) sub)) m.rows found)
+    none_of : (q : Text) (ds : List Comp) → AllByRecursion (λ (c : Comp). is_list_of started c.key q ≡ false) ds → lists_among started q ds ≡ false
+    none_of q [] h = refl
+    none_of q (d ∷ ds) h = ap (λ b. b || lists_among started q ds) h.0 ∙ none_of q ds h.1
+
+    its_own : (q : Text) (b : Bool) → same_text id q ≡ b → (b || lists_among started q cs) ≡ b
+    its_own q true h = refl
+    its_own q false h = none_of q cs (no_other q h)
 
 pub open_planned : (v : Sight) (id loc : Text) (profile : List Period) → IsPlanned v (OpenReg id loc profile) (open_reg v id loc profile)
 open_planned v id loc profile m good is = by (v.list id) (nat_le most_regulations (length (regulations_in v))) refl refl

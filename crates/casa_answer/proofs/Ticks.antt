@@ -1,9 +1,8 @@
 -- the clock moves
-use Rattle.std.proofs.Common.{◌≡◌, ℕ, List, [], ◌∷◌, Bool, true, false, not, refl, sym, ap, subst, ◌∙◌, ◌&&◌, ◌||◌, Option, None, Some, IfSome, is_some, nat_lt, unwrap_or}
-use Rattle.std.specs.Option.{option_map, option_map_or, option_and_then}
+use Rattle.std.proofs.Common.{◌≡◌, ℕ, List, [], ◌∷◌, Bool, true, false, not, refl, sym, ap, subst, ◌∙◌, ◌&&◌, ◌||◌, Option, None, Some, is_some, nat_lt, unwrap_or}
+use Rattle.std.specs.Option.{option_map, option_map_or}
 use Rattle.std.specs.List.{AllByRecursion, list_any, cons_option}
 use Rattle.std.specs.List.Sorted.{IsStrictlySortedBy}
-use Rattle.casa_grid.specs.Profile.{IsProfile}
 use Rattle.casa_flight.specs.declared.call.Call.TheVariants.{Tick}
 use Rattle.casa_flight.specs.declared.call.Refusal.TheVariants.{BackInTime}
 use Rattle.casa_flight.specs.declared.reply.Answer.TheVariants.{Done}
@@ -12,78 +11,50 @@ use Rattle.casa_flight.specs.declared.row.Row.{Row}
 use Rattle.casa_flight.specs.declared.state.State.{State}
 use Rattle.casa_flight.specs.Text.{Text, at_name}
 use Rattle.casa_flight.specs.State.{row_of, is_governed_by, is_due}
-use Rattle.casa_flight.specs.Listing.{Listing, listing}
 use Rattle.casa_flight.specs.Entry.{is_to_issue, issue_if, issue_due}
 use Rattle.casa_flight.specs.Steps.{tick as step_tick}
 use Rattle.casa_flight.specs.Good.{AreInOrder, IsGood, IsGoverned}
-use Rattle.casa_flight.proofs.Entries.{text_cmp, sorted-put, all-each, all-both, all-filter_map, each_found, keys-map}
+use Rattle.casa_flight.proofs.Entries.{text_cmp, sorted-put, all-each, all-filter_map, each_found, keys-map}
 use Rattle.casa_laws.proofs.InOrder.{all-always}
 use Rattle.casa_laws.proofs.ChangeMessages.{governed_by}
 use Rattle.casa_footprint.specs.Items.{moment, regulations}
 use Rattle.casa_footprint.specs.Finding.{due_keys}
-use Rattle.casa_answer.specs.Sight.{Sight, Written, nothing_written, clock_in, IsSightOf, IsAnswer, IsPlanned, list_with}
+use Rattle.casa_answer.specs.Sight.{Sight, Written, nothing_written, clock_in, IsSightOf, IsAnswer, IsPlanned}
 use Rattle.casa_answer.specs.Told.{messages_shown}
-use Rattle.casa_answer.specs.Issue.{with_issue_in, with_issue_at, with_issue_of, with_issue, with_issues, clock_written, ticked, tick_if, tick, IsValidAt, AreValid}
+use Rattle.casa_answer.specs.Issue.{issued_row, with_issued_row, with_issue, with_issues, clock_written, ticked, tick_if, tick}
 use Rattle.casa_answer.proofs.Changes.{refusal, acceptance}
 use Rattle.casa_answer.proofs.Board.{Shows, says_shown}
 use Rattle.casa_answer.proofs.Messages.{messages_are}
-use Rattle.casa_answer.proofs.IssuedEach.{Waits, Issues, issues, issue_each, AllWait, governs_among}
-use Rattle.casa_answer.proofs.AtOnce.{key_if, at_once, among_due, due_rising}
+use Rattle.casa_answer.proofs.Issued.{IsHeld, Issues, issues, issue_each, governs_among, key_if, at_once, among_due, due_rising}
 
 -- the rows of a change stay in the order of their keys
-issue_ordered : (v : Sight) (w : Written) (key : Text) → AreInOrder w.rows → AreInOrder (with_issue v w key).rows
-issue_ordered v w key sorted = of_row (v.row key)
-  where
-    in_list : (row : Row) (id : Text) (l : Option Listing) → AreInOrder (option_map_or (with_issue_in w key row id) l w).rows
-    in_list row id None = sorted
-    in_list row id (Some l) = sorted-put key _ w.rows sorted
-
-    at : (row : Row) (id : Option Text) → AreInOrder (option_map_or (with_issue_at v w key row) id w).rows
-    at row None = sorted
-    at row (Some id) = in_list row id (list_with v w id)
-
-    of_row : (row : Option Row) → AreInOrder (option_map_or (with_issue_of v w key) row w).rows
-    of_row None = sorted
-    of_row (Some row) = at row row.governing
-
 pub issues_ordered : (v : Sight) (w : Written) (keys : List Text) → AreInOrder w.rows → AreInOrder (with_issues v w keys).rows
 issues_ordered v w [] sorted = sorted
-issues_ordered v w (key ∷ keys) sorted = issues_ordered v (with_issue v w key) keys (issue_ordered v w key sorted)
-
--- a governed flight that is due and not issued waits for its issue
-waits_governed : (m : State) (at : ℕ) (v : Sight) (key : Text) (row : Row) → IsGood m → IsSightOf m (Tick at) v → row_of m key ≡ Some row → (g : Option Text) → row.governing ≡ g → (i : Option ℕ) → row.issued ≡ i
-    → (is_some g && (not (is_some i) && is_due at row.plan)) ≡ true → IsValidAt v key → Waits (record m { clock = at }) key
-waits_governed m at v key row good is found None governs i issued h valid = cc
-waits_governed m at v key row good is found (Some id) governs (Some t) issued h valid = cc
-waits_governed m at v key row good is found (Some id) governs None issued h valid =
-    let g : IsGoverned m.clock m.regs row id = governed_by m key row id good found governs in
-    let row_seen : v.row key ≡ Some row = is.row key refl ∙ found in
-    let list_seen : v.list id ≡ Some (listing m.rows id g.measure) = is.list id refl ∙ ap (option_map (listing m.rows id)) g.is_open in
-    let governing : option_and_then v.list (option_and_then (λ (r : Row). r.governing) (v.row key)) ≡ Some (listing m.rows id g.measure) =
-    ap (λ (o : Option Row). option_and_then v.list (option_and_then (λ (r : Row). r.governing) o)) row_seen ∙ ap (option_and_then v.list) governs ∙ list_seen in
-    record {
-      row = row;
-      found = found;
-      id = id;
-      governs = governs;
-      waiting = issued;
-      measure = g.measure;
-      opened = g.is_open;
-      valid = subst (λ (o : Option Listing). IfSome o (λ (l : Listing). IsProfile l.profile)) governing valid;
-      eto = g.eto;
-      over = g.is_subject;
-    }
-
-due_wait : (m : State) (at : ℕ) (v : Sight) → IsGood m → IsSightOf m (Tick at) v → AllByRecursion (λ k. IsValidAt v k → Waits (record m { clock = at }) k) (due_keys at m.rows)
-due_wait m at v good is =
-    all-filter_map (λ (e : Text × Row). row_of m e.0 ≡ Some e.1) (λ k. IsValidAt v k → Waits (record m { clock = at }) k) (λ (e : Text × Row). key_if (is_to_issue at e.1) e.0)
-    (λ e k found h. by e k found (is_to_issue at e.1) refl h) m.rows (each_found m.rows good.rows_in_order)
+issues_ordered v w (key ∷ keys) sorted = issues_ordered v (with_issue v w key) keys (by (v.row key))
   where
-    by : (e : Text × Row) (k : Text) → row_of m e.0 ≡ Some e.1 → (b : Bool) → is_to_issue at e.1 ≡ b → key_if b e.0 ≡ Some k → IsValidAt v k → Waits (record m { clock = at }) k
-    by e k found false due h = cc
-    by e k found true due h =
-        let same : e.0 ≡ k = cc in
-        subst (λ q. IsValidAt v q → Waits (record m { clock = at }) q) same (waits_governed m at v e.0 e.1 good is found e.1.governing refl e.1.issued refl due)
+    by : (row : Option Row) → AreInOrder (option_map_or (λ (row : Row). with_issued_row v w key (issued_row v key row)) row w).rows
+    by None = sorted
+    by (Some row) = sorted-put key (Some (issued_row v key row)) w.rows sorted
+
+-- a flight that is due is governed
+due_held : (m : State) (at : ℕ) → IsGood m → AllByRecursion (IsHeld (record m { clock = at })) (due_keys at m.rows)
+due_held m at good =
+    all-filter_map (λ (e : Text × Row). row_of m e.0 ≡ Some e.1) (IsHeld (record m { clock = at })) (λ (e : Text × Row). key_if (is_to_issue at e.1) e.0)
+    (λ e k found h. by e k found e.1.governing refl h) m.rows (each_found m.rows good.rows_in_order)
+  where
+    held : (e : Text × Row) (id : Text) → row_of m e.0 ≡ Some e.1 → e.1.governing ≡ Some id → IsHeld (record m { clock = at }) e.0
+    held e id found governs =
+        let g : IsGoverned m.clock m.regs e.1 id = governed_by m e.0 e.1 id good found governs in
+        record { row = e.1; found = found; id = id; governs = governs; measure = g.measure; opened = g.is_open; eto = g.eto; over = g.is_subject }
+
+    same_key : (e : Text × Row) (k : Text) (b : Bool) → IsHeld (record m { clock = at }) e.0 → key_if b e.0 ≡ Some k → IsHeld (record m { clock = at }) k
+    same_key e k true x h = let same : e.0 ≡ k = cc in subst (IsHeld (record m { clock = at })) same x
+    same_key e k false x h = cc
+
+    by : (e : Text × Row) (k : Text) → row_of m e.0 ≡ Some e.1 → (g : Option Text) → e.1.governing ≡ g → key_if (is_to_issue at e.1) e.0 ≡ Some k → IsHeld (record m { clock = at }) k
+    by e k found None governs h =
+        let none : None ≡ Some k = sym (ap (λ (w : Option Text). key_if (is_some w && (not (is_some e.1.issued) && is_due at e.1.plan)) e.0) governs) ∙ h in cc
+    by e k found (Some id) governs h = same_key e k (is_to_issue at e.1) (held e id found governs) h
 
 -- whose list is written
 due_governed : (v : Sight) (at : ℕ) (id : Text) (rows : List (Text × Row)) → AllByRecursion (λ (e : Text × Row). v.row e.0 ≡ Some e.1) rows
@@ -95,9 +66,9 @@ due_governed v at id (e ∷ es) found = by (is_to_issue at e.1) ∙ ap (λ b. (i
     by true = ap (λ (w : Option Row). option_map_or (is_governed_by id) w false || governs_among v id (due_keys at es)) found.0
     by false = refl
 
-ticks : (m : State) (at : ℕ) (v : Sight) → IsGood m → IsSightOf m (Tick at) v → nat_lt at m.clock ≡ false → AllByRecursion (IsValidAt v) (due_keys at v.rows) → IsAnswer m (Tick at) (tick_if v at false)
+ticks : (m : State) (at : ℕ) (v : Sight) → IsGood m → IsSightOf m (Tick at) v → nat_lt at m.clock ≡ false → IsAnswer m (Tick at) (tick_if v at false)
 unfolding IsStrictlySortedBy
-ticks m at v good is back valid =
+ticks m at v good is back =
     let start : State = record m { clock = at } in
     let n : State = issue_due start in
     let keys : List Text = due_keys at v.rows in
@@ -107,12 +78,10 @@ ticks m at v good is back valid =
     let same_keys : due_keys at m.rows ≡ keys = ap (due_keys at) (sym rows) in
     let before : Shows v nothing_written m = record { rows = λ q. is.row q refl; lists = λ q. is.list q refl } in
     let begun : Shows v (clock_written at) start = record { rows = λ q. is.row q refl; lists = λ q. is.list q refl } in
-    let wait : AllByRecursion (Waits start) keys =
-    all-each (λ k. (IsValidAt v k → Waits start k) × IsValidAt v k) (Waits start) (λ k h. h.0 h.1) keys
-    (all-both (λ k. IsValidAt v k → Waits start k) (IsValidAt v) keys (subst (AllByRecursion (λ k. IsValidAt v k → Waits start k)) same_keys (due_wait m at v good is)) valid) in
-    let all : Issues v (clock_written at) start keys =
-    issues v (clock_written at) start keys begun good.rows_in_order (due_rising at v.rows ordered) (all-always (λ (k : Text). None ≡ None) (λ k. refl) keys) wait in
-    let ends : issue_each start keys ≡ n = ap (issue_each start) (sym same_keys) ∙ at_once start good.rows_in_order (subst (AllWait start) (sym same_keys) all.waits) in
+    let held : AllByRecursion (IsHeld start) keys = subst (AllByRecursion (IsHeld start)) same_keys (due_held m at good) in
+    let all : Issues v (clock_written at) start start keys =
+    issues v (clock_written at) start start keys (record { rows = λ q. is.row q refl; lists = λ q. is.list q refl }) good.rows_in_order begun good.rows_in_order refl (due_rising at v.rows ordered) (all-always (λ (k : Text). row_of m k ≡ row_of m k) (λ k. refl) keys) held in
+    let ends : issue_each start start keys ≡ n = ap (issue_each start start) (sym same_keys) ∙ at_once start good.rows_in_order (subst (AllByRecursion (IsHeld start)) (sym same_keys) held) in
     let shows : Shows v w n = subst (Shows v w) ends all.shows in
     let sorted : AreInOrder n.rows = subst (IsStrictlySortedBy text_cmp) (sym (keys-map (λ (e : Text × Row). issue_if (is_to_issue at e.1) start e.0 e.1) m.rows)) good.rows_in_order in
     let told = messages_are m n v w good sorted (issues_ordered v (clock_written at) keys tt) before shows (λ key id row none found governs a opened. (a, opened, refl)) in
@@ -125,12 +94,12 @@ ticks m at v good is back valid =
     found : (q : Text) → v.rows ≡ m.rows → v.row q ≡ at_name v.rows q
     found q rows = is.row q refl ∙ ap (λ (es : List (Text × Row)). at_name es q) (sym rows)
 
-pub tick_planned : (v : Sight) (at : ℕ) → AreValid v at → IsPlanned v (Tick at) (tick v at)
-tick_planned v at valid m good is = by (nat_lt at (clock_in v)) refl
+pub tick_planned : (v : Sight) (at : ℕ) → IsPlanned v (Tick at) (tick v at)
+tick_planned v at m good is = by (nat_lt at (clock_in v)) refl
   where
     clock : clock_in v ≡ m.clock
     clock = ap (λ (o : Option ℕ). unwrap_or o 0) (is.clock refl)
 
     by : (b : Bool) → nat_lt at (clock_in v) ≡ b → IsAnswer m (Tick at) (tick_if v at b)
     by true h = refusal m (Tick at) BackInTime (ap (step_tick m at) (ap (nat_lt at) (sym clock) ∙ h))
-    by false h = ticks m at v good is (ap (nat_lt at) (sym clock) ∙ h) (valid h)
+    by false h = ticks m at v good is (ap (nat_lt at) (sym clock) ∙ h)

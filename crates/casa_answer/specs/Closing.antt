@@ -1,16 +1,15 @@
-use Rattle.std.specs.Prelude.{ℕ, List, [], map, Option, None, Some, is_some, if◌then◌else◌}
-use Rattle.std.specs.List.{filter_map, fold}
+use Rattle.std.specs.Prelude.{List, [], map, Option, None, Some}
+use Rattle.std.specs.List.{filter_map}
 use Rattle.casa_flight.specs.declared.call.Refusal.TheVariants.{NoRegulation}
 use Rattle.casa_flight.specs.declared.comp.Comp.{Comp}
 use Rattle.casa_flight.specs.declared.regulation.Regulation.{Regulation}
 use Rattle.casa_flight.specs.declared.reply.Reply.{Reply}
 use Rattle.casa_flight.specs.declared.row.Stance.{Stance}
 use Rattle.casa_flight.specs.declared.row.Stance.TheVariants.{Competing, Issued, Forced}
-use Rattle.casa_flight.specs.Text.{Text, at_name, put, without}
+use Rattle.casa_flight.specs.Text.{Text, put, without}
 use Rattle.casa_flight.specs.Listing.{Listing, in_order, is_before}
 use Rattle.casa_answer.specs.Sight.{Sight, Written, nothing_written, clock_in, regulations_in}
 use Rattle.casa_answer.specs.Told.{done}
-use Rattle.casa_answer.specs.OneFlight.{crossed_by}
 use Rattle.casa_answer.specs.FlightCalls.{refusal}
 use Rattle.casa_answer.specs.Enter.{with_entries}
 use Rattle.casa_footprint.specs.Finding.{by_id}
@@ -28,25 +27,13 @@ governed_comp key (Forced eto) = None
 abbrev pub governed_flights : Listing → List Comp
 governed_flights l = in_order is_before (filter_map (λ (e : Text × Stance). governed_comp e.0 e.1) l.flights)
 
--- these lists with another one, as it is shown, unless it is among them
-abbrev pub with_list : Sight → List (Text × Option Listing) → Text → List (Text × Option Listing)
-with_list v ls id = if is_some (at_name ls id) then ls else put ls id (v.list id)
+-- the catalogue without the regulation that closes, and its list
+abbrev pub closing : Text → List Regulation → Written
+closing id rs = record nothing_written { catalogue = Some rs; lists = put [] id None }
 
--- these lists with those of a flight, and so for each of these flights
-abbrev pub with_lists_of : Sight → List (Text × Option Listing) → List (Text × ℕ) → List (Text × Option Listing)
-with_lists_of v ls over = fold (λ (ls : List (Text × Option Listing)) (e : Text × ℕ). with_list v ls e.0) ls over
-
-abbrev pub with_lists : Sight → List Regulation → List (Text × Option Listing) → List Comp → List (Text × Option Listing)
-with_lists v rs ls cs =
-    fold (λ (ls : List (Text × Option Listing)) (c : Comp). with_lists_of v ls (crossed_by rs (v.row c.key))) ls cs
-
--- the catalogue without the regulation that closes, its list, and the lists of the flights that it governed
-abbrev pub closing : Sight → Text → List Regulation → List Comp → Written
-closing v id rs cs = record nothing_written { catalogue = Some rs; lists = with_lists v rs (put [] id None) cs }
-
--- and then these flights enter anew
+-- and then the flights that it governed enter anew
 abbrev pub closing_with : Sight → Text → List Regulation → List Comp → Written
-closing_with v id rs cs = with_entries (clock_in v) rs v (closing v id rs cs) cs
+closing_with v id rs cs = with_entries (clock_in v) rs v (closing id rs) cs
 
 abbrev pub after_closing : Sight → Text → Listing → Written
 after_closing v id l = closing_with v id (without_regulation id (regulations_in v)) (governed_flights l)

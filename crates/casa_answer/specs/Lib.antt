@@ -1,4 +1,5 @@
 pub mod Sight
+pub mod Write
 pub mod OneFlight
 pub mod FlightCalls
 pub mod Told

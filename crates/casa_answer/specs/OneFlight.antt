@@ -1,20 +1,19 @@
-use Rattle.std.specs.Prelude.{ℕ, ◌+◌, List, [], ◌∷◌, map, Bool, ◌||◌, Option, None, Some, is_some, if◌then◌else◌}
-use Rattle.std.specs.Option.{option_map, option_map_or}
-use Rattle.std.specs.List.{filter_map, fold, cons_option}
-use Rattle.casa_flight.specs.declared.regulation.Regulation.{Regulation}
+use Rattle.std.specs.Prelude.{ℕ, ◌+◌, List, [], Bool, ◌||◌, Option, None, Some, is_some, if◌then◌else◌}
+use Rattle.std.specs.Option.{option_map_or}
+use Rattle.std.specs.List.{filter_map, cons_option}
 use Rattle.casa_flight.specs.declared.reply.Answer.TheVariants.{Flight}
 use Rattle.casa_flight.specs.declared.reply.Reply.{Reply}
 use Rattle.casa_flight.specs.declared.reply.Reply.TheVariants.{Answered}
 use Rattle.casa_flight.specs.declared.row.Row.{Row}
-use Rattle.casa_flight.specs.declared.row.Stance.{Stance}
-use Rattle.casa_flight.specs.Text.{Text, at_name, put, without}
+use Rattle.casa_flight.specs.Text.{Text}
 use Rattle.casa_flight.specs.FlightPlan.{FlightPlan, etot}
-use Rattle.casa_flight.specs.State.{is_exempt, is_gone, is_governed_by}
-use Rattle.casa_flight.specs.Listing.{Listing, stance}
+use Rattle.casa_flight.specs.State.{is_exempt, is_gone}
+use Rattle.casa_flight.specs.Listing.{Listing}
 use Rattle.casa_flight.specs.Entry.{Offer, offer_in, most_penalising, governed}
 use Rattle.casa_flight.specs.Replies.{flight_with, message_of, is_issued}
 use Rattle.casa_footprint.specs.Finding.{crossed}
-use Rattle.casa_answer.specs.Sight.{Sight, Written, clock_in, regulations_in}
+use Rattle.casa_answer.specs.Sight.{Sight, Written, nothing_written, clock_in, regulations_in}
+use Rattle.casa_answer.specs.Write.{write_flight, stances}
 use Rattle.casa_answer.specs.Told.{ctot_by}
 
 -- what these regulations offer a flight with these times over, each by its list
@@ -37,53 +36,10 @@ with_offer clock row o = option_map_or (governed clock row) o row
 abbrev pub offered_delay : Option Offer → ℕ
 offered_delay o = option_map_or (λ (o : Offer). o.delay) o 0
 
--- the list with the flight standing so, or not at all
-abbrev pub with_flight : Listing → Text → Option Stance → Listing
-with_flight l key None = record l { flights = without l.flights key }
-with_flight l key (Some s) = record l { flights = put l.flights key s }
-
--- the list that is shown under an identifier, with the flight standing so or not at all
-abbrev pub relisted : Sight → Text → Text → Option Stance → Option Listing
-relisted v key id s = option_map (λ (l : Listing). with_flight l key s) (v.list id)
-
--- lists by their identifiers, each there or not, and how a flight is to stand in lists
-abbrev pub Lists : Type 0
-Lists = List (Text × Option Listing)
-
-abbrev pub Stances : Type 0
-Stances = List (Text × Option Stance)
-
--- these lists, and in their turn those in which the flight is to stand so or not at all
-abbrev pub put_lists : Sight → Text → Lists → Stances → Lists
-put_lists v key lists stances =
-    fold (λ (ls : Lists) (e : Text × Option Stance). put ls e.0 (relisted v key e.0 e.1)) lists stances
-
--- the regulations to which a flight is subject, with its time over, if there is a flight
-abbrev pub crossed_by : List Regulation → Option Row → List (Text × ℕ)
-crossed_by rs row = option_map_or (λ (f : Row). crossed f.plan rs) row []
-
--- a flight stands no longer in the lists that it had and has not now
-abbrev pub left : List (Text × ℕ) → List (Text × ℕ) → Stances
-left had has =
-    filter_map (λ (e : Text × ℕ). if is_some (at_name has e.0) then None else Some (e.0, None)) had
-
--- and it stands in each that it has as it is governed and issued
-abbrev pub standing : Option Row → List (Text × ℕ) → Stances
-standing None has = []
-standing (Some row) has =
-    map (λ (e : Text × ℕ). (e.0, Some (stance (is_governed_by e.0 row) row.issued e.1))) has
-
--- the lists of a flight that stood so and now stands so
-abbrev pub lists_after : Sight → Text → Option Row → Option Row → Lists
-lists_after v key was now =
-    let had : List (Text × ℕ) = crossed_by (regulations_in v) was in
-    let has : List (Text × ℕ) = crossed_by (regulations_in v) now in
-    put_lists v key (put_lists v key [] (left had has)) (standing now has)
-
 -- what is written where a flight stood so and now stands so: its row and its lists
 abbrev pub flight_written : Sight → Text → Option Row → Option Row → Written
 flight_written v key was now =
-    record { clock = None; catalogue = None; rows = (key, now) ∷ []; lists = lists_after v key was now }
+    write_flight v nothing_written key now (stances (regulations_in v) was now)
 
 -- the reply with this flight and its message, by whether it was issued before and its calculated take-off time then
 abbrev pub flight_told : Text → Row → ℕ → Bool → ℕ → Reply

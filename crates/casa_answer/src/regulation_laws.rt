@@ -6,7 +6,7 @@ ghost use Rattle.casa_flight.specs.declared.call.Call.{Call};
 ghost use Rattle.casa_flight.specs.Text.{Text};
 ghost use Rattle.casa_answer.specs.Sight.{Sight, IsPlanned};
 ghost use Rattle.casa_answer.specs.NewRates.{rates};
-ghost use Rattle.casa_answer.specs.Issue.{tick, AreValid};
+ghost use Rattle.casa_answer.specs.Issue.{tick};
 ghost use Rattle.casa_answer.specs.Look.{list};
 
 /// What is answered to new rates, by what a view shows, is the answer in every good state of which the view shows what
@@ -16,10 +16,9 @@ pub fn rates_is_planned()
         IsPlanned v (Call.Rates id profile) (rates v id profile) }
 {}
 
-/// And so is what is answered to the clock, where the lists in which it issues flights have valid profiles: issued one
-/// by one, each keeps the time that it had before all of them.
+/// And so is what is answered to the clock: each flight is issued at the time that it has before all of them.
 pub fn tick_is_planned()
-    ensures { (v : Sight) (at : ℕ) → AreValid v at → IsPlanned v (Call.Tick at) (tick v at) }
+    ensures { (v : Sight) (at : ℕ) → IsPlanned v (Call.Tick at) (tick v at) }
 {}
 
 /// And so is what is answered to the question for a list.

@@ -11,8 +11,3 @@ pub answered : (v : Sight) (call said : Call) (p : Reply × Written) (r : Result
 answered v call said p (Ok q) is same planned =
     subst (λ (c : Call). IsPlanned v c q) (sym is) (subst (λ (x : Reply × Written). IsPlanned v said x) (sym same) planned)
 answered v call said p (Err e) is same planned = tt
-
-pub answered_where : (v : Sight) (call said : Call) (p : Reply × Written) (r : Result (Reply × Written) AllocError) (P : Type 0)
-    → call ≡ said → IfOk r (λ (q : Reply × Written). q ≡ p) → OnOk r P → (P → IsPlanned v said p) → IfOk r (IsPlanned v call)
-answered_where v call said p (Ok q) P is same holds planned = answered v call said p (Ok q) is same (planned holds)
-answered_where v call said p (Err e) P is same holds planned = tt

@@ -7,7 +7,7 @@ use Rattle.casa_flight.specs.Listing.{Listing}
 use Rattle.casa_footprint.specs.Finding.{by_id}
 use Rattle.casa_answer.specs.Sight.{Sight, nothing_written, clock_in, regulations_in}
 use Rattle.casa_answer.specs.Enter.{with_entries}
-use Rattle.casa_answer.specs.Closing.{without_regulation, governed_flights, with_lists, closing, after_closing}
+use Rattle.casa_answer.specs.Closing.{without_regulation, governed_flights, closing, after_closing}
 use Rattle.casa_answer.proofs.Entries.{entries_catalogue}
 use Rattle.casa_answer.proofs.Opens.{values-by_id}
 
@@ -18,7 +18,7 @@ without_as all rs id h = sym (values-by_id all) ∙ ap (map (λ (e : Text × Reg
 -- the catalogue is written last
 pub closing_as : (v : Sight) (id : Text) (l : Listing) (clock : ℕ) (rs : List Regulation) (cs : List Comp)
     → clock ≡ clock_in v → rs ≡ without_regulation id (regulations_in v) → cs ≡ governed_flights l
-    → record (with_entries clock rs v (record nothing_written { lists = with_lists v rs (put [] id None) cs }) cs) { catalogue = Some rs } ≡ after_closing v id l
+    → record (with_entries clock rs v (record nothing_written { lists = put [] id None }) cs) { catalogue = Some rs } ≡ after_closing v id l
 closing_as v id l clock rs cs clock_is rs_is cs_is =
-    sym (entries_catalogue clock rs v (record nothing_written { lists = with_lists v rs (put [] id None) cs }) (Some rs) cs)
-    ∙ (λ i. with_entries (clock_is i) (rs_is i) v (closing v id (rs_is i) (cs_is i)) (cs_is i))
+    sym (entries_catalogue clock rs v (record nothing_written { lists = put [] id None }) (Some rs) cs)
+    ∙ (λ i. with_entries (clock_is i) (rs_is i) v (closing id (rs_is i)) (cs_is i))

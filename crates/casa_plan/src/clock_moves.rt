@@ -1,53 +1,57 @@
 //! The planner of the clock.
 
-ghost use Rattle.std.specs.Prelude.{◌≡◌, IfOk, IfSome, OnOk, option_copied};
-ghost use Rattle.std.specs.List.{AllByRecursion};
-ghost use Rattle.casa_grid.specs.Profile.{IsProfile};
-ghost use Rattle.casa_flight.specs.Listing.{Listing};
-ghost use Rattle.casa_answer.specs.Issue.{with_issue, with_issues, with_issue_at, tick, IsValidAt, AreValid};
+ghost use Rattle.std.specs.Prelude.{◌≡◌, IfOk, OnOk, option_copied};
+ghost use Rattle.std.specs.Option.{option_and_then};
+ghost use Rattle.casa_flight.specs.Listing.{Listing, cto_of};
+ghost use Rattle.casa_answer.specs.Write.{with_stances};
+ghost use Rattle.casa_answer.specs.Issue.{governed_stance, governed_stances, with_issue, with_issues, tick};
 ghost use Rattle.casa_plan.specs.Seen.{sight};
 
 use crate::draft::Draft;
 use crate::replies::{done, refused};
 use crate::sighted::clock;
-use casa_flight::{Key, Refusal, RegId, Reply, Row};
-use casa_list::{SharedList, SlotList};
+use crate::write::stand;
+use casa_flight::{Key, Refusal, Reply, Row, Stance};
+use casa_list::SlotList;
 use casa_time::Moment;
 use casa_view::{Version, View};
 use std::alloc::{AllocError, Global};
 
-/// The profile of a list is valid: this says so, and does nothing.
-fn valid_profile(list: Option<&SlotList>)
-    ensures { IfSome (option_copied list.entry) (λ (l : Listing). IsProfile l.profile) }
+/// The calculated time over that a flight has in the list that governs it, as the view shows that.
+fn time_shown<V: Version>(view: &View<V>, key: &Key, row: &Row) -> Option<Moment>
+    ensures { result ≡ option_and_then (λ (l : Listing). cto_of l key.now)
+        (option_and_then (sight V.item_of view.now).list row.now.governing) }
 {
-    if let Some(list) = list {
-        let _periods = list.grid().profile().periods();
-    }
+    let list = view.list(&row.governing?)?;
+    let stance = list.stance_of(key)?;
+    Some(list.cto_of(key).unwrap_or(stance.eto()))
 }
 
-/// Issues a flight in the list of the regulation that governs it, at the time that it has there. `AllocError` where
-/// there is no memory for the list.
-fn issue_at<V: Version>(
+/// How a flight with this row stands in a list that governs it, by the time over that it has there.
+fn governed_stance(list: Option<&SlotList>, key: &Key, row: &Row) -> Option<Stance>
+    ensures { result ≡ option_and_then (governed_stance key.now row.now) (option_copied list.entry) }
+{
+    let stance = list?.stance_of(key)?;
+    Some(Stance::of(true, row.issued, stance.eto()))
+}
+
+/// Has a flight stand as this row says in the list that governs it. `AllocError` where there is no memory for that.
+fn stand_governed<V: Version>(
     alloc: Global,
     view: &View<V>,
     draft: &mut Draft,
     key: Key,
     row: &Row,
-    id: RegId,
 ) -> Result<(), AllocError>
-    ensures { OnOk result (draft.new ≡ with_issue_at (sight V.item_of view.now) draft.old key row.now id) }
+    ensures { OnOk result (draft.new ≡ record draft.old {
+      lists = with_stances (sight V.item_of view.now) key draft.old.lists (governed_stances (sight V.item_of view.now) key row.now);
+    }) }
 {
-    if draft.list_with(view, &id).is_none() {
-        return Ok(());
-    }
-    draft.lists_in_order();
-    let Some(mut list) = draft.take_list(view, &id)? else {
+    let Some(id) = row.governing else {
         return Ok(());
     };
-    let mut row = row.clone()?;
-    row.issued = list.issue(&key);
-    draft.set_row(key, Some(row))?;
-    draft.set_list(id, Some(SharedList::new(alloc, list)?))
+    let stance = governed_stance(view.list(&id), &key, row);
+    stand(alloc, view, draft, key, id, stance)
 }
 
 /// Issues a flight. `AllocError` where there is no memory for that.
@@ -57,17 +61,15 @@ fn issue<V: Version>(
     draft: &mut Draft,
     key: Key,
 ) -> Result<(), AllocError>
-    ensures issued { OnOk result (draft.new ≡ with_issue (sight V.item_of view.now) draft.old key) }
-    ensures valid { OnOk result (IsValidAt (sight V.item_of view.now) key) }
+    ensures { OnOk result (draft.new ≡ with_issue (sight V.item_of view.now) draft.old key) }
 {
     let Some(row) = view.row(&key) else {
         return Ok(());
     };
-    let Some(id) = row.governing else {
-        return Ok(());
-    };
-    valid_profile(view.list(&id));
-    issue_at(alloc, view, draft, key, row, id)
+    let mut new = row.clone()?;
+    new.issued = time_shown(view, &key, row);
+    stand_governed(alloc, view, draft, key, &new)?;
+    draft.set_row(key, Some(new))
 }
 
 /// Issues these flights, one by one. `AllocError` where there is no memory for that.
@@ -77,8 +79,7 @@ fn issue_each<V: Version>(
     draft: &mut Draft,
     keys: &[Key],
 ) -> Result<(), AllocError>
-    ensures issued { OnOk result (draft.new ≡ with_issues (sight V.item_of view.now) draft.old keys.now) }
-    ensures valid { OnOk result (AllByRecursion (IsValidAt (sight V.item_of view.now)) keys.now) }
+    ensures { OnOk result (draft.new ≡ with_issues (sight V.item_of view.now) draft.old keys.now) }
 {
     for key in keys {
         issue(alloc, view, draft, *key)?;
@@ -93,8 +94,7 @@ pub(crate) fn tick<V: Version>(
     view: &View<V>,
     at: Moment,
 ) -> Result<(Reply, Draft), AllocError>
-    ensures answer { IfOk result (λ p. p ≡ tick (sight V.item_of view.now) at) }
-    ensures valid { OnOk result (AreValid (sight V.item_of view.now) at) }
+    ensures { IfOk result (λ p. p ≡ tick (sight V.item_of view.now) at) }
 {
     if at < clock(view) {
         return Ok(refused(alloc, Refusal::BackInTime));

@@ -5,21 +5,18 @@ ghost use Rattle.std.specs.List.{filter_map};
 ghost use Rattle.casa_flight.specs.declared.row.Stance.{Stance};
 ghost use Rattle.casa_flight.specs.Text.{Text};
 ghost use Rattle.casa_answer.specs.Sight.{regulations_in};
-ghost use Rattle.casa_answer.specs.OneFlight.{crossed_by};
 ghost use Rattle.casa_answer.specs.Closing.{without_regulation, governed_comp, governed_flights};
-ghost use Rattle.casa_answer.specs.Closing.{with_lists_of, with_lists, after_closing, close_reg};
+ghost use Rattle.casa_answer.specs.Closing.{after_closing, close_reg};
 ghost use Rattle.casa_plan.specs.Seen.{sight};
 
 use crate::draft::Draft;
 use crate::entering::enter_all;
-use crate::flight_lists::Crossings;
 use crate::replies::{done, refused};
 use crate::sighted::clock;
-use casa_flight::{Comp, Key, Refusal, RegId, Reply, Row, Stance, sort_comps};
+use casa_flight::{Comp, Key, Refusal, RegId, Reply, Stance, sort_comps};
 use casa_list::SlotList;
 use casa_view::{Catalogue, Version, View};
 use std::alloc::{AllocError, Global};
-use std::collections::BTreeMap;
 
 /// The catalogue of what a view shows, but for one regulation. `AllocError` where there is no memory for it.
 fn without_regulation<V: Version>(
@@ -59,58 +56,6 @@ fn governed_flights(alloc: Global, list: &SlotList) -> Result<Vec<Comp>, AllocEr
     Ok(comps)
 }
 
-/// The regulations of these to which a flight is subject that a view shows, with its times over. `AllocError` where there
-/// is no memory for them.
-fn crossed_by<V: Version>(
-    alloc: Global,
-    view: &View<V>,
-    catalogue: &Catalogue,
-    key: &Key,
-) -> Result<Crossings, AllocError>
-    ensures { IfOk result (λ over. over.entries ≡ crossed_by catalogue.now ((sight V.item_of view.now).row key.now)) }
-{
-    match view.row(key) {
-        Some(row) => catalogue.crossed(alloc, &row.plan),
-        None => Ok(BTreeMap::new(alloc)),
-    }
-}
-
-/// Writes the lists of these regulations as the view shows them, where they are not written. `AllocError` where there is no
-/// memory for them.
-fn share_lists<V: Version>(
-    view: &View<V>,
-    draft: &mut Draft,
-    over: &Crossings,
-) -> Result<(), AllocError>
-    ensures { OnOk result (draft.new ≡ record draft.old {
-      lists = with_lists_of (sight V.item_of view.now) draft.old.lists over.now.entries;
-    }) }
-{
-    for (id, _) in over {
-        draft.share_list(view, *id)?;
-    }
-    Ok(())
-}
-
-/// And so for each of these flights.
-fn share_all<V: Version>(
-    alloc: Global,
-    view: &View<V>,
-    draft: &mut Draft,
-    catalogue: &Catalogue,
-    comps: &[Comp],
-) -> Result<(), AllocError>
-    ensures { OnOk result (draft.new ≡ record draft.old {
-      lists = with_lists (sight V.item_of view.now) catalogue.now draft.old.lists comps.now;
-    }) }
-{
-    for comp in comps {
-        let over = crossed_by(alloc, view, catalogue, &comp.key)?;
-        share_lists(view, draft, &over)?;
-    }
-    Ok(())
-}
-
 /// What is written where a regulation closes, whose list this is, and its flights enter anew. `AllocError` where there is
 /// no memory for that.
 fn after_closing<V: Version>(
@@ -126,7 +71,6 @@ fn after_closing<V: Version>(
     let comps = comps.as_slice();
     let mut draft = Draft::new(alloc);
     draft.set_list(id, None)?;
-    share_all(alloc, view, &mut draft, &catalogue, comps)?;
     enter_all(alloc, view, &mut draft, clock(view), &catalogue, comps)?;
     draft.set_catalogue(catalogue);
     Ok(draft)

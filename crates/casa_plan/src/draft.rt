@@ -7,7 +7,6 @@ ghost use Rattle.casa_flight.specs.Good.{AreInOrder};
 ghost use Rattle.casa_footprint.specs.Items.{ItemName};
 ghost use Rattle.casa_view.specs.Board.{says};
 ghost use Rattle.casa_answer.specs.Sight.{nothing_written, row_with, list_with, says as says_of};
-ghost use Rattle.casa_answer.specs.Closing.{with_list};
 ghost use Rattle.casa_plan.specs.Seen.{sight};
 
 use casa_flight::{Key, RegId, Row};
@@ -119,34 +118,20 @@ impl Draft {
         }
     }
 
-    /// Takes out the list of a regulation as it is written, to be changed; a copy of what the view shows where it is not
-    /// written. `AllocError` where there is no memory for it.
-    pub fn take_list<V: Version>(
+    /// Takes out the list of a regulation as it is written; what the view shows where it is not written. `AllocError`
+    /// where it is shared too often to count.
+    pub fn take_shared<V: Version>(
         &mut self,
         view: &View<V>,
         id: &RegId,
-    ) -> Result<Option<SlotList>, AllocError>
+    ) -> Result<Option<SharedList>, AllocError>
         ensures list { IfOk result (λ list. list ≡ list_with (sight V.item_of view.now) self.old id.now) }
         ensures left { OnOk result (self.new ≡ record self.old { lists = without self.old.lists id.now }) }
     {
         if let Some(list) = self.lists.remove(id) {
-            return owned(list);
+            return Ok(list);
         }
-        copied(view.list(id))
-    }
-
-    /// Writes the list of a regulation as the view shows it, not copied, unless it is written. `AllocError` where there is
-    /// no memory for it.
-    pub fn share_list<V: Version>(&mut self, view: &View<V>, id: RegId) -> Result<(), AllocError>
-        ensures { OnOk result (self.new ≡ record self.old {
-          lists = with_list (sight V.item_of view.now) self.old.lists id;
-        }) }
-    {
-        if self.lists.contains_key(&id) {
-            return Ok(());
-        }
-        let list = shared(view.shared_list(&id))?;
-        self.set_list(id, list)
+        shared(view.shared_list(id))
     }
 
     /// The change that writes this. `AllocError` where there is no memory for it.
@@ -162,32 +147,12 @@ impl Draft {
     }
 }
 
-/// The list itself, if there is one. `AllocError` where it is shared and there is no memory for a copy.
-fn owned(list: Option<SharedList>) -> Result<Option<SlotList>, AllocError>
-    ensures { IfOk result (λ own. own ≡ list) }
-{
-    match list {
-        Some(list) => Ok(Some(list.into_list()?)),
-        None => Ok(None),
-    }
-}
-
 /// The same list, not copied, if there is one. `AllocError` where it is shared too often to count.
 fn shared(list: Option<&SharedList>) -> Result<Option<SharedList>, AllocError>
     ensures { IfOk result (λ same. same ≡ option_copied list.entry) }
 {
     match list {
         Some(list) => Ok(Some(list.share()?)),
-        None => Ok(None),
-    }
-}
-
-/// A copy of the list, if there is one. `AllocError` where there is no memory for it.
-fn copied(list: Option<&SlotList>) -> Result<Option<SlotList>, AllocError>
-    ensures { IfOk result (λ copy. copy ≡ option_copied list.entry) }
-{
-    match list {
-        Some(list) => Ok(Some(list.try_clone()?)),
         None => Ok(None),
     }
 }

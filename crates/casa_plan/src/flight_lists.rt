@@ -1,38 +1,21 @@
 //! The lists of one flight, as it comes, goes or stands otherwise.
 
-ghost use Rattle.std.specs.Prelude.{◌≡◌, [], ◌∷◌, true, Some, None, IfOk, OnOk, option_copied};
+ghost use Rattle.std.specs.Prelude.{◌≡◌, ℕ, true, Some, None, IfOk, OnOk, IfSome, if◌then◌else◌};
 ghost use Rattle.casa_flight.specs.Good.{AreInOrder};
 ghost use Rattle.casa_flight.specs.Listing.{stance_of};
-ghost use Rattle.casa_answer.specs.Sight.{regulations_in};
-ghost use Rattle.casa_answer.specs.OneFlight.{with_flight, put_lists, crossed_by, left, standing, flight_written};
-ghost use Rattle.casa_plan.specs.Seen.{sight};
+ghost use Rattle.casa_flight.specs.declared.row.Stance.{Stance};
+ghost use Rattle.casa_flight.specs.IssuedTimes.{with_issued};
+ghost use Rattle.casa_list.specs.Standings.{governed_place};
+ghost use Rattle.casa_answer.specs.Write.{with_flight};
 
-use crate::draft::Draft;
-use crate::sighted::crossed;
-use casa_flight::{Comp, Key, RegId, Row, Stance};
+use casa_flight::{Comp, Key, RegId, Stance};
 use casa_list::{SharedList, SlotList};
 use casa_time::Moment;
-use casa_view::{Version, View};
 use std::alloc::{AllocError, Global};
 use std::collections::BTreeMap;
 
 /// The regulations to which a flight is subject, by identifiers, with its times over.
 pub(crate) type Crossings = BTreeMap<RegId, Moment>;
-
-/// The regulations to which a flight is subject, if there is a flight. `AllocError` where there is no memory for them.
-fn crossed_by<V: Version>(
-    alloc: Global,
-    view: &View<V>,
-    row: Option<&Row>,
-) -> Result<Crossings, AllocError>
-    ensures { IfOk result (λ found.
-        found.entries ≡ crossed_by (regulations_in (sight V.item_of view.now)) (option_copied row.entry)) }
-{
-    match row {
-        Some(row) => crossed(alloc, view, &row.plan),
-        None => Ok(BTreeMap::new(alloc)),
-    }
-}
 
 /// Takes a flight out, however it stands, if it is there.
 pub(crate) fn take_out(list: &mut SlotList, key: &Key)
@@ -50,9 +33,24 @@ pub(crate) fn take_out(list: &mut SlotList, key: &Key)
     }
 }
 
-/// Puts a flight in that is not there. `AllocError` where there is no memory for it.
+/// Makes way for a flight that is to stand so: it is taken out, but where it is forced and to be governed, since it is freed
+/// as it enters.
+fn make_way(list: &mut SlotList, key: &Key, stance: &Stance)
+    ensures ungoverned { governed_place list.new key.now ≡ None }
+    ensures free { (eto : ℕ) → stance.now ≡ Stance.Forced eto → stance_of list.new key.now ≡ None }
+    ensures same { with_flight list.new key.now (Some stance.now) ≡ with_flight list.old key.now (Some stance.now) }
+{
+    match (list.stance_of(key), stance) {
+        (Some(Stance::Forced { .. }), Stance::Competing { .. } | Stance::Issued { .. }) => {}
+        _ => take_out(list, key),
+    }
+}
+
+/// Puts a flight in that the list does not govern, and that is not there where it is to be forced. `AllocError` where there
+/// is no memory for it.
 fn put_in(list: &mut SlotList, key: Key, stance: Stance) -> Result<(), AllocError>
-    requires { stance_of list.old key ≡ None }
+    requires ungoverned { governed_place list.old key ≡ None }
+    requires free { (eto : ℕ) → stance ≡ Stance.Forced eto → stance_of list.old key ≡ None }
     ensures { OnOk result (list.new ≡ with_flight list.old key (Some stance)) }
 {
     match stance {
@@ -65,17 +63,30 @@ fn put_in(list: &mut SlotList, key: Key, stance: Stance) -> Result<(), AllocErro
     Ok(())
 }
 
-/// A copy of the list with a flight standing so, or not at all. `AllocError` where there is no memory for it.
-fn copy_with(list: &SlotList, key: Key, stance: Option<Stance>) -> Result<SlotList, AllocError>
-    ensures { IfOk result (λ copy. copy ≡ with_flight list.now key stance) }
+/// How a competitor stands once it is issued at the time that it has; `None` of who is no competitor.
+fn once_issued(list: &SlotList, key: &Key) -> Option<Stance>
+    ensures { IfSome result (λ stance.
+        with_issued list.now key.now ≡ with_flight list.now key.now (Some stance)) }
 {
-    let mut copy = list.try_clone()?;
-    take_out(&mut copy, &key);
-    let Some(stance) = stance else {
-        return Ok(copy);
-    };
-    put_in(&mut copy, key, stance)?;
-    Ok(copy)
+    match list.stance_of(key)? {
+        Stance::Competing { eto } => Some(Stance::Issued {
+            eto,
+            cto: list.cto_of(key)?,
+        }),
+        _ => None,
+    }
+}
+
+/// Issues a competitor that is to stand so, if that is what it then comes to, and says whether: nobody moves.
+fn issued_in_place(list: &mut SlotList, key: &Key, stance: &Option<Stance>) -> bool
+    ensures { list.new ≡ (if result then with_flight list.old key.now stance.now else list.old) }
+{
+    let issued = once_issued(list, key);
+    if issued.is_none() || issued != *stance {
+        return false;
+    }
+    let _cto = list.issue(key);
+    true
 }
 
 /// Whether a flight stands in the list so already, or is not there.
@@ -86,109 +97,36 @@ fn stands_so(list: &SlotList, key: &Key, stance: Option<Stance>) -> bool
     list.stance_of(key) == stance
 }
 
-/// The list with a flight standing so, or not at all: the same one where it stands so already. `AllocError` where there
-/// is no memory for another.
-fn with_flight(
+/// The list with a flight standing so, or not at all. `AllocError` where there is no memory for it.
+fn with_stance(list: SlotList, key: Key, stance: Option<Stance>) -> Result<SlotList, AllocError>
+    ensures { IfOk result (λ new. new ≡ with_flight list key stance) }
+{
+    let mut list = list;
+    if issued_in_place(&mut list, &key, &stance) {
+        return Ok(list);
+    }
+    let Some(stance) = stance else {
+        take_out(&mut list, &key);
+        return Ok(list);
+    };
+    make_way(&mut list, &key, &stance);
+    put_in(&mut list, key, stance)?;
+    Ok(list)
+}
+
+/// The same, of a list that others may have: it is copied where they do, and is the same one where the flight stands so
+/// already. `AllocError` where there is no memory for another.
+pub(crate) fn with_flight(
     alloc: Global,
-    shared: &SharedList,
+    shared: SharedList,
     key: Key,
     stance: Option<Stance>,
 ) -> Result<SharedList, AllocError>
-    ensures { IfOk result (λ list. list ≡ with_flight shared.now key stance) }
+    ensures { IfOk result (λ list. list ≡ with_flight shared key stance) }
 {
-    let list = shared.list();
-    if stands_so(list, &key, stance) {
-        return shared.share();
+    if stands_so(shared.list(), &key, stance) {
+        return Ok(shared);
     }
-    SharedList::new(alloc, copy_with(list, key, stance)?)
-}
-
-/// Writes the list that a view shows under an identifier, with a flight standing so or not at all. `AllocError` where
-/// there is no memory for it.
-fn write_list<V: Version>(
-    alloc: Global,
-    draft: &mut Draft,
-    view: &View<V>,
-    key: Key,
-    id: RegId,
-    stance: Option<Stance>,
-) -> Result<(), AllocError>
-    ensures { OnOk result (draft.new ≡ record draft.old {
-      lists = put_lists (sight V.item_of view.now) key draft.old.lists ((id, stance) ∷ []);
-    }) }
-{
-    let list = match view.shared_list(&id) {
-        Some(list) => Some(with_flight(alloc, list, key, stance)?),
-        None => None,
-    };
-    draft.set_list(id, list)
-}
-
-/// Writes the lists that a flight leaves: it had them, and has them not now. `AllocError` where there is no memory for
-/// them.
-fn leave_lists<V: Version>(
-    alloc: Global,
-    draft: &mut Draft,
-    view: &View<V>,
-    key: Key,
-    had: &Crossings,
-    has: &Crossings,
-) -> Result<(), AllocError>
-    ensures { OnOk result (draft.new ≡ record draft.old {
-      lists = put_lists (sight V.item_of view.now) key draft.old.lists (left had.now.entries has.now.entries);
-    }) }
-{
-    for (id, _) in had {
-        if !has.contains_key(id) {
-            write_list(alloc, draft, view, key, *id, None)?;
-        }
-    }
-    Ok(())
-}
-
-/// Writes the lists that a flight has, if there is a flight, as it stands in each. `AllocError` where there is no memory
-/// for them.
-fn stand_in_lists<V: Version>(
-    alloc: Global,
-    draft: &mut Draft,
-    view: &View<V>,
-    key: Key,
-    now: Option<&Row>,
-    has: &Crossings,
-) -> Result<(), AllocError>
-    ensures { OnOk result (draft.new ≡ record draft.old {
-      lists = put_lists (sight V.item_of view.now) key draft.old.lists
-          (standing (option_copied now.entry) has.now.entries);
-    }) }
-{
-    let Some(row) = now else {
-        return Ok(());
-    };
-    for (id, eto) in has {
-        let stance = Stance::of(row.is_governed_by(*id), row.issued, *eto);
-        write_list(alloc, draft, view, key, *id, Some(stance))?;
-    }
-    Ok(())
-}
-
-/// What is written of a flight that stood so and now stands so, subject to these regulations: its row and its lists.
-/// `AllocError` where there is no memory for that.
-pub(crate) fn flight_written<V: Version>(
-    alloc: Global,
-    view: &View<V>,
-    key: Key,
-    was: Option<&Row>,
-    now: Option<Row>,
-    has: &Crossings,
-) -> Result<Draft, AllocError>
-    requires { has.now.entries ≡ crossed_by (regulations_in (sight V.item_of view.now)) now }
-    ensures { IfOk result (λ draft.
-        draft ≡ flight_written (sight V.item_of view.now) key (option_copied was.entry) now) }
-{
-    let had = crossed_by(alloc, view, was)?;
-    let mut draft = Draft::new(alloc);
-    leave_lists(alloc, &mut draft, view, key, &had, has)?;
-    stand_in_lists(alloc, &mut draft, view, key, now.as_ref(), has)?;
-    draft.set_row(key, now)?;
-    Ok(draft)
+    let list = with_stance(shared.into_list()?, key, stance)?;
+    SharedList::new(alloc, list)
 }

@@ -19,6 +19,7 @@ mod rooms;
 mod shown_list;
 mod sighted;
 mod telling;
+mod write;
 
 pub use laws::views_show_what_is_read;
 pub use planned::Planned;

@@ -1,18 +1,19 @@
 //! The planners of the calls on one flight.
 
-ghost use Rattle.std.specs.Prelude.{◌≡◌, ◌≤◌, IfOk, option_copied};
+ghost use Rattle.std.specs.Prelude.{◌≡◌, ◌≤◌, IfOk, option_copied, false};
 ghost use Rattle.casa_time.specs.Moment.{last_moment};
 ghost use Rattle.casa_footprint.specs.Finding.{crossed};
 ghost use Rattle.casa_answer.specs.Sight.{regulations_in};
-ghost use Rattle.casa_answer.specs.FlightCalls.{unchanged, rewritten, taking, entering, file, amend, cancel, is_taken, revise, exempt, show};
+ghost use Rattle.casa_answer.specs.FlightCalls.{unchanged, rewritten, taking, entering, file, amend, cancel, is_taken, revise, exempted_if, exempt, show};
 ghost use Rattle.casa_plan.specs.Seen.{sight};
 
 use crate::draft::Draft;
-use crate::flight_lists::{Crossings, flight_written};
+use crate::flight_lists::Crossings;
 use crate::offers::{entry_offer, offered_delay, with_offer};
 use crate::replies::refused;
 use crate::sighted::{clock, crossed};
 use crate::telling::{ctot_shown, delay_shown, told};
+use crate::write::flight_written;
 use casa_flight::{Answer, FlightReply, Key, Messages, Offer, Plan, Refusal, Reply, Row};
 use casa_view::{Version, View};
 use std::alloc::{AllocError, Global};
@@ -176,6 +177,19 @@ pub(crate) fn revise<V: Version>(
     }
 }
 
+/// A flight that is not exempt is marked and governed by nothing.
+fn exempted<V: Version>(
+    alloc: Global,
+    view: &View<V>,
+    key: Key,
+    row: &Row,
+) -> Result<(Reply, Draft), AllocError>
+    ensures { IfOk result (λ p. p ≡ exempted_if (sight V.item_of view.now) key row.now false) }
+{
+    let has = crossed(alloc, view, &row.plan)?;
+    rewritten(alloc, view, key, Some(row), row.exempted()?, 0, &has)
+}
+
 /// An exempted flight is marked and governed by nothing.
 pub(crate) fn exempt<V: Version>(
     alloc: Global,
@@ -190,8 +204,7 @@ pub(crate) fn exempt<V: Version>(
     if row.is_exempt() {
         return Ok(refused(alloc, Refusal::AlreadyExempt));
     }
-    let has = crossed(alloc, view, &row.plan)?;
-    rewritten(alloc, view, key, Some(row), row.exempted()?, 0, &has)
+    exempted(alloc, view, key, row)
 }
 
 /// A flight is shown as it stands.

@@ -4,7 +4,6 @@ use Rattle.casa_flight.specs.declared.regulation.Regulation.{Regulation}
 use Rattle.casa_flight.specs.Text.{Text, put}
 use Rattle.casa_answer.specs.Sight.{Sight, Written}
 use Rattle.casa_answer.specs.Enter.{with_entries}
-use Rattle.casa_answer.specs.Closing.{with_lists}
 use Rattle.casa_plan.specs.Seen.{sight}
 use Rattle.casa_plan.proofs.Closed.{closing_as}
 use Rattle.casa_plan.proofs.closing.after_closing.Goals as goal
@@ -14,12 +13,10 @@ returns g c =
     let v : Sight = sight g.V.Version.item_of c.args.view.now in
     let id : Text = c.args.id in
     let rs : List Regulation = c.in_ok-catalogue.catalogue in
-    let shared : Written → List Comp → Written = λ w cs. record w { lists = with_lists v rs w.lists cs } in
     c.set_catalogue.ensures
     ∙ ap (λ (w : Written). let x : Written = record w { catalogue = Some rs } in x)
     (c.in_ok-enter_all.ensures
     ∙ (λ i. with_entries c.clock.result rs v
-    ((c.in_ok-share_all.ensures
-    ∙ (λ j. shared ((c.in_ok-set_list.ensures ∙ ap (λ (w : Written). let x : Written = record w { lists = put w.lists id None } in x) c.new-draft.ensures) j) (c.as_slice-comps.ensures.value j))) i)
+    ((c.in_ok-set_list.ensures ∙ ap (λ (w : Written). let x : Written = record w { lists = put w.lists id None } in x) c.new-draft.ensures) i)
     (c.as_slice-comps.ensures.value i)))
     ∙ closing_as v id c.args.list.now c.clock.result rs c.in_ok-comps.comps.items c.clock.ensures c.in_ok-catalogue.ensures c.in_ok-comps.ensures

@@ -1,16 +1,31 @@
-use Rattle.std.proofs.Common.{ap, ◌∙◌}
+use Rattle.std.proofs.Common.{◌≡◌, ℕ, List, ◌++◌, ap, sym, ◌∙◌, Some}
 use Rattle.std.proofs.lemmas.Result.{on_ok_weaker}
-use Rattle.casa_flight.specs.Entry.{entered}
-use Rattle.casa_answer.specs.Sight.{Sight}
-use Rattle.casa_answer.specs.Enter.{situation_with, with_entered, with_reentry}
+use Rattle.casa_flight.specs.declared.row.Row.{Row}
+use Rattle.casa_flight.specs.Text.{Text}
+use Rattle.casa_flight.specs.FlightPlan.{FlightPlan}
+use Rattle.casa_flight.specs.State.{ungoverned}
+use Rattle.casa_flight.specs.Entry.{Situation, entered}
+use Rattle.casa_laws.proofs.EnterAll.{entered_plan}
+use Rattle.casa_footprint.specs.Finding.{crossed}
+use Rattle.casa_answer.specs.Sight.{Sight, Written}
+use Rattle.casa_answer.specs.Write.{left, standing, write_flight}
+use Rattle.casa_answer.specs.Enter.{situation_with, with_reentry}
 use Rattle.casa_plan.specs.Seen.{sight}
 use Rattle.casa_plan.proofs.entering.reenter.Goals as goal
 
 pub returns : goal.returns
 returns g c =
     let v : Sight = sight g.V.Version.item_of c.args.view.now in
-    on_ok_weaker c.write.result
+    let w : Written = c.args.draft.now in
+    let key : Text = c.args.key in
+    let s : Situation = situation_with c.args.clock c.args.catalogue.now v w in
+    let free : Row = ungoverned c.in-Some.row.now in
+    let new : Row = entered s key free in
+    let row_is : c.in_ok-row.row ≡ free = c.in_ok-row.ensures in
+    let new_is : c.in_ok-new.new ≡ new = c.in_ok-new.ensures ∙ ap (entered s key) row_is in
+    let over : c.in_ok-over.over.entries ≡ crossed free.plan c.args.catalogue.now = c.in_ok-over.ensures ∙ ap (λ (r : Row). crossed r.plan c.args.catalogue.now) row_is in
+    let over_now : c.in_ok-over.over.entries ≡ crossed new.plan c.args.catalogue.now = over ∙ ap (λ (p : FlightPlan). crossed p c.args.catalogue.now) (sym (entered_plan s key free)) in
+    on_ok_weaker c.write_flight.result
     (λ h. h
-    ∙ ap (with_entered v c.args.draft.now c.args.key)
-    (c.in_ok-new.ensures ∙ ap (entered (situation_with c.args.clock c.args.catalogue.now v c.args.draft.now) c.args.key) c.in_ok-row.ensures)
-    ∙ ap (with_reentry c.args.clock c.args.catalogue.now v c.args.draft.now c.args.key) c.in-Some.ensures) c.write.ensures
+    ∙ (λ i. write_flight v w key (Some (new_is i)) (left (over i) (over_now i) ++ standing (Some (new_is i)) (over_now i)))
+    ∙ ap (with_reentry c.args.clock c.args.catalogue.now v w key) c.in-Some.ensures) c.write_flight.ensures

@@ -3,7 +3,7 @@ use Rattle.casa_answer.specs.FlightCalls.{file, amend, cancel, revise, exempt, s
 use Rattle.casa_answer.specs.Opening.{open_reg}
 use Rattle.casa_answer.specs.Closing.{close_reg}
 use Rattle.casa_answer.specs.NewRates.{rates}
-use Rattle.casa_answer.specs.Issue.{tick, AreValid}
+use Rattle.casa_answer.specs.Issue.{tick}
 use Rattle.casa_answer.specs.Look.{list}
 use Rattle.casa_answer.proofs.FlightCalls.{file_planned, amend_planned, cancel_planned, revise_planned, exempt_planned, show_planned}
 use Rattle.casa_answer.proofs.Opens.{open_planned}
@@ -12,7 +12,7 @@ use Rattle.casa_answer.proofs.NewRates.{rates_planned}
 use Rattle.casa_answer.proofs.Ticks.{tick_planned}
 use Rattle.casa_answer.proofs.Listed.{list_planned}
 use Rattle.casa_plan.specs.Seen.{sight}
-use Rattle.casa_plan.proofs.Answered.{answered, answered_where}
+use Rattle.casa_plan.proofs.Answered.{answered}
 use Rattle.casa_plan.proofs.planning.planned.Goals as goal
 
 pub returns-in-File : goal.returns-in-File
@@ -58,8 +58,7 @@ returns-in-Rates g c =
 pub returns-in-Tick : goal.returns-in-Tick
 returns-in-Tick g c =
     let v = sight g.V.Version.item_of c.args.view.now in
-    answered_where v c.args.call.now (Tick c.in-Tick.at) (tick v c.in-Tick.at) c.tick.result (AreValid v c.in-Tick.at) c.in-Tick.is
-    c.tick.ensures.answer c.tick.ensures.valid (tick_planned v c.in-Tick.at)
+    answered v c.args.call.now (Tick c.in-Tick.at) (tick v c.in-Tick.at) c.tick.result c.in-Tick.is c.tick.ensures (tick_planned v c.in-Tick.at)
 
 pub returns-in-Show : goal.returns-in-Show
 returns-in-Show g c =

@@ -1,0 +1,17 @@
+use Rattle.std.proofs.Common.{◌≡◌, ◌∙◌, ℕ, ap, subst, IfOk, option_copied}
+use Rattle.casa_flight.specs.declared.reply.Reply.{Reply}
+use Rattle.casa_flight.specs.declared.row.Row.{Row}
+use Rattle.casa_answer.specs.Sight.{Sight, Written, clock_in}
+use Rattle.casa_answer.specs.OneFlight.{with_offer, offered_delay}
+use Rattle.casa_answer.specs.FlightCalls.{rewritten, taking}
+use Rattle.casa_plan.specs.Seen.{sight}
+use Rattle.casa_plan.proofs.one_flight.taking.Goals as goal
+
+pub returns : goal.returns
+returns g c =
+    let v : Sight = sight g.V.Version.item_of c.args.view.now in
+    let row_is : c.with_offer-row.result ≡ with_offer (clock_in v) c.args.row c.args.offer.now =
+    c.with_offer-row.ensures ∙ ap (λ (clock : ℕ). with_offer clock c.args.row c.args.offer.now) c.clock.ensures in
+    let delay_is : c.offered_delay.result ≡ offered_delay c.args.offer.now = c.offered_delay.ensures.value in
+    subst (λ (q : Reply × Written). IfOk c.rewritten.result (λ p. p ≡ q))
+    (λ i. rewritten v c.args.key (option_copied c.args.was) (row_is i) (delay_is i)) c.rewritten.ensures

@@ -1,0 +1,152 @@
+//! The one way in which a flight is written.
+
+ghost use Rattle.std.specs.Prelude.{◌≡◌, ◌++◌, [], ◌∷◌, IfOk, OnOk, option_copied};
+ghost use Rattle.std.specs.Option.{option_map};
+ghost use Rattle.casa_flight.specs.Listing.{Listing};
+ghost use Rattle.casa_answer.specs.Sight.{regulations_in};
+ghost use Rattle.casa_answer.specs.Write.{with_flight, with_stances, crossed_by, left, standing, write_flight};
+ghost use Rattle.casa_answer.specs.OneFlight.{flight_written};
+ghost use Rattle.casa_plan.specs.Seen.{sight};
+
+use crate::draft::Draft;
+use crate::flight_lists::{Crossings, with_flight};
+use crate::sighted::crossed;
+use casa_flight::{Key, RegId, Row, Stance};
+use casa_list::SharedList;
+use casa_view::{Version, View};
+use std::alloc::{AllocError, Global};
+use std::collections::BTreeMap;
+
+/// The list with a flight standing so, or not at all, if there is a list. `AllocError` where there is no memory for it.
+fn stood(
+    alloc: Global,
+    list: Option<SharedList>,
+    key: Key,
+    stance: Option<Stance>,
+) -> Result<Option<SharedList>, AllocError>
+    ensures { IfOk result (λ new. new ≡ option_map (λ (l : Listing). with_flight l key stance) list) }
+{
+    match list {
+        Some(list) => Ok(Some(with_flight(alloc, list, key, stance)?)),
+        None => Ok(None),
+    }
+}
+
+/// Has a flight stand so in a list, or not at all. `AllocError` where there is no memory for the list.
+pub(crate) fn stand<V: Version>(
+    alloc: Global,
+    view: &View<V>,
+    draft: &mut Draft,
+    key: Key,
+    id: RegId,
+    stance: Option<Stance>,
+) -> Result<(), AllocError>
+    ensures { OnOk result (draft.new ≡ record draft.old {
+      lists = with_stances (sight V.item_of view.now) key draft.old.lists ((id, stance) ∷ []);
+    }) }
+{
+    draft.lists_in_order();
+    let list = draft.take_shared(view, &id)?;
+    let list = stood(alloc, list, key, stance)?;
+    draft.set_list(id, list)
+}
+
+/// Has a flight stand no more in the lists that it had and has not now. `AllocError` where there is no memory for them.
+fn leave_lists<V: Version>(
+    alloc: Global,
+    view: &View<V>,
+    draft: &mut Draft,
+    key: Key,
+    had: &Crossings,
+    has: &Crossings,
+) -> Result<(), AllocError>
+    ensures { OnOk result (draft.new ≡ record draft.old {
+      lists = with_stances (sight V.item_of view.now) key draft.old.lists (left had.now.entries has.now.entries);
+    }) }
+{
+    for (id, _) in had {
+        if !has.contains_key(id) {
+            stand(alloc, view, draft, key, *id, None)?;
+        }
+    }
+    Ok(())
+}
+
+/// Has a flight stand in the lists that it has, if there is a flight, as its row says. `AllocError` where there is no memory
+/// for them.
+fn stand_in_lists<V: Version>(
+    alloc: Global,
+    view: &View<V>,
+    draft: &mut Draft,
+    key: Key,
+    now: Option<&Row>,
+    has: &Crossings,
+) -> Result<(), AllocError>
+    ensures { OnOk result (draft.new ≡ record draft.old {
+      lists = with_stances (sight V.item_of view.now) key draft.old.lists
+          (standing (option_copied now.entry) has.now.entries);
+    }) }
+{
+    let Some(row) = now else {
+        return Ok(());
+    };
+    for (id, eto) in has {
+        let stance = Stance::of(row.is_governed_by(*id), row.issued, *eto);
+        stand(alloc, view, draft, key, *id, Some(stance))?;
+    }
+    Ok(())
+}
+
+/// Writes a flight that crossed these regulations and crosses those: its row, or that there is none, and in each of their
+/// lists how it stands. `AllocError` where there is no memory for that.
+pub(crate) fn write_flight<V: Version>(
+    alloc: Global,
+    view: &View<V>,
+    draft: &mut Draft,
+    key: Key,
+    now: Option<Row>,
+    had: &Crossings,
+    has: &Crossings,
+) -> Result<(), AllocError>
+    ensures { OnOk result (draft.new ≡ write_flight (sight V.item_of view.now) draft.old key now
+        (left had.now.entries has.now.entries ++ standing now has.now.entries)) }
+{
+    leave_lists(alloc, view, draft, key, had, has)?;
+    stand_in_lists(alloc, view, draft, key, now.as_ref(), has)?;
+    draft.set_row(key, now)
+}
+
+/// The regulations to which a flight is subject, if there is a flight. `AllocError` where there is no memory for them.
+fn crossed_by<V: Version>(
+    alloc: Global,
+    view: &View<V>,
+    row: Option<&Row>,
+) -> Result<Crossings, AllocError>
+    ensures { IfOk result (λ found.
+        found.entries ≡ crossed_by (regulations_in (sight V.item_of view.now)) (option_copied row.entry)) }
+{
+    match row {
+        Some(row) => crossed(alloc, view, &row.plan),
+        None => Ok(BTreeMap::new(alloc)),
+    }
+}
+
+/// What is written of a flight that stood so and now stands so, subject to these regulations: its row and its lists.
+/// `AllocError` where there is no memory for that.
+pub(crate) fn flight_written<V: Version>(
+    alloc: Global,
+    view: &View<V>,
+    key: Key,
+    was: Option<&Row>,
+    now: Option<Row>,
+    has: &Crossings,
+) -> Result<Draft, AllocError>
+    requires { has.now.entries ≡ crossed_by (regulations_in (sight V.item_of view.now)) now }
+    ensures { IfOk result (λ draft.
+        draft ≡ flight_written (sight V.item_of view.now) key (option_copied was.entry) now) }
+{
+    let had = crossed_by(alloc, view, was)?;
+    let mut draft = Draft::new(alloc);
+    write_flight(alloc, view, &mut draft, key, now, &had, has)?;
+    Ok(draft)
+}
