@@ -1,5 +1,5 @@
 -- what a row of seats says of competitors and issued flights, once a seat is put into it or taken out
-use Rattle.std.proofs.Common.{◌≡◌, ℕ, ◌+◌, ◌<◌, ◌≤◌, List, length, map, take, drop, refl, sym, ◌∙◌, ap, subst, arith}
+use Rattle.std.proofs.Common.{◌≡◌, ℕ, ◌+◌, ◌<◌, ◌≤◌, List, length, drop, refl, sym, ◌∙◌, ap, subst, arith}
 use Rattle.std.specs.List.{All, insert, remove}
 use Rattle.std.proofs.lemmas.List.{length-take-le, length-drop, length-map}
 use Rattle.std.proofs.lemmas.List.Edits.{length-insert, length-remove}

@@ -1,18 +1,10 @@
 -- flights in their order, read in another way
-use Rattle.std.proofs.Common.{◌≡◌, ℕ, ◌+◌, List, [], ◌∷◌, ◌++◌, length, get_or, map, not, Bool, refl, sym, ◌∙◌, ap, subst, arith, cond, zero, suc, Option, Some, None, unwrap_or}
-use Rattle.std.specs.List.{All, cons_option, filter_map, fold, insert, remove, position, position_or_len}
+use Rattle.std.proofs.Common.{◌≡◌, ℕ, ◌+◌, List, [], ◌∷◌, length, map, not, Bool, refl, sym, ◌∙◌, ap, arith, cond, zero, suc, unwrap_or}
+use Rattle.std.specs.List.{All, fold, insert, remove, position, position_or_len}
 use Rattle.std.specs.List.Sorted.{IsSortedBy}
 use Rattle.std.proofs.lemmas.List.{length-map, get_or-map}
 use Rattle.std.proofs.lemmas.List.Elements.{All-nil, All-head, All-tail}
-use Rattle.casa_flight.specs.declared.comp.Comp.{Comp}
-use Rattle.casa_flight.specs.declared.comp.Assigned.{Assigned}
-use Rattle.casa_flight.specs.declared.row.Stance.{Stance}
-use Rattle.casa_flight.specs.declared.row.Stance.TheVariants.{Competing, Issued, Forced}
-use Rattle.casa_flight.specs.Text.{Text}
-use Rattle.casa_flight.specs.Listing.{in_order, is_before, put_by}
-use Rattle.casa_list.specs.declared.standing.Standing.{Standing}
-use Rattle.casa_list.specs.Governing.{issued_in, forced_in}
-use Rattle.casa_list.specs.Standings.{is_flight_before, index_in, forced_comp, forced_flight}
+use Rattle.casa_flight.specs.Listing.{in_order, put_by}
 use Rattle.casa_list.proofs.Ordered.{index_is}
 use Rattle.casa_list.proofs.Seated.{All-insert}
 
@@ -67,13 +59,3 @@ sorted_read {X} {Y} f before xs up =
     λ k d from lt.
     sym (λ j. before (get_or-map f xs (k + 1) d (f d) lt j) (get_or-map f xs k d (f d) (omega (arith, lt)) j))
     ∙ up k (f d) from (omega (arith, size, lt))
-
--- the forced flights among these
-forced_kind : (key : Text) (s : Stance) (fs : List (Comp × Standing)) (cs : List Comp) → fs ≡ map forced_in cs → cons_option (forced_flight key s) fs ≡ map forced_in (cons_option (forced_comp key s) cs)
-forced_kind key (Competing eto) fs cs e = e
-forced_kind key (Issued eto cto) fs cs e = e
-forced_kind key (Forced eto) fs cs e = ap (λ gs. forced_in (record { eto = eto; key = key }) ∷ gs) e
-
-pub forced_comps : (es : List (Text × Stance)) → filter_map (λ (e : Text × Stance). forced_flight e.0 e.1) es ≡ map forced_in (filter_map (λ (e : Text × Stance). forced_comp e.0 e.1) es)
-forced_comps [] = refl
-forced_comps (e ∷ es) = forced_kind e.0 e.1 (filter_map (λ (f : Text × Stance). forced_flight f.0 f.1) es) (filter_map (λ (f : Text × Stance). forced_comp f.0 f.1) es) (forced_comps es)

@@ -1,5 +1,5 @@
 -- a row in two parts, once an element is put into one of them or taken out
-use Rattle.std.proofs.Common.{◌≡◌, ℕ, ◌+◌, ◌<◌, ◌≤◌, List, [], ◌∷◌, ◌++◌, length, take, drop, map, refl, sym, ◌∙◌, ap, subst, arith, zero, suc, length-append, length-drop}
+use Rattle.std.proofs.Common.{◌≡◌, ℕ, ◌+◌, ◌<◌, ◌≤◌, List, [], ◌∷◌, length, take, drop, refl, sym, ◌∙◌, ap, arith, zero, suc}
 use Rattle.std.specs.List.{All, insert, remove}
 use Rattle.std.proofs.lemmas.List.Elements.{All-append, All-cons, All-take, All-drop}
 
@@ -52,7 +52,7 @@ drop-out_front m n i xs is lt in_all =
 pub take-put_behind : {X : Type 0} (n i : ℕ) (xs : List X) (x : X) → n ≤ length xs → take n (insert xs (n + i) x) ≡ take n xs
 take-put_behind zero i xs x le = refl
 take-put_behind (suc n) i [] x le = absurd (omega (arith, le))
-take-put_behind (suc n) i (y ∷ xs) x le = 
+take-put_behind (suc n) i (y ∷ xs) x le =
     let e : suc n + i ≡ suc (n + i) = omega arith in
     ap (λ k. take (suc n) (insert (y ∷ xs) k x)) e ∙ ap (λ ys. y ∷ ys) (take-put_behind n i xs x (omega (arith, le)))
 

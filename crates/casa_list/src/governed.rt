@@ -52,17 +52,6 @@ impl Model for Governed {
 }
 
 impl Governed {
-    /// No flights.
-    pub fn new(alloc: Global) -> Governed
-        ensures competitors { result.competitors ≡ [] }
-        ensures issued { result.issued ≡ [] }
-    {
-        Governed {
-            seats: Vec::new(alloc),
-            competitors: 0,
-        }
-    }
-
     /// The governed ones among these flights, the competitors with no places yet. `AllocError` where there is no memory
     /// for them.
     pub fn of(alloc: Global, flights: &Stances) -> Result<Governed, AllocError>
@@ -113,7 +102,8 @@ impl Governed {
         let issued = self.issued();
         let at = n - self.competitors;
         if at < issued.len() {
-            return Some(issued[at].held_entry());
+            let seat = issued[at];
+            return Some((*seat.comp(), Standing::Issued(seat.cto())));
         }
         None
     }

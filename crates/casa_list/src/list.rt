@@ -102,15 +102,7 @@ impl SlotList {
     pub fn new(alloc: Global, grid: Grid) -> Result<SlotList, AllocError>
         ensures { IfOk result (λ list. list ≡ record { profile = grid; flights = [] }) }
     {
-        let grid = SharedGrid::new(alloc, grid)?;
-        let blocked = counted(alloc, &grid, &[], 0)?;
-        Ok(SlotList {
-            grid,
-            flights: Stances::new(alloc),
-            governed: Governed::new(alloc),
-            forced: Vec::new(alloc),
-            blocked,
-        })
+        SlotList::of(alloc, grid, BTreeMap::new(alloc))
     }
 
     /// A list with these flights, or `AllocError` where there is no memory for it.

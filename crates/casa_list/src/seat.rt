@@ -6,7 +6,6 @@ ghost use Rattle.casa_list.specs.Seat.{number_of_place, place_of_number};
 ghost use Rattle.casa_list.specs.Walk.{IsWithin};
 ghost use Rattle.casa_list.specs.declared.standing.Standing.{Standing};
 
-use crate::standing::{Entry, Standing};
 use casa_flight::Comp;
 use casa_grid::Place;
 use casa_time::Moment;
@@ -86,13 +85,5 @@ impl Seat {
         ensures { result ≡ number_of_place self.now.place }
     {
         Moment::new(self.number).unwrap()
-    }
-
-    /// An issued flight as it stands.
-    pub fn held_entry(&self) -> Entry
-        requires { HoldsTime self.now }
-        ensures { result ≡ issued_in self.now }
-    {
-        (self.comp, Standing::Issued(self.cto()))
     }
 }

@@ -1,6 +1,11 @@
-use Rattle.std.proofs.Common.{◌≡◌, ◌∙◌, ◌∷◌, ◌++◌, [], Some, ap, sym, rules}
+use Rattle.std.proofs.Common.{◌≡◌, ◌∙◌, ◌∷◌, ◌++◌, [], Some, ap, sym, subst, rules}
+use Rattle.std.specs.List.{All}
+use Rattle.std.proofs.lemmas.List.Elements.{All-push}
+use Rattle.casa_flight.specs.declared.row.Stance.{Stance}
+use Rattle.casa_flight.specs.Text.{Text}
+use Rattle.casa_list.specs.Governing.{HoldsTime, issued_in}
 use Rattle.casa_list.specs.Standings.{issued_flight}
-use Rattle.casa_list.proofs.AtOnce.{issued_more, issued_same}
+use Rattle.casa_list.proofs.AtOnce.{kind_more, kind_same, not_issued}
 use Rattle.casa_list.proofs.fresh.issued_by_key.Goals as goal
 use Rattle.casa_list.proofs.fresh.issued_by_key.Goals.{in-Issued+in_ok-push, in_default}
 
@@ -9,11 +14,17 @@ loop-key-preserved c =
     let es = c.as_slice-key-items.result.now in
     let i = c.loop-key.key-index in
     let e = c.loop-key-item.result in
+    let xs = c.loop-key.all.items in
+    let ys = c.match-stance.all.items in
     elim c.match-stance.branch [
       | in-Issued+in_ok-push w ↦
-          let pushed : c.match-stance.all.items ≡ c.loop-key.all.items ++ w.held.result ∷ [] = search rules in
-          issued_more es i e c.loop-key.all.items c.match-stance.all.items w.held.result c.loop-key-test.true c.loop-key-item.is (ap (issued_flight e.0) w.in-Issued.is ∙ ap Some (sym w.held.ensures.issued)) w.held.ensures.time pushed c.loop-key.invariant
+          let pushed : ys ≡ xs ++ w.held.result ∷ [] = search rules in (
+            kind_more (λ (e : Text × Stance). issued_flight e.0 e.1) issued_in es i e xs ys w.held.result c.loop-key-test.true c.loop-key-item.is (ap (issued_flight e.0) w.in-Issued.is ∙ ap Some (sym w.held.ensures.issued)) pushed c.loop-key.invariant.0,
+            subst (All HoldsTime) (sym pushed) (All-push HoldsTime xs w.held.result c.loop-key.invariant.1 w.held.ensures.time),
+          )
       | in_default w ↦
-          let same : c.match-stance.all.items ≡ c.loop-key.all.items = search rules in
-          issued_same es i e c.loop-key.all.items c.match-stance.all.items c.loop-key-test.true c.loop-key-item.is w.in_default.not-Issued same c.loop-key.invariant
+          let same : ys ≡ xs = search rules in (
+            kind_same (λ (e : Text × Stance). issued_flight e.0 e.1) issued_in es i e xs ys c.loop-key-test.true c.loop-key-item.is (not_issued e.0 e.1 w.in_default.not-Issued) same c.loop-key.invariant.0,
+            subst (All HoldsTime) (sym same) c.loop-key.invariant.1,
+          )
     ]

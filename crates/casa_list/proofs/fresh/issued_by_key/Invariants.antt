@@ -1,6 +1,10 @@
-use Rattle.std.proofs.Common.{take}
-use Rattle.casa_list.proofs.AtOnce.{AreIssued}
+use Rattle.std.proofs.Common.{◌≡◌, map, take}
+use Rattle.std.specs.List.{All, filter_map}
+use Rattle.casa_flight.specs.declared.row.Stance.{Stance}
+use Rattle.casa_flight.specs.Text.{Text}
+use Rattle.casa_list.specs.Governing.{HoldsTime, issued_in}
+use Rattle.casa_list.specs.Standings.{issued_flight}
 use Rattle.casa_list.proofs.fresh.issued_by_key.Given as goal
 
 abbrev pub invariant-loop-key : goal.invariant-loop-key
-invariant-loop-key l = AreIssued (take l.key-index l.key-items) l.all.items
+invariant-loop-key l = (map issued_in l.all.items ≡ filter_map (λ (e : Text × Stance). issued_flight e.0 e.1) (take l.key-index l.key-items)) × All HoldsTime l.all.items

@@ -10,11 +10,11 @@ use Rattle.casa_list.proofs.fresh.issued_of.Goals as goal
 pub returns-clause-flights : goal.returns-clause-flights
 returns-clause-flights c =
     let all = c.in_ok-all.all.items in
-    let sorted : c.sort_issued.new.seats.items ≡ in_order assigned_before all = search rules in
+    let sorted : c.sort_seats.new.seats.items ≡ in_order assigned_before all = search rules in
     ap (map issued_in) sorted ∙ sym (in_order-map issued_in is_flight_before all) ∙ ap (in_order is_flight_before) c.in_ok-all.ensures.flights
 
 pub returns-clause-times : goal.returns-clause-times
 returns-clause-times c =
     let all = c.in_ok-all.all.items in
-    let sorted : c.sort_issued.new.seats.items ≡ in_order assigned_before all = search rules in
+    let sorted : c.sort_seats.new.seats.items ≡ in_order assigned_before all = search rules in
     subst (All HoldsTime) (sym sorted) (All-in_order HoldsTime assigned_before all c.in_ok-all.ensures.times)

@@ -1,4 +1,4 @@
-use Rattle.std.proofs.Common.{◌≡◌, ◌∙◌, ◌+◌, ◌≤◌, refl, ap, subst, sym, length, take, drop, map, rules, arith}
+use Rattle.std.proofs.Common.{◌≡◌, ◌∙◌, ◌+◌, ◌≤◌, refl, ap, take, drop, map, rules, arith}
 use Rattle.std.specs.List.{insert}
 use Rattle.casa_list.specs.Governing.{Governing, issued_in}
 use Rattle.casa_list.proofs.Governs.{many_first, governs_put}

@@ -1,11 +1,10 @@
-use Rattle.std.proofs.Common.{◌≡◌, ◌∙◌, ◌+◌, ◌≤◌, List, refl, ap, subst, sym, not, length, drop, map, unwrap_or, rules, arith}
-use Rattle.std.specs.List.{insert, position}
+use Rattle.std.proofs.Common.{◌≡◌, ◌∙◌, ◌+◌, ◌≤◌, List, ap, subst, sym, not, length, drop, map, rules, arith}
+use Rattle.std.specs.List.{insert}
 use Rattle.std.specs.List.Sorted.{IsSortedBy}
 use Rattle.std.proofs.lemmas.List.{length-map}
 use Rattle.casa_flight.specs.declared.comp.Comp.{Comp}
 use Rattle.casa_flight.specs.Listing.{is_before}
 use Rattle.casa_list.specs.declared.standing.Standing.{Standing}
-use Rattle.casa_list.specs.declared.standing.Standing.TheVariants.{Issued}
 use Rattle.casa_list.specs.Governing.{Governing, issued_in}
 use Rattle.casa_list.specs.Standings.{is_flight_before, index_in}
 use Rattle.casa_list.proofs.Governs.{many_behind, governs_put_behind}

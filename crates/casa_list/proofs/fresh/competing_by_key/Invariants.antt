@@ -1,0 +1,10 @@
+use Rattle.std.proofs.Common.{◌≡◌, take}
+use Rattle.std.specs.List.{filter_map}
+use Rattle.casa_flight.specs.declared.row.Stance.{Stance}
+use Rattle.casa_flight.specs.Text.{Text}
+use Rattle.casa_flight.specs.Listing.{competitor}
+use Rattle.casa_list.specs.Walk.{comps_in}
+use Rattle.casa_list.proofs.fresh.competing_by_key.Given as goal
+
+abbrev pub invariant-loop-key : goal.invariant-loop-key
+invariant-loop-key l = comps_in l.all.items ≡ filter_map (λ (e : Text × Stance). competitor e.0 e.1) (take l.key-index l.key-items)
