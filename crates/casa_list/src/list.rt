@@ -35,8 +35,8 @@ use std::marker::Model;
 ///
 /// Contracts see it as a regulation's profile and the stance of each flight, by keys; places follow from that.
 /// It keeps the competitors in their order with their places and the issued flights in theirs, in one row, the forced
-/// flights in theirs, and which slots issued flights block. Its flights are in the order of their keys: `grid`, `stance_of`,
-/// `governed` and `nth` say so, since the law `standings_name_each_flight_once` asks for it.
+/// flights in theirs, and which slots issued flights block. Its flights are in the order of their keys: `grid`,
+/// `stance_of`, `governed` and `nth` say so, since the law `standings_name_each_flight_once` asks for it.
 #[derive(Drop)]
 pub struct SlotList {
     grid: SharedGrid,
