@@ -1,5 +1,4 @@
 use Rattle.std.proofs.Common.{List, ap, ◌∙◌, None, Some}
-use Rattle.casa_flight.specs.declared.comp.Comp.{Comp}
 use Rattle.casa_flight.specs.declared.regulation.Regulation.{Regulation}
 use Rattle.casa_flight.specs.Text.{Text, put}
 use Rattle.casa_answer.specs.Sight.{Sight, Written}

@@ -1,7 +1,6 @@
 use Rattle.std.proofs.Common.{ap, refl}
 use Rattle.std.specs.Option.{option_and_then}
 use Rattle.casa_flight.specs.Text.{Text}
-use Rattle.casa_flight.specs.Listing.{Listing}
 use Rattle.casa_list.specs.Standings.{place_as}
 use Rattle.casa_plan.proofs.Standing.{absent_without, put_again}
 use Rattle.casa_plan.proofs.flight_lists.make_way.Goals as goal

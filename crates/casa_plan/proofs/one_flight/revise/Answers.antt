@@ -17,6 +17,6 @@ returns-then-is_taken g c =
     let taken : is_taken v key row offer ≡ true = sym c.is_taken.ensures ∙ c.if-is_taken.true in
     subst (λ (q : Reply × Written). IfOk c.taking.result (λ p. p ≡ q))
     (ap (λ (free : Row). taking v key (Some row) free offer) c.in_ok-free.ensures
-        ∙ ap (λ (b : Bool). taking_if b v key row offer) (sym taken)
-        ∙ ap (revised_by v key row) (c.in_ok-offer.ensures ∙ ap (entry_offer v key) c.in_ok-free.ensures)
-        ∙ ap (revised v key) c.in-Some.ensures) c.taking.ensures
+    ∙ ap (λ (b : Bool). taking_if b v key row offer) (sym taken)
+    ∙ ap (revised_by v key row) (c.in_ok-offer.ensures ∙ ap (entry_offer v key) c.in_ok-free.ensures)
+    ∙ ap (revised v key) c.in-Some.ensures) c.taking.ensures

@@ -1,9 +1,8 @@
 use Rattle.std.proofs.Common.{◌≡◌, ◌∙◌, ℕ, ap, subst, IfOk, option_copied}
 use Rattle.casa_flight.specs.declared.reply.Reply.{Reply}
-use Rattle.casa_flight.specs.declared.row.Row.{Row}
 use Rattle.casa_answer.specs.Sight.{Sight, Written, clock_in}
 use Rattle.casa_answer.specs.OneFlight.{with_offer, offered_delay}
-use Rattle.casa_answer.specs.FlightCalls.{rewritten, taking}
+use Rattle.casa_answer.specs.FlightCalls.{rewritten}
 use Rattle.casa_plan.specs.Seen.{sight}
 use Rattle.casa_plan.proofs.one_flight.taking.Goals as goal
 
