@@ -1,17 +1,12 @@
 -- a change, laid over what a view shows
-use Rattle.std.proofs.Common.{◌≡◌, List, Bool, true, false, refl, sym, ap, ◌∙◌, Option, None, Some, is_some, if◌then◌else◌, unwrap_or}
+use Rattle.std.proofs.Common.{◌≡◌, Bool, true, false, refl, ap, Option, None, Some, is_some, if◌then◌else◌, unwrap_or}
 use Rattle.std.specs.Option.{option_map}
 use Rattle.casa_flight.specs.declared.call.Call.{Call}
-use Rattle.casa_flight.specs.declared.regulation.Measure.{Measure}
 use Rattle.casa_flight.specs.declared.row.Row.{Row}
-use Rattle.casa_flight.specs.declared.row.Stance.{Stance}
 use Rattle.casa_flight.specs.declared.state.State.{State}
-use Rattle.casa_flight.specs.Text.{Text, same_text, at_name, put}
-use Rattle.casa_flight.specs.State.{row_of, measure_of, with_row}
-use Rattle.casa_flight.specs.Listing.{listing, list_of, stance_in}
-use Rattle.casa_flight.specs.Good.{AreInOrder}
-use Rattle.casa_laws.proofs.Kept.{set_at, kept-put}
-use Rattle.casa_laws.proofs.Competitors.{put_there}
+use Rattle.casa_flight.specs.Text.{Text, same_text, at_name}
+use Rattle.casa_flight.specs.State.{row_of, with_row}
+use Rattle.casa_flight.specs.Listing.{list_of}
 use Rattle.casa_footprint.specs.Items.{the_clock, the_catalogue, a_row, a_list, moment, regulations, row_or_none, list_or_none}
 use Rattle.casa_footprint.specs.Footprint.{would_write}
 use Rattle.casa_flight.specs.State.{catalogue}
@@ -42,22 +37,6 @@ says_shown m call v w n s clock catalogued rows lists the_clock = clock
 says_shown m call v w n s clock catalogued rows lists the_catalogue = catalogued
 says_shown m call v w n s clock catalogued rows lists (a_row key) = of_shown row_or_none (at_name w.rows key) (v.row key) (row_of n key) _ (rows key) (s.rows key)
 says_shown m call v w n s clock catalogued rows lists (a_list id) = of_shown list_or_none (at_name w.lists id) (v.list id) (list_of n id) _ (lists id) (s.lists id)
-
--- a list stays in which a written row stands as the one before it
-pub list_kept : (s : State) (key id : Text) (old new : Row) → AreInOrder s.rows → row_of s key ≡ Some old → ((measure : Measure) → measure_of s id ≡ Some measure → stance_in id measure new ≡ stance_in id measure old)
-    → list_of (with_row s key new) id ≡ list_of s id
-list_kept s key id old new sorted found same = by (measure_of s id) refl
-  where
-    by : (w : Option Measure) → measure_of s id ≡ w → option_map (listing (put s.rows key new) id) w ≡ option_map (listing s.rows id) w
-    by None e = refl
-    by (Some measure) e =
-        let f : Row → Option Stance = stance_in id measure in
-        let row : put s.rows key old ≡ s.rows = put_there key old s.rows sorted found in
-        let flights : set_at (kept_of measure) key (f new) ≡ set_at (kept_of measure) key (f old) = ap (set_at (kept_of measure) key) (same measure e) in
-        λ i. Some (record { profile = measure.profile; flights = (kept-put f key new s.rows sorted ∙ flights ∙ sym (kept-put f key old s.rows sorted) ∙ ap (λ rows. (listing rows id measure).flights) row) i })
-      where
-        kept_of : Measure → List (Text × Stance)
-        kept_of measure = (listing s.rows id measure).flights
 
 pub row_put : (s : State) (key : Text) (new : Row) (q : Text) → row_of (with_row s key new) q ≡ (if same_text key q then Some new else row_of s q)
 row_put s key new q = at-put_by q key new s.rows

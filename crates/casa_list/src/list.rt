@@ -6,7 +6,7 @@ ghost use Rattle.casa_grid.specs.Slots.{slots, window_of};
 ghost use Rattle.casa_flight.specs.declared.row.Stance.{Stance};
 ghost use Rattle.casa_flight.specs.Text.{Text, at_name, put, without, same_text};
 ghost use Rattle.casa_flight.specs.Assignment.{place_from};
-ghost use Rattle.casa_flight.specs.Listing.{place_of, cto_of, cto_as, stance, stance_of};
+ghost use Rattle.casa_flight.specs.Listing.{place_of, cto_of, cto_as, stance_of};
 ghost use Rattle.casa_flight.specs.Entry.{with_competitor};
 ghost use Rattle.casa_flight.specs.Good.{AreInOrder};
 ghost use Rattle.casa_list.specs.Walk.{IsWithin};
@@ -209,26 +209,6 @@ impl SlotList {
             cto_as (with_competitor self.now comp.now.key comp.now.eto) comp.now.key (Stance.Competing comp.now.eto) }
     {
         cto_at(&self.grid, comp.eto, self.would_get(comp))
-    }
-
-    /// Puts a flight in that the regulation governs from now on: issued at this calculated time over, or as a competitor
-    /// without one. It must not govern the flight yet; where that is forced, it is so no more.
-    ///
-    /// `AllocError` where there is no memory for the flight; the list is then as it was.
-    pub fn admit(&mut self, comp: Comp, issued: Option<Moment>) -> Result<(), AllocError>
-        requires { governed_place self.old comp.key ≡ None }
-        ensures admitted { OnOk result (self.new ≡ record self.old {
-          flights = put self.old.flights comp.key (stance true issued comp.eto);
-        }) }
-        ensures unchanged { OnErr result (self.new ≡ self.old) }
-    {
-        match issued {
-            Some(cto) => self.hold(comp, cto)?,
-            None => {
-                self.enter(comp)?;
-            }
-        }
-        Ok(())
     }
 
     /// Puts an issued flight in, with this calculated time over. The competitor that has its slot looks on from

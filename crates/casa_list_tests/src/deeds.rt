@@ -17,10 +17,6 @@ pub enum Deed {
     Enter,
     /// It is held, issued at the time of the step.
     Hold,
-    /// It is admitted.
-    Admit,
-    /// It is admitted, issued at the time of the step.
-    AdmitIssued,
     /// It is forced.
     Force,
     /// It is issued.
@@ -52,8 +48,6 @@ fn attempt(
         }
         (Deed::Enter, _) if is_new => return Ok((Some(list.enter(*comp)?), list.cto_of(&comp.key))),
         (Deed::Hold, Some(cto)) if is_new => list.hold(*comp, cto)?,
-        (Deed::Admit, _) if is_new => list.admit(*comp, None)?,
-        (Deed::AdmitIssued, _) if is_new => list.admit(*comp, time)?,
         (Deed::Force, _) if list.stance_of(&comp.key).is_none() => list.force(*comp)?,
         (Deed::Issue, _) => return Ok((list.place_of(&comp.key), list.issue(&comp.key))),
         (Deed::Leave, _) => return Ok((list.leave(&comp.key), None)),

@@ -1,6 +1,6 @@
 //! Slot lists.
 
-use crate::deeds::Deed::{Admit, AdmitIssued, Ask, Enter, Force, Hold, Issue, Leave, Read};
+use crate::deeds::Deed::{Ask, Enter, Force, Hold, Issue, Leave, Read};
 use crate::deeds::{Step, follow};
 use crate::parts::{comp, key, moment, period, profile};
 use casa_grid::Place::{Over, Slot};
@@ -40,26 +40,16 @@ const THREE_FLIGHTS: &[Step] = &[
 ];
 
 /// A flight that stands forced gets what it would get if it were not there.
-const ADMITTED: &[Step] = &[
+const FORCED_ENTERS: &[Step] = &[
     (Ask, "D", 36_000, Some(Slot(1)), Some(36_120)),
-    (Admit, "D", 36_000, Some(Slot(1)), Some(36_120)),
+    (Enter, "D", 36_000, Some(Slot(1)), Some(36_120)),
     (Read, "B", 36_005, Some(Slot(2)), Some(36_240)),
 ];
 
-/// The same flight admitted as issued, in B's slot, and one that was not there.
-const ADMITTED_AS_ISSUED: &[Step] = &[
-    (AdmitIssued, "D", 36_000, Some(Slot(1)), Some(36_130)),
+/// The same flight comes in issued, in B's slot.
+const FORCED_IS_HELD: &[Step] = &[
+    (Hold, "D", 36_000, Some(Slot(1)), Some(36_130)),
     (Read, "B", 36_005, Some(Slot(2)), Some(36_240)),
-    (Admit, "A", 36_250, Some(Slot(3)), Some(36_360)),
-];
-
-/// Three that are admitted.
-const ADMITTED_ALL: &[Step] = &[
-    (Admit, "D", 36_000, Some(Slot(1)), Some(36_120)),
-    (Admit, "E", 36_500, Some(Slot(4)), Some(36_500)),
-    (AdmitIssued, "F", 36_700, Some(Slot(6)), Some(36_740)),
-    (Read, "B", 36_005, Some(Slot(2)), Some(36_240)),
-    (Read, "E", 36_500, Some(Slot(4)), Some(36_500)),
 ];
 
 /// An issued flight leaves its slot free.
@@ -215,17 +205,14 @@ fn forced_flights_take_no_slot(rt: HostRuntime) {
     assert_eq!(&rt; (list.governed(), list.nth(2)), (2, None));
 }
 
-/// How many flights a list of three governs after these steps.
-fn governed_after(rt: &impl Abort, alloc: Global, steps: &[Step]) -> usize {
-    let mut list = three_flights(rt, alloc);
-    follow(rt, &mut list, steps);
-    list.governed()
-}
-
+/// Run also with each allocation refused in turn: a flight that stands forced stays so.
 #[test]
-fn forced_flights_are_admitted(rt: HostRuntime) {
-    assert_eq!(&rt; governed_after(&rt, rt.alloc(), ADMITTED), 3);
-    assert_eq!(&rt; governed_after(&rt, rt.alloc(), ADMITTED_AS_ISSUED), 4);
+fn a_refused_growth_leaves_a_flight_forced(rt: HostRuntime) {
+    for steps in [FORCED_ENTERS, FORCED_IS_HELD] {
+        let mut list = three_flights(&rt, rt.alloc());
+        follow(&rt, &mut list, steps);
+        assert_eq!(&rt; list.governed(), 3);
+    }
 }
 
 #[test]
@@ -287,12 +274,6 @@ fn a_refused_growth_leaves_the_flight_out(rt: HostRuntime) {
 fn a_refused_growth_copies_nothing(rt: HostRuntime) {
     let list = three_flights(&rt, rt.alloc());
     assert!(&rt; copy(&rt, &list) == list);
-}
-
-/// Likewise: a flight that stands forced stays so.
-#[test]
-fn a_refused_growth_admits_nobody(rt: HostRuntime) {
-    assert_eq!(&rt; governed_after(&rt, rt.alloc(), ADMITTED_ALL), 5);
 }
 
 /// Likewise.
