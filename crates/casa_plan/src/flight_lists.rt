@@ -17,12 +17,12 @@ use std::collections::BTreeMap;
 /// The regulations to which a flight is subject, by identifiers, with its times over.
 pub(crate) type Crossings = BTreeMap<RegId, Moment>;
 
-/// Takes a flight out, however it stands, if it is there.
-pub(crate) fn take_out(list: &mut SlotList, key: &Key)
-    ensures left { list.new ≡ with_flight list.old key.now None }
-    ensures ordered { AreInOrder list.old.flights }
+/// Takes a flight out, which stands in this way, if it is there.
+pub(crate) fn take_out(list: &mut SlotList, key: &Key, was: &Option<Stance>)
+    requires { stance_of list.old key.now ≡ was.now }
+    ensures { list.new ≡ with_flight list.old key.now None }
 {
-    match list.stance_of(key) {
+    match was {
         None => {}
         Some(Stance::Forced { .. }) => {
             let _forced = list.unforce(key);
@@ -33,16 +33,18 @@ pub(crate) fn take_out(list: &mut SlotList, key: &Key)
     }
 }
 
-/// Makes way for a flight that is to stand so: it is taken out, but where it is forced and to be governed, since it is freed
-/// as it enters.
-fn make_way(list: &mut SlotList, key: &Key, stance: &Stance)
+/// Makes way for a flight that stands in one way and is to stand in another: it is taken out, but where it is forced and
+/// to be governed, since it is freed as it enters.
+fn make_way(list: &mut SlotList, key: &Key, was: &Option<Stance>, stance: &Stance)
+    requires stands { stance_of list.old key.now ≡ was.now }
+    requires ordered { AreInOrder list.old.flights }
     ensures ungoverned { governed_place list.new key.now ≡ None }
     ensures free { (eto : ℕ) → stance.now ≡ Stance.Forced eto → stance_of list.new key.now ≡ None }
     ensures same { with_flight list.new key.now (Some stance.now) ≡ with_flight list.old key.now (Some stance.now) }
 {
-    match (list.stance_of(key), stance) {
+    match (was, stance) {
         (Some(Stance::Forced { .. }), Stance::Competing { .. } | Stance::Issued { .. }) => {}
-        _ => take_out(list, key),
+        _ => take_out(list, key, was),
     }
 }
 
@@ -63,25 +65,33 @@ fn put_in(list: &mut SlotList, key: Key, stance: Stance) -> Result<(), AllocErro
     Ok(())
 }
 
-/// How a competitor stands once it is issued at the time that it has; `None` of who is no competitor.
-fn once_issued(list: &SlotList, key: &Key) -> Option<Stance>
+/// How a flight that stands in one way stands once it is issued at the time that it has; `None` of who is no competitor.
+fn once_issued(list: &SlotList, key: &Key, was: &Option<Stance>) -> Option<Stance>
+    requires { stance_of list.now key.now ≡ was.now }
     ensures { IfSome result (λ stance.
         with_issued list.now key.now ≡ with_flight list.now key.now (Some stance)) }
 {
-    match list.stance_of(key)? {
-        Stance::Competing { eto } => Some(Stance::Issued {
-            eto,
+    match was {
+        Some(Stance::Competing { eto }) => Some(Stance::Issued {
+            eto: *eto,
             cto: list.cto_of(key)?,
         }),
         _ => None,
     }
 }
 
-/// Issues a competitor that is to stand so, if that is what it then comes to, and says whether: nobody moves.
-fn issued_in_place(list: &mut SlotList, key: &Key, stance: &Option<Stance>) -> bool
+/// Issues a flight that stands in one way and is to stand in another, if it competes and that is what it then comes to, and
+/// says whether: nobody moves.
+fn issued_in_place(
+    list: &mut SlotList,
+    key: &Key,
+    was: &Option<Stance>,
+    stance: &Option<Stance>,
+) -> bool
+    requires { stance_of list.old key.now ≡ was.now }
     ensures { list.new ≡ (if result then with_flight list.old key.now stance.now else list.old) }
 {
-    let issued = once_issued(list, key);
+    let issued = once_issued(list, key, was);
     if issued.is_none() || issued != *stance {
         return false;
     }
@@ -89,29 +99,36 @@ fn issued_in_place(list: &mut SlotList, key: &Key, stance: &Option<Stance>) -> b
     true
 }
 
-/// Whether a flight stands in the list so already, or is not there.
-fn stands_so(list: &SlotList, key: &Key, stance: Option<Stance>) -> bool
-    ensures same { result ≡ true → stance_of list.now key.now ≡ stance }
-    ensures ordered { AreInOrder list.now.flights }
-{
-    list.stance_of(key) == stance
-}
-
-/// The list with a flight standing so, or not at all. `AllocError` where there is no memory for it.
-fn with_stance(list: SlotList, key: Key, stance: Option<Stance>) -> Result<SlotList, AllocError>
+/// The list with a flight, which stands in one way, standing in another, or not at all. `AllocError` where there is no
+/// memory for it.
+fn with_stance(
+    list: SlotList,
+    key: Key,
+    was: &Option<Stance>,
+    stance: Option<Stance>,
+) -> Result<SlotList, AllocError>
+    requires stands { stance_of list key ≡ was.now }
+    requires ordered { AreInOrder list.flights }
     ensures { IfOk result (λ new. new ≡ with_flight list key stance) }
 {
     let mut list = list;
-    if issued_in_place(&mut list, &key, &stance) {
+    if issued_in_place(&mut list, &key, was, &stance) {
         return Ok(list);
     }
     let Some(stance) = stance else {
-        take_out(&mut list, &key);
+        take_out(&mut list, &key, was);
         return Ok(list);
     };
-    make_way(&mut list, &key, &stance);
+    make_way(&mut list, &key, was, &stance);
     put_in(&mut list, key, stance)?;
     Ok(list)
+}
+
+/// Whether the one stance is the other.
+fn is_stance(was: &Option<Stance>, stance: &Option<Stance>) -> bool
+    ensures { result ≡ true → was.now ≡ stance.now }
+{
+    *was == *stance
 }
 
 /// The same, of a list that others may have: it is copied where they do, and is the same one where the flight stands so
@@ -124,9 +141,10 @@ pub(crate) fn with_flight(
 ) -> Result<SharedList, AllocError>
     ensures { IfOk result (λ list. list ≡ with_flight shared key stance) }
 {
-    if stands_so(shared.list(), &key, stance) {
+    let was = shared.list().stance_of(&key);
+    if is_stance(&was, &stance) {
         return Ok(shared);
     }
-    let list = with_stance(shared.into_list()?, key, stance)?;
+    let list = with_stance(shared.into_list()?, key, &was, stance)?;
     SharedList::new(alloc, list)
 }

@@ -26,7 +26,8 @@ fn time_anew(list: &SlotList, comp: &Comp) -> Result<Moment, AllocError>
         cto_as (with_competitor list.now comp.now.key comp.now.eto) comp.now.key (Stance.Competing comp.now.eto)) }
 {
     let mut rest = list.try_clone()?;
-    take_out(&mut rest, &comp.key);
+    let stance = rest.stance_of(&comp.key);
+    take_out(&mut rest, &comp.key, &stance);
     Ok(rest.would_pass(comp))
 }
 

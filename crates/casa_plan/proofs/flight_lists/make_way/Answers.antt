@@ -8,12 +8,12 @@ use Rattle.casa_plan.proofs.flight_lists.make_way.Goals as goal
 pub returns-in_default-clause-ungoverned : goal.returns-in_default-clause-ungoverned
 returns-in_default-clause-ungoverned c =
     let key : Text = c.args.key.now in
-    ap (option_and_then (place_as c.take_out.new.list key)) (absent_without c.args.list.now c.take_out.new.list key c.take_out.ensures.ordered c.take_out.ensures.left)
+    ap (option_and_then (place_as c.take_out.new.list key)) (absent_without c.args.list.now c.take_out.new.list key c.requires.ordered c.take_out.ensures)
 
 pub returns-in_default-clause-free : goal.returns-in_default-clause-free
 returns-in_default-clause-free c =
-    λ eto forced. absent_without c.args.list.now c.take_out.new.list c.args.key.now c.take_out.ensures.ordered c.take_out.ensures.left
+    λ eto forced. absent_without c.args.list.now c.take_out.new.list c.args.key.now c.requires.ordered c.take_out.ensures
 
 pub returns-in_default-clause-same : goal.returns-in_default-clause-same
 returns-in_default-clause-same c =
-    put_again c.args.list.now c.take_out.new.list _ c.args.key.now c.args.stance.now c.take_out.ensures.ordered c.take_out.ensures.left refl
+    put_again c.args.list.now c.take_out.new.list _ c.args.key.now c.args.stance.now c.requires.ordered c.take_out.ensures refl
