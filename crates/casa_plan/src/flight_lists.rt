@@ -65,7 +65,7 @@ fn put_in(list: &mut SlotList, key: Key, stance: Stance) -> Result<(), AllocErro
     Ok(())
 }
 
-/// How a flight that stands in one way stands once it is issued at the time that it has; `None` of who is no competitor.
+/// How a flight that stands in one way stands once it is issued at the time that it has; `None` where it does not compete.
 fn once_issued(list: &SlotList, key: &Key, was: &Option<Stance>) -> Option<Stance>
     requires { stance_of list.now key.now ≡ was.now }
     ensures { IfSome result (λ stance.
@@ -80,8 +80,8 @@ fn once_issued(list: &SlotList, key: &Key, was: &Option<Stance>) -> Option<Stanc
     }
 }
 
-/// Issues a flight that stands in one way and is to stand in another, if it competes and that is what it then comes to, and
-/// says whether: nobody moves.
+/// Issues a flight that stands in one way and is to stand in another, if it competes and that is what it then comes to,
+/// and says whether: nobody moves.
 fn issued_in_place(
     list: &mut SlotList,
     key: &Key,
@@ -131,8 +131,8 @@ fn is_stance(was: &Option<Stance>, stance: &Option<Stance>) -> bool
     *was == *stance
 }
 
-/// The same, of a list that others may have: it is copied where they do, and is the same one where the flight stands so
-/// already. `AllocError` where there is no memory for another.
+/// A list that others may have, with a flight standing in this way, or not at all: it is copied where they do, and is
+/// the same one where the flight stands so already. `AllocError` where there is no memory for another.
 pub(crate) fn with_flight(
     alloc: Global,
     shared: SharedList,
