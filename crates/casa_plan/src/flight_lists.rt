@@ -33,8 +33,8 @@ pub(crate) fn take_out(list: &mut SlotList, key: &Key, was: &Option<Stance>)
     }
 }
 
-/// Makes way for a flight that stands in one way and is to stand in another: it is taken out, but where it is forced and
-/// to be governed, since it is freed as it enters.
+/// Makes way for a flight that stands in one way and is to stand in another: it is taken out, but where it is forced
+/// and to be governed, since it is freed as it enters.
 fn make_way(list: &mut SlotList, key: &Key, was: &Option<Stance>, stance: &Stance)
     requires stands { stance_of list.old key.now ≡ was.now }
     requires ordered { AreInOrder list.old.flights }
