@@ -18,6 +18,7 @@ use crate::copies::copied;
 use crate::fresh::forced_of;
 use crate::governed::Governed;
 use crate::grid::SharedGrid;
+use crate::member::Member;
 use crate::order::{forced_entry, free_flight, index_of, put_forced, take_forced};
 use crate::stances::Stances;
 use crate::standing::Standing;
@@ -368,7 +369,7 @@ impl SlotList {
     }
 
     /// How each flight stands, in the order of their keys.
-    pub fn flights(&self) -> &[(Key, Stance)]
+    pub fn flights(&self) -> &[Member]
         ensures flights { result.now ≡ self.now.flights }
         ensures keys { AreInOrder self.now.flights }
     {

@@ -47,8 +47,8 @@ fn governed_flights(alloc: Global, list: &SlotList) -> Result<Vec<Comp>, AllocEr
     ensures { IfOk result (λ comps. comps.items ≡ governed_flights list.now) }
 {
     let mut comps = Vec::new(alloc);
-    for (key, stance) in list.flights() {
-        if let Some(comp) = governed_comp(*key, stance) {
+    for member in list.flights() {
+        if let Some(comp) = governed_comp(member.key(), &member.stance()) {
             comps.push(comp)?;
         }
     }

@@ -310,8 +310,8 @@ impl<V: Version> Items<V> {
         let Some(list) = list else {
             return Ok(());
         };
-        for (key, stance) in list.flights() {
-            self.see_if_forced(rows, lists, key, stance)?;
+        for member in list.flights() {
+            self.see_if_forced(rows, lists, &member.key(), &member.stance())?;
         }
         Ok(())
     }

@@ -6,5 +6,5 @@ use Rattle.casa_flight.specs.Listing.{competitor}
 use Rattle.casa_list.specs.Walk.{comps_in}
 use Rattle.casa_list.proofs.fresh.competing_by_key.Given as goal
 
-abbrev pub invariant-loop-key : goal.invariant-loop-key
-invariant-loop-key l = comps_in l.all.items ≡ filter_map (λ (e : Text × Stance). competitor e.0 e.1) (take l.key-index l.key-items)
+abbrev pub invariant-loop-member : goal.invariant-loop-member
+invariant-loop-member l = comps_in l.all.items ≡ filter_map (λ (e : Text × Stance). competitor e.0 e.1) (take l.member-index l.member-items)

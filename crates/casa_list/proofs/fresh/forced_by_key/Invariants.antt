@@ -6,5 +6,5 @@ use Rattle.casa_list.specs.Governing.{forced_in}
 use Rattle.casa_list.specs.Standings.{forced_flight}
 use Rattle.casa_list.proofs.fresh.forced_by_key.Given as goal
 
-abbrev pub invariant-loop-key : goal.invariant-loop-key
-invariant-loop-key l = map forced_in l.all.items ≡ filter_map (λ (e : Text × Stance). forced_flight e.0 e.1) (take l.key-index l.key-items)
+abbrev pub invariant-loop-member : goal.invariant-loop-member
+invariant-loop-member l = map forced_in l.all.items ≡ filter_map (λ (e : Text × Stance). forced_flight e.0 e.1) (take l.member-index l.member-items)

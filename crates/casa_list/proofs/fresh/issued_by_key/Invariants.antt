@@ -6,5 +6,5 @@ use Rattle.casa_list.specs.Governing.{HoldsTime, issued_in}
 use Rattle.casa_list.specs.Standings.{issued_flight}
 use Rattle.casa_list.proofs.fresh.issued_by_key.Given as goal
 
-abbrev pub invariant-loop-key : goal.invariant-loop-key
-invariant-loop-key l = (map issued_in l.all.items ≡ filter_map (λ (e : Text × Stance). issued_flight e.0 e.1) (take l.key-index l.key-items)) × All HoldsTime l.all.items
+abbrev pub invariant-loop-member : goal.invariant-loop-member
+invariant-loop-member l = (map issued_in l.all.items ≡ filter_map (λ (e : Text × Stance). issued_flight e.0 e.1) (take l.member-index l.member-items)) × All HoldsTime l.all.items

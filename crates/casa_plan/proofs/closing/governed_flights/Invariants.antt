@@ -5,7 +5,7 @@ use Rattle.casa_flight.specs.Text.{Text}
 use Rattle.casa_answer.specs.Closing.{governed_comp}
 use Rattle.casa_plan.proofs.closing.governed_flights.Given as goal
 
-abbrev pub invariant-loop-key : goal.invariant-loop-key
-invariant-loop-key l =
-    l.comps.items ++ filter_map (λ (e : Text × Stance). governed_comp e.0 e.1) (drop l.key-index l.key-items)
+abbrev pub invariant-loop-member : goal.invariant-loop-member
+invariant-loop-member l =
+    l.comps.items ++ filter_map (λ (e : Text × Stance). governed_comp e.0 e.1) (drop l.member-index l.member-items)
     ≡ filter_map (λ (e : Text × Stance). governed_comp e.0 e.1) l.list.flights

@@ -7,9 +7,9 @@ use Rattle.casa_view.specs.Board.{versions}
 use Rattle.casa_view.specs.Taking.{Sees, is_of, governing_at}
 use Rattle.casa_view.proofs.items.Items.see_forced.Given as goal
 
-abbrev pub invariant-loop-key : goal.invariant-loop-key
-invariant-loop-key g l =
-    let past : List (Text × Stance) = take l.key-index l.key-items in
+abbrev pub invariant-loop-member : goal.invariant-loop-member
+invariant-loop-member g l =
+    let past : List (Text × Stance) = take l.member-index l.member-items in
     let governing : Text → Option Text = governing_at g.V.Version.item_of (versions l.self) in
     ((t : Text → Bool) → Sees l.self.rows.entries t l.initial.rows.entries →
     Sees l.self.rows.entries
