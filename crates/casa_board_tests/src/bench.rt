@@ -1,7 +1,7 @@
 //! A board with views of it, which the lines of a script write to, take and ask.
 
 use crate::desk::Desk;
-use crate::items::item;
+use crate::items::change;
 use crate::lines::call_of;
 use crate::view_text::push_shown;
 use casa_commit::World;
@@ -106,14 +106,12 @@ impl Bench {
         Some(())
     }
 
-    /// Writes the items with these names in one change, one after the other.
+    /// Writes the items with these names in one change, which is made once more where memory is refused.
     fn write(&mut self, alloc: Global, names: &str) -> Option<()> {
-        let mut change = Change::new(alloc);
-        for name in names.split_whitespace() {
-            if change.set(item(alloc, &self.board, name)?).is_err() {
-                change.set(item(alloc, &self.board, name)?).ok()?;
-            }
-        }
+        let change = match change(alloc, &self.board, names) {
+            Some(change) => change,
+            None => change(alloc, &self.board, names)?,
+        };
         self.apply(change)
     }
 

@@ -1,8 +1,9 @@
 //! Items that are written again, as they stand on a board.
 
 use casa_flight::{Key, RegId};
-use casa_view::{Board, Catalogue, Copies, Item};
+use casa_view::{Board, Catalogue, Change, Copies};
 use std::alloc::Global;
+use std::collections::BTreeMap;
 
 /// All open regulations.
 fn catalogue(alloc: Global, board: &Board<Copies>) -> Option<Catalogue> {
@@ -13,20 +14,27 @@ fn catalogue(alloc: Global, board: &Board<Copies>) -> Option<Catalogue> {
     Some(all)
 }
 
-/// The item with this name as it stands: `clock`, `catalogue`, a regulation's list or a flight's row; after a `-` the
-/// absence of that row. `None` where there is none, or memory is refused.
-pub fn item(alloc: Global, board: &Board<Copies>, name: &str) -> Option<Item> {
-    if name == "clock" {
-        Some(Item::Clock(board.clock()))
-    } else if name == "catalogue" {
-        Some(Item::Catalogue(catalogue(alloc, board)?))
-    } else if let Some(name) = name.strip_prefix('-') {
-        Some(Item::Row(Key::new(name.as_bytes())?, None))
-    } else if name.starts_with('R') {
-        let id = RegId::new(name.as_bytes())?;
-        Some(Item::List(id, Some(board.shared_list(&id)?.share().ok()?)))
-    } else {
-        let key = Key::new(name.as_bytes())?;
-        Some(Item::Row(key, Some(board.row(&key)?.clone().ok()?)))
+/// A change that writes again what has these names, as it stands: `clock`, `catalogue`, a regulation's list or a flight's
+/// row; after a `-` the absence of that row. `None` where there is none, or memory is refused.
+pub fn change(alloc: Global, board: &Board<Copies>, names: &str) -> Option<Change> {
+    let (mut clock, mut all) = (None, None);
+    let (mut rows, mut lists) = (BTreeMap::new(alloc), BTreeMap::new(alloc));
+    for name in names.split_whitespace() {
+        if name == "clock" {
+            clock = Some(board.clock());
+        } else if name == "catalogue" {
+            all = Some(catalogue(alloc, board)?);
+        } else if let Some(name) = name.strip_prefix('-') {
+            rows.insert(Key::new(name.as_bytes())?, None).ok()?;
+        } else if name.starts_with('R') {
+            let id = RegId::new(name.as_bytes())?;
+            let list = board.shared_list(&id)?.share().ok()?;
+            lists.insert(id, Some(list)).ok()?;
+        } else {
+            let key = Key::new(name.as_bytes())?;
+            let row = board.row(&key)?.clone().ok()?;
+            rows.insert(key, Some(row)).ok()?;
+        }
     }
+    Change::new(alloc, clock, all, rows, lists).ok()
 }

@@ -1,5 +1,4 @@
 pub mod Seen
-pub mod Drafted
 pub mod Replayed
 pub mod Standing
 pub mod Entered

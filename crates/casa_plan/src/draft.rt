@@ -1,7 +1,7 @@
 //! What a planner has written so far.
 
 ghost use Rattle.std.specs.Prelude.{◌≡◌, Some, IfOk, OnOk};
-ghost use Rattle.std.specs.Option.{option_copied, option_or};
+ghost use Rattle.std.specs.Option.{option_copied};
 ghost use Rattle.casa_flight.specs.Text.{put, without};
 ghost use Rattle.casa_flight.specs.Good.{AreInOrder};
 ghost use Rattle.casa_footprint.specs.Items.{ItemName};
@@ -12,7 +12,7 @@ ghost use Rattle.casa_plan.specs.Seen.{sight};
 use casa_flight::{Key, RegId, Row};
 use casa_list::{SharedList, SlotList};
 use casa_time::Moment;
-use casa_view::{Catalogue, Change, Item, Version, View};
+use casa_view::{Catalogue, Change, Version, View};
 use std::alloc::{AllocError, Global};
 use std::collections::BTreeMap;
 use std::marker::Model;
@@ -138,12 +138,13 @@ impl Draft {
     pub fn into_change(self) -> Result<Change, AllocError>
         ensures { IfOk result (λ change. (i : ItemName) → says change i ≡ says_of self i) }
     {
-        let mut change = Change::new(self.alloc);
-        write_clock(&mut change, self.clock)?;
-        write_catalogue(&mut change, self.catalogue)?;
-        write_rows(&mut change, self.rows)?;
-        write_lists(&mut change, self.lists)?;
-        Ok(change)
+        Change::new(
+            self.alloc,
+            self.clock,
+            self.catalogue,
+            self.rows,
+            self.lists,
+        )
     }
 }
 
@@ -155,51 +156,4 @@ fn shared(list: Option<&SharedList>) -> Result<Option<SharedList>, AllocError>
         Some(list) => Ok(Some(list.share()?)),
         None => Ok(None),
     }
-}
-
-/// Writes the clock, if there is one to write.
-fn write_clock(change: &mut Change, clock: Option<Moment>) -> Result<(), AllocError>
-    ensures { OnOk result ((i : ItemName) → says change.new i ≡
-        option_or (says_of (record nothing_written { clock = clock }) i) (says change.old i)) }
-{
-    if let Some(at) = clock {
-        change.set(Item::Clock(at))?;
-    }
-    Ok(())
-}
-
-/// Writes the catalogue, if there is one to write.
-fn write_catalogue(change: &mut Change, catalogue: Option<Catalogue>) -> Result<(), AllocError>
-    ensures { OnOk result ((i : ItemName) → says change.new i ≡
-        option_or (says_of (record nothing_written { catalogue = catalogue }) i) (says change.old i)) }
-{
-    if let Some(catalogue) = catalogue {
-        change.set(Item::Catalogue(catalogue))?;
-    }
-    Ok(())
-}
-
-/// Writes these rows and absences.
-fn write_rows(change: &mut Change, rows: BTreeMap<Key, Option<Row>>) -> Result<(), AllocError>
-    ensures { OnOk result ((i : ItemName) → says change.new i ≡
-        option_or (says_of (record nothing_written { rows = rows.entries }) i) (says change.old i)) }
-{
-    for (key, row) in rows {
-        change.set(Item::Row(key, row))?;
-    }
-    Ok(())
-}
-
-/// Writes these lists and absences.
-fn write_lists(
-    change: &mut Change,
-    lists: BTreeMap<RegId, Option<SharedList>>,
-) -> Result<(), AllocError>
-    ensures { OnOk result ((i : ItemName) → says change.new i ≡
-        option_or (says_of (record nothing_written { lists = lists.entries }) i) (says change.old i)) }
-{
-    for (id, list) in lists {
-        change.set(Item::List(id, list))?;
-    }
-    Ok(())
 }

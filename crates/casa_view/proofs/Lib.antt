@@ -3,7 +3,6 @@ pub mod Turned
 pub mod Orderly
 pub mod Held
 pub mod Viewed
-pub mod Said
 pub mod Opening
 pub mod Reading
 pub mod Noted

@@ -1,12 +1,13 @@
 -- the versions of a board, once a change is turned to
-use Rattle.std.proofs.Common.{◌≡◌, ℕ, List, [], ◌∷◌, Bool, true, false, cond, not, is_some, refl, sym, ap, ◌∙◌, subst}
+use Rattle.std.proofs.Common.{◌≡◌, ℕ, List, [], ◌∷◌, Bool, true, false, cond, refl, sym, ap, ◌∙◌, subst}
 use Rattle.std.proofs.Common.{Option, None, Some, unwrap_or}
-use Rattle.std.specs.Prelude.{IsSome, if◌then◌else◌}
+use Rattle.std.specs.Prelude.{if◌then◌else◌}
 use Rattle.std.specs.Option.{option_map, option_map_or}
 use Rattle.std.specs.Ordering.{is_eq}
-use Rattle.std.specs.Arc.{arc_value}
+use Rattle.casa_flight.specs.declared.regulation.Regulation.{Regulation}
 use Rattle.casa_flight.specs.declared.row.Row.{Row}
 use Rattle.casa_flight.specs.Text.{Text, at_name}
+use Rattle.casa_flight.specs.Listing.{Listing}
 use Rattle.casa_flight.specs.Good.{AreInOrder}
 use Rattle.casa_flight.proofs.Entries.{text_cmp}
 use Rattle.casa_footprint.specs.Items.{ItemName, the_clock, the_catalogue, a_row, a_list, Content, moment, regulations}
@@ -14,11 +15,11 @@ use Rattle.casa_footprint.specs.Items.{row_or_none, list_or_none}
 use Rattle.casa_table.specs.declared.item.Item.{Item}
 use Rattle.casa_view.specs.declared.change.Change.{Change}
 use Rattle.casa_table.specs.Laid.{laid}
-use Rattle.casa_table.specs.Versions.{Versions, IsInOrder, moment_of, regulations_of, row_of, list_of, content_as}
+use Rattle.casa_table.specs.Versions.{Versions, IsInOrder, moment_of, regulations_of, content_as}
 use Rattle.casa_table.specs.Versions.{version_at}
 use Rattle.casa_view.specs.Change.{is_absence, IsApplied}
-use Rattle.casa_view.specs.Board.{says}
-use Rattle.casa_view.specs.Next.{AreAlike, IsVersionOf, NextOne, NextRow, NextList}
+use Rattle.casa_view.specs.Board.{says, catalogue_written}
+use Rattle.casa_view.specs.Next.{AreAlike, NextOne, NextRow, NextList}
 use Rattle.casa_table.proofs.Layers.{at-laid, sorted-laid}
 
 -- what two lists of entries with the same names have under a name
@@ -54,83 +55,69 @@ module _ {V : Type 0} (item_of : V → Item) (number : V → ℕ) (n : ℕ) wher
       (content_as i (option_map item_of w) ≡ x) × (option_map_or number w 0 ≡ (if is_absence x then 0 else n))
       × (is_absence x ≡ true → w ≡ None)
 
-  -- what a change says of an item, by what reads the item
-  abbrev said : {X : Type 0} → (X → Item) → ItemName → Option X → Option Content
-  said val i o = option_map (λ (v : Item). content_as i (Some v)) (option_map val o)
+  -- a row, a list, the clock and the catalogue that are written
+  row_written : (q : Text) (o : Option (Option Row)) (p : Option (Option V)) (old : Option V)
+      → Alike (NextRow item_of number n) o p
+      → (x : Content) → option_map row_or_none o ≡ Some x → Shows (a_row q) (unwrap_or p old) x
+  row_written q None None old h x e = cc
+  row_written q None (Some w) old h x e = absurd h
+  row_written q (Some r) None old h x e = absurd h
+  row_written q (Some None) (Some None) old h x e =
+      subst (Shows (a_row q) None) (same_some (row_or_none None) x e) (refl, refl, λ a. refl)
+  row_written q (Some None) (Some (Some m)) old h x e = absurd h
+  row_written q (Some (Some r)) (Some None) old h x e = absurd h
+  row_written q (Some (Some r)) (Some (Some m)) old h x e =
+      subst (Shows (a_row q) (Some m)) (same_some (row_or_none (Some r)) x e)
+      (ap row_or_none h.0, h.1, λ a. no_absence a)
 
-  -- a version of an item with a row, of a list, of a clock, of a catalogue
-  row_shown : (q : Text) (v : Item) (m : V) → IsVersionOf item_of number n v m → (r : Option Row) → row_of v ≡ r
-      → IsSome r → Shows (a_row q) (Some m) (row_or_none (row_of v))
-  row_shown q v m is None e h = cc
-  row_shown q v m is (Some r) e h = (
-    ap (λ (u : Item). row_or_none (row_of u)) is.0,
-    is.1 ∙ sym (ap (λ (w : Option Row). if not (is_some w) then 0 else n) e),
-    λ a. no_absence (sym (ap (λ (w : Option Row). not (is_some w)) e) ∙ a),
-  )
+  list_written : (q : Text) (o : Option (Option Listing)) (p : Option (Option V)) (old : Option V)
+      → Alike (NextList item_of number n) o p
+      → (x : Content) → option_map list_or_none o ≡ Some x → Shows (a_list q) (unwrap_or p old) x
+  list_written q None None old h x e = cc
+  list_written q None (Some w) old h x e = absurd h
+  list_written q (Some l) None old h x e = absurd h
+  list_written q (Some l) (Some None) old h x e = absurd h
+  list_written q (Some l) (Some (Some m)) old h x e =
+      subst (Shows (a_list q) (Some m)) (same_some (list_or_none l) x e)
+      (ap list_or_none h.0, h.1, λ a. no_absence a)
 
-  row_written : {X : Type 0} (val : X → Item) (q : Text) (o : Option X) (p : Option (Option V)) (old : Option V)
-      → Alike (λ x w. NextRow item_of number n (val x) w) o p
-      → (x : Content) → said val (a_row q) o ≡ Some x → Shows (a_row q) (unwrap_or p old) x
-  row_written val q None None old h x e = cc
-  row_written val q None (Some w) old h x e = absurd h
-  row_written val q (Some v) None old h x e = absurd h
-  row_written val q (Some v) (Some None) old h x e =
-      subst (Shows (a_row q) None) (ap row_or_none (sym h) ∙ same_some (row_or_none (row_of (val v))) x e)
-      (refl, refl, λ a. refl)
-  row_written val q (Some v) (Some (Some m)) old h x e =
-      subst (Shows (a_row q) (Some m)) (same_some (row_or_none (row_of (val v))) x e)
-      (row_shown q (val v) m h.0 (row_of (val v)) refl h.1)
+  clock_written : (o : Option ℕ) (w : Option V) (old : V) → NextOne item_of number n moment_of o w
+      → (x : Content) → option_map moment o ≡ Some x → Shows the_clock (Some (unwrap_or w old)) x
+  clock_written None w old h x e = cc
+  clock_written (Some at) None old h x e = absurd h
+  clock_written (Some at) (Some m) old h x e =
+      subst (Shows the_clock (Some m)) (same_some (moment at) x e) (ap moment h.0, h.1, λ a. no_absence a)
 
-  list_written : {X : Type 0} (val : X → Item) (q : Text) (o : Option X) (p : Option (Option V)) (old : Option V)
-      → Alike (λ x w. NextList item_of number n (val x) w) o p
-      → (x : Content) → said val (a_list q) o ≡ Some x → Shows (a_list q) (unwrap_or p old) x
-  list_written val q None None old h x e = cc
-  list_written val q None (Some w) old h x e = absurd h
-  list_written val q (Some v) None old h x e = absurd h
-  list_written val q (Some v) (Some None) old h x e = absurd h
-  list_written val q (Some v) (Some (Some m)) old h x e =
-      subst (Shows (a_list q) (Some m)) (same_some (list_or_none (list_of (val v))) x e)
-      (ap (λ (u : Item). list_or_none (list_of u)) h.0, h.1, λ a. no_absence a)
-
-  clock_written : {X : Type 0} (val : X → Item) (o : Option X) (w : Option V) (old : V)
-      → NextOne item_of number n (option_map val o) w
-      → (x : Content) → said val the_clock o ≡ Some x → Shows the_clock (Some (unwrap_or w old)) x
-  clock_written val None w old h x e = cc
-  clock_written val (Some v) None old h x e = absurd h
-  clock_written val (Some v) (Some m) old h x e =
-      subst (Shows the_clock (Some m)) (same_some (moment (moment_of (val v))) x e)
-      (ap (λ (u : Item). moment (moment_of u)) h.0, h.1, λ a. no_absence a)
-
-  catalogue_written : {X : Type 0} (val : X → Item) (o : Option X) (w : Option V) (old : V)
-      → NextOne item_of number n (option_map val o) w
-      → (x : Content) → said val the_catalogue o ≡ Some x → Shows the_catalogue (Some (unwrap_or w old)) x
-  catalogue_written val None w old h x e = cc
-  catalogue_written val (Some v) None old h x e = absurd h
-  catalogue_written val (Some v) (Some m) old h x e =
-      subst (Shows the_catalogue (Some m)) (same_some (regulations (regulations_of (val v))) x e)
-      (ap (λ (u : Item). regulations (regulations_of u)) h.0, h.1, λ a. no_absence a)
+  regulations_written : (o : Option (List Regulation)) (w : Option V) (old : V)
+      → NextOne item_of number n regulations_of o w
+      → (x : Content) → option_map regulations o ≡ Some x → Shows the_catalogue (Some (unwrap_or w old)) x
+  regulations_written None w old h x e = cc
+  regulations_written (Some all) None old h x e = absurd h
+  regulations_written (Some all) (Some m) old h x e =
+      subst (Shows the_catalogue (Some m)) (same_some (regulations all) x e)
+      (ap regulations h.0, h.1, λ a. no_absence a)
 
   -- where the change says nothing, the version stays
-  one_stays : {X : Type 0} (val : X → Item) (i : ItemName) (o : Option X) (w : Option V) (old : V)
-      → NextOne item_of number n (option_map val o) w → said val i o ≡ None → unwrap_or w old ≡ old
-  one_stays val i None None old h e = refl
-  one_stays val i None (Some m) old h e = absurd h
-  one_stays val i (Some v) w old h e = cc
+  one_stays : {X : Type 0} (part : Item → X) (content : X → Content) (o : Option X) (w : Option V) (old : V)
+      → NextOne item_of number n part o w → option_map content o ≡ None → unwrap_or w old ≡ old
+  one_stays part content None None old h e = refl
+  one_stays part content None (Some m) old h e = absurd h
+  one_stays part content (Some x) w old h e = cc
 
-  stays : {X : Type 0} (Q : X → Option V → Type 0) (val : X → Item) (i : ItemName) (o : Option X)
-      (p : Option (Option V)) (old : Option V) → Alike Q o p → said val i o ≡ None → unwrap_or p old ≡ old
-  stays Q val i None None old h e = refl
-  stays Q val i None (Some w) old h e = absurd h
-  stays Q val i (Some v) p old h e = cc
+  stays : {X : Type 0} (Q : X → Option V → Type 0) (content : X → Content) (o : Option X)
+      (p : Option (Option V)) (old : Option V) → Alike Q o p → option_map content o ≡ None → unwrap_or p old ≡ old
+  stays Q content None None old h e = refl
+  stays Q content None (Some w) old h e = absurd h
+  stays Q content (Some x) p old h e = cc
 
   -- the versions after a change, of which the rows and the lists are these, and the clock and the catalogue come if
   -- they do
   module _ (d : Change) (before now : Versions V) (clock catalogue : Option V) (rows lists : List (Text × Option V))
       (order : IsInOrder before) (rows_order : AreInOrder rows) (lists_order : AreInOrder lists)
-      (clock_next : NextOne item_of number n (option_map arc_value d.clock) clock)
-      (catalogue_next : NextOne item_of number n (option_map arc_value d.catalogue) catalogue)
-      (rows_next : AreAlike (λ item w. NextRow item_of number n (arc_value item) w) d.rows.entries rows)
-      (lists_next : AreAlike (λ item w. NextList item_of number n (arc_value item) w) d.lists.entries lists)
+      (clock_next : NextOne item_of number n moment_of d.clock clock)
+      (catalogue_next : NextOne item_of number n regulations_of (catalogue_written d) catalogue)
+      (rows_next : AreAlike (NextRow item_of number n) d.rows.entries rows)
+      (lists_next : AreAlike (NextList item_of number n) d.lists.entries lists)
       (clock_is : now.clock ≡ unwrap_or clock before.clock)
       (catalogue_is : now.catalogue ≡ unwrap_or catalogue before.catalogue)
       (rows_are : now.rows ≡ laid rows before.rows) (lists_are : now.lists ≡ laid lists before.lists) where
@@ -142,40 +129,40 @@ module _ {V : Type 0} (item_of : V → Item) (number : V → ℕ) (n : ℕ) wher
         ap (λ (es : List (Text × V)). at_name es q) lists_are ∙ at-laid q lists before.lists lists_order order.lists
 
     row_next : (q : Text)
-        → Alike (λ x w. NextRow item_of number n (arc_value x) w) (at_name d.rows.entries q) (at_name rows q)
+        → Alike (NextRow item_of number n) (at_name d.rows.entries q) (at_name rows q)
     row_next q = alike_at _ q d.rows.entries rows rows_next
 
     list_next : (q : Text)
-        → Alike (λ x w. NextList item_of number n (arc_value x) w) (at_name d.lists.entries q) (at_name lists q)
+        → Alike (NextList item_of number n) (at_name d.lists.entries q) (at_name lists q)
     list_next q = alike_at _ q d.lists.entries lists lists_next
 
     shown : (i : ItemName) (x : Content) → says d i ≡ Some x → Shows i (version_at now i) x
     shown the_clock x e =
         subst (λ (v : V). Shows the_clock (Some v) x) (sym clock_is)
-        (clock_written arc_value d.clock clock before.clock clock_next x e)
+        (clock_written d.clock clock before.clock clock_next x e)
     shown the_catalogue x e =
         subst (λ (v : V). Shows the_catalogue (Some v) x) (sym catalogue_is)
-        (catalogue_written arc_value d.catalogue catalogue before.catalogue catalogue_next x e)
+        (regulations_written (catalogue_written d) catalogue before.catalogue catalogue_next x e)
     shown (a_row q) x e =
         subst (λ (w : Option V). Shows (a_row q) w x) (sym (row_now q))
-        (row_written arc_value q (at_name d.rows.entries q) (at_name rows q) (at_name before.rows q) (row_next q) x e)
+        (row_written q (at_name d.rows.entries q) (at_name rows q) (at_name before.rows q) (row_next q) x e)
     shown (a_list q) x e =
         subst (λ (w : Option V). Shows (a_list q) w x) (sym (list_now q))
-        (list_written arc_value q (at_name d.lists.entries q) (at_name lists q) (at_name before.lists q)
+        (list_written q (at_name d.lists.entries q) (at_name lists q) (at_name before.lists q)
         (list_next q) x e)
 
     same : (i : ItemName) → says d i ≡ None → version_at now i ≡ version_at before i
-    same the_clock e = ap Some (clock_is ∙ one_stays arc_value the_clock d.clock clock before.clock clock_next e)
+    same the_clock e = ap Some (clock_is ∙ one_stays moment_of moment d.clock clock before.clock clock_next e)
     same the_catalogue e =
         ap Some (catalogue_is
-        ∙ one_stays arc_value the_catalogue d.catalogue catalogue before.catalogue catalogue_next e)
+        ∙ one_stays regulations_of regulations (catalogue_written d) catalogue before.catalogue catalogue_next e)
     same (a_row q) e =
         row_now q
-        ∙ stays _ arc_value (a_row q) (at_name d.rows.entries q) (at_name rows q) (at_name before.rows q)
+        ∙ stays _ row_or_none (at_name d.rows.entries q) (at_name rows q) (at_name before.rows q)
         (row_next q) e
     same (a_list q) e =
         list_now q
-        ∙ stays _ arc_value (a_list q) (at_name d.lists.entries q) (at_name lists q) (at_name before.lists q)
+        ∙ stays _ list_or_none (at_name d.lists.entries q) (at_name lists q) (at_name before.lists q)
         (list_next q) e
 
     pub turned : IsApplied item_of number (says d) n before now

@@ -1,62 +1,53 @@
-ghost use Rattle.std.specs.Prelude.{◌≡◌, Some, None, OnOk, OnErr, if◌then◌else◌};
-ghost use Rattle.casa_footprint.specs.Items.{ItemName, is_item};
+ghost use Rattle.std.specs.Prelude.{◌≡◌, IfOk};
+ghost use Rattle.std.specs.Option.{option_map};
+ghost use Rattle.casa_flight.specs.Text.{Text, at_name};
+ghost use Rattle.casa_footprint.specs.Items.{the_clock, the_catalogue, a_row, a_list};
+ghost use Rattle.casa_footprint.specs.Items.{moment, regulations, row_or_none, list_or_none};
 
-use casa_flight::{Key, RegId};
-use casa_table::Item;
+use casa_flight::{Key, RegId, Row};
+use casa_list::SharedList;
+use casa_table::{Catalogue, Item};
+use casa_time::Moment;
 use std::alloc::{AllocError, Global};
 use std::collections::BTreeMap;
 use std::sync::Arc;
 
-/// The items that a call writes, each at most once.
+/// The items that a call writes, each at most once: the clock and the catalogue, if it writes them, and rows and lists by
+/// their names, or that there is none.
 #[derive(Drop)]
 pub struct Change {
-    alloc: Global,
-    pub(crate) clock: Option<Arc<Item>>,
+    pub(crate) clock: Option<Moment>,
     pub(crate) catalogue: Option<Arc<Item>>,
-    pub(crate) rows: BTreeMap<Key, Arc<Item>>,
-    pub(crate) lists: BTreeMap<RegId, Arc<Item>>,
+    pub(crate) rows: BTreeMap<Key, Option<Row>>,
+    pub(crate) lists: BTreeMap<RegId, Option<SharedList>>,
 }
 
 impl Change {
-    ghost use Rattle.casa_table.specs.Versions.{name_of, content_of};
     ghost use Rattle.casa_view.specs.Board.{says};
 
-    /// A change that writes nothing.
-    pub fn new(alloc: Global) -> Change
-        ensures { (i : ItemName) → says result i ≡ None }
+    /// The change that writes these. `AllocError` where there is no memory for a count of the views that have the
+    /// catalogue.
+    pub fn new(
+        alloc: Global,
+        clock: Option<Moment>,
+        catalogue: Option<Catalogue>,
+        rows: BTreeMap<Key, Option<Row>>,
+        lists: BTreeMap<RegId, Option<SharedList>>,
+    ) -> Result<Change, AllocError>
+        ensures clock { IfOk result (λ d. says d the_clock ≡ option_map moment clock) }
+        ensures catalogue { IfOk result (λ d. says d the_catalogue ≡ option_map regulations catalogue) }
+        ensures rows { IfOk result (λ d. (key : Text) → says d (a_row key) ≡ option_map row_or_none (at_name rows.entries key)) }
+        ensures lists { IfOk result (λ d. (id : Text) → says d (a_list id) ≡ option_map list_or_none (at_name lists.entries id)) }
     {
-        Change {
-            alloc,
-            clock: None,
-            catalogue: None,
-            rows: BTreeMap::new(alloc),
-            lists: BTreeMap::new(alloc),
-        }
-    }
-
-    /// Writes this item, in place of one with the same name. `AllocError` where there is no memory for it; the change is
-    /// then as it was.
-    pub fn set(&mut self, item: Item) -> Result<(), AllocError>
-        ensures set { OnOk result ((i : ItemName) → says self.new i ≡ (if is_item (name_of item) i then Some (content_of item) else says self.old i)) }
-        ensures unchanged { OnErr result ((i : ItemName) → says self.new i ≡ says self.old i) }
-    {
-        let item = Arc::new(self.alloc, item)?;
-        match &*item {
-            Item::Clock(_) => {
-                self.clock = Some(item);
-            }
-            Item::Catalogue(_) => {
-                self.catalogue = Some(item);
-            }
-            Item::Row(key, _) => {
-                let key = *key;
-                self.rows.insert(key, item)?;
-            }
-            Item::List(id, _) => {
-                let id = *id;
-                self.lists.insert(id, item)?;
-            }
-        }
-        Ok(())
+        let catalogue = match catalogue {
+            Some(catalogue) => Some(Arc::new(alloc, Item::Catalogue(catalogue))?),
+            None => None,
+        };
+        Ok(Change {
+            clock,
+            catalogue,
+            rows,
+            lists,
+        })
     }
 }

@@ -7,26 +7,57 @@ ghost use Rattle.casa_flight.specs.Text.{put};
 ghost use Rattle.casa_flight.specs.Good.{AreInOrder};
 ghost use Rattle.casa_view.specs.Board.{versions, next_versions, says};
 ghost use Rattle.casa_view.specs.Change.{IsApplied};
-ghost use Rattle.casa_table.specs.Versions.{IsInOrder};
+ghost use Rattle.casa_table.specs.Versions.{IsInOrder, moment_of, regulations_of};
 ghost use Rattle.casa_view.specs.Next.{AreAlike, NextOne, NextRow, NextList};
 
 use crate::change::Change;
 use crate::items::Items;
-use casa_flight::{Key, Name, OfFlight, OfRegulation, RegId};
+use casa_flight::{Key, Name, OfFlight, OfRegulation, RegId, Row};
+use casa_list::SharedList;
 use casa_table::{Changes, Item, Kept, Version};
+use casa_time::Moment;
 use std::alloc::{AllocError, Global};
 use std::collections::BTreeMap;
 use std::sync::Arc;
 
-/// The version of an item that comes, if one does.
-fn next_version<K: Kept>(
+/// The version of an item.
+fn version<K: Kept>(
+    alloc: Global,
     store: &mut K,
     number: usize,
-    item: &Option<Arc<Item>>,
-) -> Result<Option<K::Version>, AllocError>
-    ensures { IfOk result (NextOne K.Version.item_of K.Version.number number (option_map arc_value item.now)) }
+    item: Item,
+) -> Result<K::Version, AllocError>
+    ensures item { IfOk result (λ v. K.Version.item_of v ≡ item) }
+    ensures number { IfOk result (λ v. K.Version.number v ≡ number) }
 {
-    match item {
+    store.put(number, Arc::new(alloc, item)?)
+}
+
+/// The version of the clock, if it is written.
+fn clock_version<K: Kept>(
+    alloc: Global,
+    store: &mut K,
+    number: usize,
+    clock: Option<Moment>,
+) -> Result<Option<K::Version>, AllocError>
+    ensures { IfOk result (NextOne K.Version.item_of K.Version.number number moment_of clock) }
+{
+    match clock {
+        Some(at) => Ok(Some(version(alloc, store, number, Item::Clock(at))?)),
+        None => Ok(None),
+    }
+}
+
+/// The version of the catalogue, if it is written.
+fn catalogue_version<K: Kept>(
+    store: &mut K,
+    number: usize,
+    catalogue: &Option<Arc<Item>>,
+) -> Result<Option<K::Version>, AllocError>
+    ensures { IfOk result (NextOne K.Version.item_of K.Version.number number regulations_of
+        (option_map (λ item. regulations_of (arc_value item)) catalogue.now)) }
+{
+    match catalogue {
         Some(item) => Ok(Some(store.put(number, Arc::try_clone(item)?)?)),
         None => Ok(None),
     }
@@ -34,27 +65,36 @@ fn next_version<K: Kept>(
 
 /// The version of a row that is there. An absent row has none.
 fn row_version<K: Kept>(
+    alloc: Global,
     store: &mut K,
     number: usize,
-    item: &Arc<Item>,
+    key: Key,
+    row: &Option<Row>,
 ) -> Result<Option<K::Version>, AllocError>
-    ensures { IfOk result (NextRow K.Version.item_of K.Version.number number (arc_value item.now)) }
+    ensures { IfOk result (NextRow K.Version.item_of K.Version.number number row.now) }
 {
-    match &**item {
-        Item::Row(_, Some(_)) => Ok(Some(store.put(number, Arc::try_clone(item)?)?)),
-        _ => Ok(None),
-    }
+    let Some(row) = row else {
+        return Ok(None);
+    };
+    let item = Item::Row(key, Some(row.clone()?));
+    Ok(Some(version(alloc, store, number, item)?))
 }
 
 /// The version of a list, or of its absence, which keeps the number of the close.
 fn list_version<K: Kept>(
+    alloc: Global,
     store: &mut K,
     number: usize,
-    item: &Arc<Item>,
+    id: RegId,
+    list: &Option<SharedList>,
 ) -> Result<Option<K::Version>, AllocError>
-    ensures { IfOk result (NextList K.Version.item_of K.Version.number number (arc_value item.now)) }
+    ensures { IfOk result (NextList K.Version.item_of K.Version.number number list.now) }
 {
-    Ok(Some(store.put(number, Arc::try_clone(item)?)?))
+    let list = match list {
+        Some(list) => Some(list.share()?),
+        None => None,
+    };
+    Ok(Some(version(alloc, store, number, Item::List(id, list))?))
 }
 
 /// Puts a version, or that there is none, under a name.
@@ -75,15 +115,15 @@ fn row_versions<K: Kept>(
     alloc: Global,
     store: &mut K,
     number: usize,
-    items: &BTreeMap<Key, Arc<Item>>,
+    rows: &BTreeMap<Key, Option<Row>>,
 ) -> Result<Changes<OfFlight, K::Version>, AllocError>
     ensures versions { IfOk result (λ versions.
-        AreAlike (λ item version. NextRow K.Version.item_of K.Version.number number (arc_value item) version) items.now.entries versions.entries) }
+        AreAlike (NextRow K.Version.item_of K.Version.number number) rows.now.entries versions.entries) }
     ensures ordered { IfOk result (λ versions. AreInOrder versions.entries) }
 {
     let mut versions = BTreeMap::new(alloc);
-    for (key, item) in items.iter() {
-        let version = row_version(store, number, item)?;
+    for (key, row) in rows.iter() {
+        let version = row_version(alloc, store, number, *key, row)?;
         put_version(&mut versions, *key, version)?;
     }
     Ok(versions)
@@ -94,15 +134,15 @@ fn list_versions<K: Kept>(
     alloc: Global,
     store: &mut K,
     number: usize,
-    items: &BTreeMap<RegId, Arc<Item>>,
+    lists: &BTreeMap<RegId, Option<SharedList>>,
 ) -> Result<Changes<OfRegulation, K::Version>, AllocError>
     ensures versions { IfOk result (λ versions.
-        AreAlike (λ item version. NextList K.Version.item_of K.Version.number number (arc_value item) version) items.now.entries versions.entries) }
+        AreAlike (NextList K.Version.item_of K.Version.number number) lists.now.entries versions.entries) }
     ensures ordered { IfOk result (λ versions. AreInOrder versions.entries) }
 {
     let mut versions = BTreeMap::new(alloc);
-    for (id, item) in items.iter() {
-        let version = list_version(store, number, item)?;
+    for (id, list) in lists.iter() {
+        let version = list_version(alloc, store, number, *id, list)?;
         put_version(&mut versions, *id, version)?;
     }
     Ok(versions)
@@ -151,8 +191,8 @@ pub(crate) fn fit<K: Kept>(
     ensures same { versions items.new ≡ versions items.old }
     ensures room { OnOk result (IsApplied K.Version.item_of K.Version.number (says change.now) number (versions items.new) (next_versions items.new)) }
 {
-    items.next_clock = next_version(store, number, &change.clock)?;
-    items.next_catalogue = next_version(store, number, &change.catalogue)?;
+    items.next_clock = clock_version(alloc, store, number, change.clock)?;
+    items.next_catalogue = catalogue_version(store, number, &change.catalogue)?;
     let rows = row_versions(alloc, store, number, &change.rows)?;
     let lists = list_versions(alloc, store, number, &change.lists)?;
     items.rows.fit(rows)?;

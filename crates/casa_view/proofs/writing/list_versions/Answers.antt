@@ -11,14 +11,14 @@ loop-id-preserved g c =
     let xs = c.loop-id.yielded in
     let done = map deref_pair xs in
     let name = c.in-Some.id.now in
-    let item = c.in-Some.item.now in
+    let item = c.in-Some.list.now in
     let rest = c.next.new.self in
     let here : c.loop-id.id-iterator ≡ (name, item) ∷ rest =
-    rest_more deref_pair _ _ _ (c.in-Some.id, c.in-Some.item) c.in-Some.is c.next.ensures.steps in
+    rest_more deref_pair _ _ _ (c.in-Some.id, c.in-Some.list) c.in-Some.is c.next.ensures.steps in
     let so_far : c.into_iter-id-iterator.result ≡ done ++ c.loop-id.id-iterator =
     rest_so_far deref_pair xs _ _ c.loop-id.yielded_by in
-    let start : c.into_iter-id-iterator.result ≡ c.args.items.now.entries = search rules in
-    let all : c.args.items.now.entries ≡ done ++ (name, item) ∷ rest =
+    let start : c.into_iter-id-iterator.result ≡ c.args.lists.now.entries = search rules in
+    let all : c.args.lists.now.entries ≡ done ++ (name, item) ∷ rest =
     sym start ∙ so_far ∙ ap (λ es. done ++ es) here in
     let sorted : AreInOrder (done ++ (name, item) ∷ rest) =
     subst (λ es. AreInOrder es) all c.iter-id-items.ensures.ordered in
@@ -27,10 +27,10 @@ loop-id-preserved g c =
       tt,
       tt,
       c.in_ok-put_version.ensures.ordered,
-      rw (map-last deref_pair xs (c.in-Some.id, c.in-Some.item), c.in_ok-put_version.ensures.put) more,
+      rw (map-last deref_pair xs (c.in-Some.id, c.in-Some.list), c.in_ok-put_version.ensures.put) more,
     )
 
 pub returns-clause-versions : goal.returns-clause-versions
 returns-clause-versions g c =
-    let all : map deref_pair c.loop-id.yielded ≡ c.args.items.now.entries = search (rules, iter_end) in
+    let all : map deref_pair c.loop-id.yielded ≡ c.args.lists.now.entries = search (rules, iter_end) in
     rw (← all) c.loop-id.invariant.3

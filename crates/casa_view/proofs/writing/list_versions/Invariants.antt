@@ -1,5 +1,4 @@
 use Rattle.std.proofs.Common.{map}
-use Rattle.std.specs.Arc.{arc_value}
 use Rattle.std.specs.Map.Iter.{deref_pair}
 use Rattle.casa_flight.specs.Good.{AreInOrder}
 use Rattle.casa_view.specs.Next.{AreAlike, NextList}
@@ -10,5 +9,5 @@ invariant-loop-id g l =
     (goal.iterator-loop-id g).can_next l.id-iterator ×
     (goal.iterator-loop-id g).is_finite l.id-iterator ×
     AreInOrder l.versions.entries ×
-    AreAlike (λ item v. NextList g.K.Version.Version.item_of g.K.Version.Version.number l.number (arc_value item) v)
+    AreAlike (NextList g.K.Version.Version.item_of g.K.Version.Version.number l.number)
     (map deref_pair l.yielded) l.versions.entries

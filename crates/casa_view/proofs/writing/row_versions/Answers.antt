@@ -11,14 +11,14 @@ loop-key-preserved g c =
     let xs = c.loop-key.yielded in
     let done = map deref_pair xs in
     let name = c.in-Some.key.now in
-    let item = c.in-Some.item.now in
+    let item = c.in-Some.row.now in
     let rest = c.next.new.self in
     let here : c.loop-key.key-iterator ≡ (name, item) ∷ rest =
-    rest_more deref_pair _ _ _ (c.in-Some.key, c.in-Some.item) c.in-Some.is c.next.ensures.steps in
+    rest_more deref_pair _ _ _ (c.in-Some.key, c.in-Some.row) c.in-Some.is c.next.ensures.steps in
     let so_far : c.into_iter-key-iterator.result ≡ done ++ c.loop-key.key-iterator =
     rest_so_far deref_pair xs _ _ c.loop-key.yielded_by in
-    let start : c.into_iter-key-iterator.result ≡ c.args.items.now.entries = search rules in
-    let all : c.args.items.now.entries ≡ done ++ (name, item) ∷ rest =
+    let start : c.into_iter-key-iterator.result ≡ c.args.rows.now.entries = search rules in
+    let all : c.args.rows.now.entries ≡ done ++ (name, item) ∷ rest =
     sym start ∙ so_far ∙ ap (λ es. done ++ es) here in
     let sorted : AreInOrder (done ++ (name, item) ∷ rest) =
     subst (λ es. AreInOrder es) all c.iter-key-items.ensures.ordered in
@@ -27,10 +27,10 @@ loop-key-preserved g c =
       tt,
       tt,
       c.in_ok-put_version.ensures.ordered,
-      rw (map-last deref_pair xs (c.in-Some.key, c.in-Some.item), c.in_ok-put_version.ensures.put) more,
+      rw (map-last deref_pair xs (c.in-Some.key, c.in-Some.row), c.in_ok-put_version.ensures.put) more,
     )
 
 pub returns-clause-versions : goal.returns-clause-versions
 returns-clause-versions g c =
-    let all : map deref_pair c.loop-key.yielded ≡ c.args.items.now.entries = search (rules, iter_end) in
+    let all : map deref_pair c.loop-key.yielded ≡ c.args.rows.now.entries = search (rules, iter_end) in
     rw (← all) c.loop-key.invariant.3

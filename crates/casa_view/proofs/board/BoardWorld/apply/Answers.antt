@@ -1,6 +1,7 @@
 use Rattle.std.proofs.Common.{sym, subst}
 use Rattle.casa_view.specs.Board.{versions, next_versions, says}
 use Rattle.casa_table.specs.Versions.{IsOrderly}
+use Rattle.casa_view.specs.Change.{IsApplied}
 use Rattle.casa_view.proofs.Orderly.{orderly_kept}
 use Rattle.casa_view.proofs.board.BoardWorld.apply.Goals as goal
 
@@ -14,3 +15,8 @@ invariant_of-self g c =
           (next_versions items)
           c.requires c.args.self.now.orderly);
     }
+
+pub returns : goal.returns
+returns g c =
+    let version = g.K.Version.Version in
+    subst (IsApplied version.item_of version.number (says c.args._change) c.args._number (versions c.args.self.now.items)) (sym c.turn.ensures) c.requires
