@@ -4,21 +4,22 @@ use std::alloc::AllocError;
 use std::marker::Model;
 use std::sync::ArcSlice;
 
-/// Values in their order, which copies share by reference count.
+/// Values in their order, which copies share by reference count; no values take no memory.
 ///
 /// Contracts see them as their list.
 #[derive(Drop, Debug)]
 pub struct SharedSlice<T> {
-    items: ArcSlice<T>,
+    items: Option<ArcSlice<T>>,
 }
 
 impl<T> Model for SharedSlice<T> {
-    ghost use Rattle.std.specs.Prelude.{List};
+    ghost use Rattle.std.specs.Prelude.{List, []};
     ghost use Rattle.std.specs.Arc.{arc_slice_items};
+    ghost use Rattle.std.specs.Option.{option_map_or};
 
     ghost Value = { List T };
 
-    ghost view = { λ s. arc_slice_items s.items };
+    ghost view = { λ s. option_map_or arc_slice_items s.items [] };
 }
 
 impl<T> SharedSlice<T> {
@@ -26,7 +27,10 @@ impl<T> SharedSlice<T> {
     pub fn as_slice(&self) -> &[T]
         ensures { result.now ≡ self.now }
     {
-        self.items.as_slice()
+        match &self.items {
+            Some(items) => items.as_slice(),
+            None => &[],
+        }
     }
 }
 
@@ -35,8 +39,12 @@ impl<T: Drop> SharedSlice<T> {
     pub fn from_vec(items: Vec<T>) -> Result<SharedSlice<T>, AllocError>
         ensures { IfOk result (λ shared. shared ≡ items.items) }
     {
+        if items.is_empty() {
+            return Ok(SharedSlice { items: None });
+        }
+
         Ok(SharedSlice {
-            items: ArcSlice::from_vec(items)?,
+            items: Some(ArcSlice::from_vec(items)?),
         })
     }
 
@@ -45,9 +53,12 @@ impl<T: Drop> SharedSlice<T> {
     pub fn try_clone(&self) -> Result<SharedSlice<T>, AllocError>
         ensures { IfOk result (λ copy. copy ≡ self.now) }
     {
-        Ok(SharedSlice {
-            items: self.items.clone()?,
-        })
+        let items = match &self.items {
+            Some(items) => Some(items.clone()?),
+            None => None,
+        };
+
+        Ok(SharedSlice { items })
     }
 }
 
