@@ -3,7 +3,7 @@
 use casa_commit::{Room, World};
 use casa_flight::{Call, Reply};
 use casa_history::{Pass, Receipt};
-use casa_plan::{answer, board_of, plan};
+use casa_plan::{Direct, board_of, plan};
 use casa_view::{Board, Change, Copies};
 use std::alloc::{AllocError, Global};
 
@@ -32,7 +32,9 @@ impl Desk {
 
     /// Makes a call, and says whether it was answered.
     fn make(&mut self, alloc: Global, call: &Call) -> bool {
-        answer(alloc, &mut self.room, &mut self.pass, call).is_ok()
+        self.room
+            .locked(alloc, &mut self.pass, call, &Direct)
+            .is_ok()
     }
 
     /// Whether a call is answered. Where memory is refused, room and pass must be as they were, and it is made again.

@@ -3,7 +3,6 @@
 use casa_flight::{Key, RegId};
 use casa_view::{Board, Catalogue, Change, Copies};
 use std::alloc::Global;
-use std::collections::BTreeMap;
 
 /// All open regulations.
 fn catalogue(alloc: Global, board: &Board<Copies>) -> Option<Catalogue> {
@@ -17,24 +16,23 @@ fn catalogue(alloc: Global, board: &Board<Copies>) -> Option<Catalogue> {
 /// A change that writes again what has these names, as it stands: `clock`, `catalogue`, a regulation's list or a flight's
 /// row; after a `-` the absence of that row. `None` where there is none, or memory is refused.
 pub fn change(alloc: Global, board: &Board<Copies>, names: &str) -> Option<Change> {
-    let (mut clock, mut all) = (None, None);
-    let (mut rows, mut lists) = (BTreeMap::new(alloc), BTreeMap::new(alloc));
+    let mut change = Change::new(alloc);
     for name in names.split_whitespace() {
         if name == "clock" {
-            clock = Some(board.clock());
+            change.set_clock(board.clock());
         } else if name == "catalogue" {
-            all = Some(catalogue(alloc, board)?);
+            change.set_catalogue(catalogue(alloc, board)?).ok()?;
         } else if let Some(name) = name.strip_prefix('-') {
-            rows.insert(Key::new(name.as_bytes())?, None).ok()?;
+            change.set_row(Key::new(name.as_bytes())?, None).ok()?;
         } else if name.starts_with('R') {
             let id = RegId::new(name.as_bytes())?;
             let list = board.shared_list(&id)?.share().ok()?;
-            lists.insert(id, Some(list)).ok()?;
+            change.set_list(id, Some(list)).ok()?;
         } else {
             let key = Key::new(name.as_bytes())?;
             let row = board.row(&key)?.clone().ok()?;
-            rows.insert(key, Some(row)).ok()?;
+            change.set_row(key, Some(row)).ok()?;
         }
     }
-    Change::new(alloc, clock, all, rows, lists).ok()
+    Some(change)
 }

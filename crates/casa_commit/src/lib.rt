@@ -7,14 +7,16 @@
 
 mod commits;
 mod fault;
+mod gate;
 mod planning;
 mod prepared;
 mod room;
 mod tally;
 mod world;
 
-pub use commits::{commit, locked};
+pub use commits::commit;
 pub use fault::{CallFault, CommitFault, DeskFault};
+pub use gate::Gate;
 pub use planning::prepare;
 pub use prepared::Prepared;
 pub use room::Room;

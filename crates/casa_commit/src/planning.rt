@@ -1,27 +1,27 @@
 ghost use Rattle.std.specs.Prelude.{◌≡◌, IfOk};
-ghost use Rattle.casa_commit.specs.Answers.{TakesViews, OwesAnswers};
 ghost use Rattle.casa_commit.specs.Prepared.{call_of, view_of};
 
+use crate::gate::Gate;
 use crate::prepared::Prepared;
 use crate::world::World;
-use std::alloc::AllocError;
+use std::alloc::{AllocError, Global};
 
-/// Works out the answer to a call on a view of what it reads, or answers `AllocError` where `plan` does.
+/// Works out the answer to a desk's call on a view of what it reads, or answers `AllocError` where the gate does.
 ///
-/// `plan` owes the reply and the change of the call in every state in order that shows the view. No room and no lock
-/// is held meanwhile.
-pub fn prepare<W: World, F: Fn(&W::View, &W::Call) -> Result<(W::Reply, W::Change), AllocError>>(
+/// `turn` tells the gate which try of the call this is, from 0. No room and no lock is held meanwhile.
+pub fn prepare<W: World, G: Gate<W>>(
+    alloc: Global,
+    gate: &G,
+    desk: u32,
+    turn: u32,
     view: W::View,
     call: W::Call,
-    plan: &F,
 ) -> Result<Prepared<W>, AllocError>
     requires for_call { W.is_for view call }
-    requires callable { TakesViews W.World (F.pre plan.now) }
-    requires owes { OwesAnswers W.World (F.post plan.now) }
     ensures call { IfOk result (λ p. call_of p ≡ call) }
     ensures view { IfOk result (λ p. view_of p ≡ view) }
 {
-    let (reply, change) = plan(&view, &call)?;
+    let (reply, change) = gate.plan(alloc, desk, turn, &view, &call)?;
     Ok(Prepared {
         call,
         view,
@@ -30,19 +30,20 @@ pub fn prepare<W: World, F: Fn(&W::View, &W::Call) -> Result<(W::Reply, W::Chang
     })
 }
 
-/// The reply to a call and its change, worked out on a view of the world as it is. The view is let go with that, so that
-/// the change can be written where nothing is shared. `AllocError` where `plan` answers it, or where there is no memory
-/// for the view.
-pub(crate) fn answered_now<
-    W: World,
-    F: Fn(&W::View, &W::Call) -> Result<(W::Reply, W::Change), AllocError>,
->(world: &W, call: &W::Call, plan: &F) -> Result<(W::Reply, W::Change), AllocError>
+/// The reply to a desk's call and its change, worked out on a view of the world as it is. The view is let go with that, so
+/// that the change can be written where nothing is shared. `AllocError` where the gate answers it, or where there is no
+/// memory for the view.
+pub(crate) fn answered_now<W: World, G: Gate<W>>(
+    alloc: Global,
+    gate: &G,
+    world: &W,
+    desk: u32,
+    call: &W::Call,
+) -> Result<(W::Reply, W::Change), AllocError>
     requires good { W.good (W.state world.now) }
-    requires callable { TakesViews W.World (F.pre plan.now) }
-    requires owes { OwesAnswers W.World (F.post plan.now) }
     ensures { IfOk result (λ answer. (answer.0 ≡ W.reply (W.state world.now) call.now) ×
         ∥ W.changes (W.state world.now) call.now answer.1 ∥₁) }
 {
     let view = world.view(call)?;
-    plan(&view, call)
+    gate.plan(alloc, desk, 0, &view, call)
 }

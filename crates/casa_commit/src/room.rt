@@ -4,7 +4,9 @@ ghost use Rattle.casa_commit.specs.Legal.{entry, replay, IsLegal};
 ghost use Rattle.casa_commit.specs.Desks.{most_desks, AreTallies};
 ghost use Rattle.casa_commit.specs.Passes.{SamePass};
 
-use crate::fault::DeskFault;
+use crate::fault::{CallFault, DeskFault};
+use crate::gate::Gate;
+use crate::planning::answered_now;
 use crate::prepared::Prepared;
 use crate::tally::Tally;
 use crate::world::World;
@@ -108,6 +110,39 @@ impl<W: World> Room<W> {
         ensures desks { open_desks self.new ≡ open_desks self.old }
     {
         self.world.consolidate()
+    }
+
+    /// Takes a view for the desk's call, works the answer out by the gate and accepts it, all in one section, and gives the
+    /// receipt.
+    ///
+    /// A refusal changes nothing: `ForeignPass` where the room does not admit the pass, else `NoMemory` where memory was
+    /// refused.
+    pub fn locked<G: Gate<W>>(
+        &mut self,
+        alloc: Global,
+        pass: &mut Pass<W::Call, W::Reply>,
+        call: &W::Call,
+        gate: &G,
+    ) -> Result<Receipt<W::Call, W::Reply>, CallFault>
+        ensures foreign { (result ≡ Err CallFault.ForeignPass) ↔ ¬ (Admits self.old pass.old) }
+        ensures no_memory { result ≡ Err CallFault.NoMemory → Admits self.old pass.old }
+        ensures accepted { IfOk result (λ receipt.
+            (change : W.Change) × Accepts self.old pass.old call.now change receipt self.new pass.new) }
+        ensures refused { OnErr result (AreUnchanged self.old pass.old self.new pass.new) }
+    {
+        if !self.admits(pass) {
+            return Err(CallFault::ForeignPass);
+        }
+        let Ok((reply, change)) = answered_now(alloc, gate, self.world(), pass.desk(), call) else {
+            return Err(CallFault::NoMemory);
+        };
+        let Ok(call) = W::copy_call(call) else {
+            return Err(CallFault::NoMemory);
+        };
+        match self.append(pass, call, reply, change) {
+            Ok(receipt) => Ok(receipt),
+            Err(_) => Err(CallFault::NoMemory),
+        }
     }
 
     /// Whether the pass is this room's: its number, an open desk, and that desk's number of entries and last position.

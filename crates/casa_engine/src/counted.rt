@@ -1,7 +1,6 @@
 ghost use Rattle.std.specs.Prelude.{◌≡◌, ◌+◌, ◌<◌, ◌≤◌, ◌↔◌, ℕ, [], length, Err, IfOk, IfErr, OnOk, OnErr};
 ghost use Rattle.casa_history.specs.Entries.{entries, receipts, number_of, desk_of};
 ghost use Rattle.casa_history.specs.Settlement.{IsSettled};
-ghost use Rattle.casa_commit.specs.Answers.{TakesViews, OwesAnswers};
 ghost use Rattle.casa_commit.specs.Desks.{most_desks};
 ghost use Rattle.casa_commit.specs.Legal.{IsLegal};
 ghost use Rattle.casa_commit.specs.Passes.{SamePass};
@@ -17,7 +16,7 @@ ghost use Rattle.casa_engine.specs.Receipts.{Stands};
 use crate::lists::shared_lists;
 use crate::pass::CountedPass;
 use crate::shared::Shareable;
-use casa_commit::{CallFault, CommitFault, DeskFault, Prepared, Room, World, commit, locked};
+use casa_commit::{CallFault, CommitFault, DeskFault, Gate, Prepared, Room, World, commit};
 use casa_history::{History, Receipt, Settled, Torn, settle};
 use casa_list::SharedList;
 use casa_view::{Board, Kept};
@@ -110,14 +109,13 @@ impl<W: World, L: Ledger> CountedRoom<W, L> {
     }
 
     /// Answers a call in one section, and counts it.
-    pub(crate) fn locked<F: Fn(&W::View, &W::Call) -> Result<(W::Reply, W::Change), AllocError>>(
+    pub(crate) fn locked<G: Gate<W>>(
         &mut self,
+        alloc: Global,
         desk: &mut CountedPass<W, L>,
         call: &W::Call,
-        plan: &F,
+        gate: &G,
     ) -> Result<Receipt<W::Call, W::Reply>, CallFault>
-        requires callable { TakesViews W.World (F.pre plan.now) }
-        requires owes { OwesAnswers W.World (F.post plan.now) }
         ensures stands { IfOk result (λ r. Stands W.World (pass_of desk.old) call.now r (pass_of desk.new)) }
         ensures same_pass { OnErr result (SamePass (pass_of desk.old) (pass_of desk.new)) }
     {
@@ -127,7 +125,7 @@ impl<W: World, L: Ledger> CountedRoom<W, L> {
             spare: _,
         } = self;
         let CountedPass { pass, share } = desk;
-        let receipt = locked::<W, F>(room, pass, call, plan)?;
+        let receipt = room.locked(alloc, pass, call, gate)?;
         book.add(share, 1);
         Ok(receipt)
     }

@@ -3,11 +3,11 @@ ghost use Rattle.casa_commit.specs.Passes.{SamePass};
 ghost use Rattle.casa_engine.specs.Passes.{pass_of};
 ghost use Rattle.casa_engine.specs.Receipts.{Stands};
 
-use crate::gate::Gate;
 use crate::pass::CountedPass;
 use crate::shared::{Shareable, SharedRoom};
-use casa_commit::CallFault;
+use casa_commit::{CallFault, Gate};
 use casa_history::Receipt;
+use casa_plan::Direct;
 use std::sync::Wait;
 use std::sync::ledger::Ledger;
 
@@ -44,7 +44,10 @@ impl<'a, W: Shareable, L: Ledger, G, R> SharedDesk<'a, W, L, G, R> {
     }
 }
 
-impl<'a, W: Shareable, L: Ledger, G: Gate<W>, R: Wait> SharedDesk<'a, W, L, G, R> {
+impl<'a, W: Shareable, L: Ledger, G: Gate<W>, R: Wait> SharedDesk<'a, W, L, G, R>
+where
+    Direct: Gate<W>,
+{
     /// Answers a call and gives its receipt, as `call` of the room does.
     pub fn answer(&mut self, call: &W::Call) -> Result<Receipt<W::Call, W::Reply>, CallFault>
         ensures stands { IfOk result (λ r. Stands W.World (pass_of self.old.pass) call.now r (pass_of self.new.pass)) }

@@ -16,10 +16,9 @@ ghost use Rattle.casa_engine.specs.Receipts.{AllStand};
 
 use crate::audit::{Audit, audit_shared};
 use crate::desk::SharedDesk;
-use crate::gate::Gate;
 use crate::pass::CountedPass;
 use crate::shared::{Shareable, SharedRoom};
-use casa_commit::{CallFault, World};
+use casa_commit::{CallFault, Gate, World};
 use casa_desk::Desk;
 use casa_flight::{Call, Reply};
 use casa_history::Receipt;

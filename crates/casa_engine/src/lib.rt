@@ -8,7 +8,6 @@ mod audit;
 mod counted;
 mod desk;
 mod engine;
-mod gate;
 mod laws;
 mod lists;
 mod parts;
@@ -16,7 +15,8 @@ mod pass;
 mod shared;
 
 pub use audit::{Audit, audit_lists};
+pub use casa_commit::Gate;
+pub use casa_plan::Direct;
 pub use engine::{DeskPass, Engine, EngineDesk};
-pub use gate::{Direct, Gate};
 pub use laws::legal_histories_are_sequential;
 pub use parts::blank;

@@ -1,7 +1,6 @@
 ghost use Rattle.std.specs.Prelude.{◌≡◌, ◌<◌, ◌≤◌, ◌↔◌, ℕ, true, [], length, IfOk, IfErr, OnErr};
 ghost use Rattle.casa_history.specs.Entries.{entries, receipts};
 ghost use Rattle.casa_history.specs.Settlement.{IsSettled};
-ghost use Rattle.casa_commit.specs.Answers.{IsAnswer};
 ghost use Rattle.casa_commit.specs.Legal.{IsLegal};
 ghost use Rattle.casa_commit.specs.Passes.{SamePass};
 ghost use Rattle.casa_engine.specs.Ledgers.{IsBlankOf};
@@ -9,24 +8,22 @@ ghost use Rattle.casa_engine.specs.Passes.{pass_of, passes_in, calls_in};
 ghost use Rattle.casa_engine.specs.Receipts.{Stands};
 
 use crate::counted::CountedRoom;
-use crate::gate::Gate;
 use crate::parts::AllParts;
 use crate::pass::CountedPass;
-use casa_commit::{CallFault, CommitFault, DeskFault, prepare};
+use casa_commit::{CallFault, CommitFault, DeskFault, Gate, World, prepare};
 use casa_history::{History, Receipt, Settled, Torn};
-use casa_plan::Planned;
-use std::alloc::{AllocError, Global};
+use casa_plan::Direct;
+use std::alloc::Global;
 use std::sync::ledger::{Blank, Ledger};
 use std::sync::{Mutex, Wait};
 
 /// How often a call's answer is worked out outside the lock before it is worked out under it.
 const TRIES: u32 = 3;
 
-/// A world that desks in many threads may share: its calls are planned, and each of its views is of the one world that
-/// there is.
+/// A world that desks in many threads may share: each of its views is of the one world that there is.
 ///
 /// Where there are several worlds of one kind, its type names the one, and so do those of its views.
-pub trait Shareable: Planned<Call: PartialEq, Reply: PartialEq> {
+pub trait Shareable: World<Call: PartialEq, Reply: PartialEq> {
     /// Each view is of each world of this type.
     ghost one_world: { (v : Self.View) (w : Self) → Self.is_of v w };
 
@@ -45,7 +42,10 @@ pub struct SharedRoom<W: Shareable, L: Ledger, G> {
     parts: AllParts<L>,
 }
 
-impl<W: Shareable, L: Ledger, G: Gate<W>> SharedRoom<W, L, G> {
+impl<W: Shareable, L: Ledger, G: Gate<W>> SharedRoom<W, L, G>
+where
+    Direct: Gate<W>,
+{
     /// The room with this number over a world in the opening state; no desk is open.
     pub(crate) fn over(
         alloc: Global,
@@ -118,13 +118,7 @@ impl<W: Shareable, L: Ledger, G: Gate<W>> SharedRoom<W, L, G> {
             return Err(CommitFault::NoMemory);
         };
         let number = desk.pass.desk();
-        let alloc = self.alloc;
-        let gate = &self.gate;
-        let plan = |view: &W::View, call: &W::Call| -> Result<(W::Reply, W::Change), AllocError>
-            requires { W.is_for view.now call.now }
-            ensures { IfOk result (λ answer. IsAnswer W.World view.now call.now answer.0 answer.1) }
-        { gate.plan(alloc, number, turn, view, call) };
-        let Ok(prepared) = prepare::<W, _>(view, copy, &plan) else {
+        let Ok(prepared) = prepare(self.alloc, &self.gate, number, turn, view, copy) else {
             return Err(CommitFault::NoMemory);
         };
         // The lock is free again before a stale answer is dropped.
@@ -142,12 +136,7 @@ impl<W: Shareable, L: Ledger, G: Gate<W>> SharedRoom<W, L, G> {
         ensures stands { IfOk result (λ r. Stands W.World (pass_of desk.old) call.now r (pass_of desk.new)) }
         ensures same_pass { OnErr result (SamePass (pass_of desk.old) (pass_of desk.new)) }
     {
-        let alloc = self.alloc;
-        let plan = |view: &W::View, call: &W::Call| -> Result<(W::Reply, W::Change), AllocError>
-            requires { W.is_for view.now call.now }
-            ensures { IfOk result (λ answer. IsAnswer W.World view.now call.now answer.0 answer.1) }
-        { W::plan(alloc, view, call) };
-        self.room.lock(rt).locked(desk, call, &plan)
+        self.room.lock(rt).locked(self.alloc, desk, call, &Direct)
     }
 }
 

@@ -24,13 +24,13 @@ pub with_as : (all rs : List Regulation) (r : Regulation) → by_id all ≡ put 
 with_as all rs r h = sym (values-by_id all) ∙ ap (map (λ (e : Text × Regulation). e.1)) h
 
 -- the catalogue is written last
-pub opening_as : (v : Sight) (r : Regulation) (profile : List Period) (clock : ℕ) (rs : List Regulation) (over new : List Comp) (list : Listing)
+pub opening_as : (v : Sight) (r : Regulation) (profile : List Period) (clock : ℕ) (rs : List Regulation) (over : List Comp) (list : Listing)
     → AreInOrder v.rows → ((key : Text) → at_name v.rows key ≡ v.row key) → clock ≡ clock_in v → rs ≡ with_regulation r (regulations_in v)
-    → over ≡ flights_over (λ (row : Row). true) r v.rows → new ≡ filter (λ (c : Comp). option_map_or (may_compete clock) (v.row c.key) false) over
+    → over ≡ flights_over (λ (row : Row). true) r v.rows
     → list ≡ record { profile = profile; flights = all_forced over }
-    → record (with_entries clock rs v (record nothing_written { lists = put [] r.id (Some list) }) new) { catalogue = Some rs } ≡ after_opening v r profile
-opening_as v r profile clock rs over new list sorted rows clock_is rs_is over_is new_is list_is =
-    sym (entries_catalogue clock rs v (record nothing_written { lists = put [] r.id (Some list) }) (Some rs) new)
+    → record (with_entries clock rs v (record nothing_written { lists = put [] r.id (Some list) }) (filter (λ (c : Comp). option_map_or (may_compete clock) (v.row c.key) false) over)) { catalogue = Some rs } ≡ after_opening v r profile
+opening_as v r profile clock rs over list sorted rows clock_is rs_is over_is list_is =
+    sym (entries_catalogue clock rs v (record nothing_written { lists = put [] r.id (Some list) }) (Some rs) (filter (λ (c : Comp). option_map_or (may_compete clock) (v.row c.key) false) over))
     ∙ (λ i. change (clock_is i) (rs_is i) (list_now i) (new_now i))
   where
     change : ℕ → List Regulation → Listing → List Comp → Written
@@ -42,5 +42,5 @@ opening_as v r profile clock rs over new list sorted rows clock_is rs_is over_is
     found : AllByRecursion (λ (e : Text × Row). v.row e.0 ≡ Some e.1) v.rows
     found = all-each (λ (e : Text × Row). at_name v.rows e.0 ≡ Some e.1) (λ (e : Text × Row). v.row e.0 ≡ Some e.1) (λ e f. sym (rows e.0) ∙ f) v.rows (each_found v.rows sorted)
 
-    new_now : new ≡ flights_over (may_compete (clock_in v)) r v.rows
-    new_now = new_is ∙ (λ i. filter (λ (c : Comp). option_map_or (may_compete (clock_is i)) (v.row c.key) false) (over_is i)) ∙ newcomers v.row (may_compete (clock_in v)) r v.rows found
+    new_now : filter (λ (c : Comp). option_map_or (may_compete clock) (v.row c.key) false) over ≡ flights_over (may_compete (clock_in v)) r v.rows
+    new_now = (λ i. filter (λ (c : Comp). option_map_or (may_compete (clock_is i)) (v.row c.key) false) (over_is i)) ∙ newcomers v.row (may_compete (clock_in v)) r v.rows found

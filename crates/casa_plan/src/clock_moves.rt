@@ -7,14 +7,13 @@ ghost use Rattle.casa_answer.specs.Write.{with_stances};
 ghost use Rattle.casa_answer.specs.Issue.{governed_stance, governed_stances, with_issue, with_issues, tick};
 ghost use Rattle.casa_plan.specs.Seen.{sight};
 
-use crate::draft::Draft;
 use crate::replies::{done, refused};
 use crate::sighted::clock;
 use crate::write::stand;
 use casa_flight::{Key, Refusal, Reply, Row, Stance};
 use casa_list::SlotList;
 use casa_time::Moment;
-use casa_view::{Version, View};
+use casa_view::{Change, Version, View};
 use std::alloc::{AllocError, Global};
 
 /// The calculated time over that a flight has in the list that governs it, as the view shows that.
@@ -39,7 +38,7 @@ fn governed_stance(list: Option<&SlotList>, key: &Key, row: &Row) -> Option<Stan
 fn stand_governed<V: Version>(
     alloc: Global,
     view: &View<V>,
-    draft: &mut Draft,
+    draft: &mut Change,
     key: Key,
     row: &Row,
 ) -> Result<(), AllocError>
@@ -58,7 +57,7 @@ fn stand_governed<V: Version>(
 fn issue<V: Version>(
     alloc: Global,
     view: &View<V>,
-    draft: &mut Draft,
+    draft: &mut Change,
     key: Key,
 ) -> Result<(), AllocError>
     ensures { OnOk result (draft.new ≡ with_issue (sight V.item_of view.now) draft.old key) }
@@ -76,7 +75,7 @@ fn issue<V: Version>(
 fn issue_each<V: Version>(
     alloc: Global,
     view: &View<V>,
-    draft: &mut Draft,
+    draft: &mut Change,
     keys: &[Key],
 ) -> Result<(), AllocError>
     ensures { OnOk result (draft.new ≡ with_issues (sight V.item_of view.now) draft.old keys.now) }
@@ -93,14 +92,14 @@ pub(crate) fn tick<V: Version>(
     alloc: Global,
     view: &View<V>,
     at: Moment,
-) -> Result<(Reply, Draft), AllocError>
+) -> Result<(Reply, Change), AllocError>
     ensures { IfOk result (λ p. p ≡ tick (sight V.item_of view.now) at) }
 {
     if at < clock(view) {
         return Ok(refused(alloc, Refusal::BackInTime));
     }
     let due = view.due(alloc, at)?;
-    let mut draft = Draft::new(alloc);
+    let mut draft = Change::new(alloc);
     draft.set_clock(at);
     issue_each(alloc, view, &mut draft, due.as_slice())?;
     done(alloc, view, draft)

@@ -9,13 +9,12 @@ ghost use Rattle.casa_answer.specs.Closing.{without_regulation, governed_comp, g
 ghost use Rattle.casa_answer.specs.Closing.{after_closing, close_reg};
 ghost use Rattle.casa_plan.specs.Seen.{sight};
 
-use crate::draft::Draft;
 use crate::entering::enter_all;
 use crate::replies::{done, refused};
 use crate::sighted::clock;
 use casa_flight::{Comp, Key, Refusal, RegId, Reply, Stance, sort_comps};
 use casa_list::SlotList;
-use casa_view::{Catalogue, Version, View};
+use casa_view::{Catalogue, Change, Version, View};
 use std::alloc::{AllocError, Global};
 
 /// The catalogue of what a view shows, but for one regulation. `AllocError` where there is no memory for it.
@@ -63,16 +62,16 @@ fn after_closing<V: Version>(
     view: &View<V>,
     id: RegId,
     list: &SlotList,
-) -> Result<Draft, AllocError>
+) -> Result<Change, AllocError>
     ensures { IfOk result (λ draft. draft ≡ after_closing (sight V.item_of view.now) id list.now) }
 {
     let catalogue = without_regulation(alloc, view, &id)?;
     let comps = governed_flights(alloc, list)?;
     let comps = comps.as_slice();
-    let mut draft = Draft::new(alloc);
+    let mut draft = Change::new(alloc);
     draft.set_list(id, None)?;
     enter_all(alloc, view, &mut draft, clock(view), &catalogue, comps)?;
-    draft.set_catalogue(catalogue);
+    draft.set_catalogue(catalogue)?;
     Ok(draft)
 }
 
@@ -81,7 +80,7 @@ pub(crate) fn close_reg<V: Version>(
     alloc: Global,
     view: &View<V>,
     id: RegId,
-) -> Result<(Reply, Draft), AllocError>
+) -> Result<(Reply, Change), AllocError>
     ensures { IfOk result (λ p. p ≡ close_reg (sight V.item_of view.now) id) }
 {
     let Some(list) = view.list(&id) else {

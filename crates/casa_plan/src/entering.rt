@@ -7,20 +7,20 @@ ghost use Rattle.casa_answer.specs.Sight.{row_with};
 ghost use Rattle.casa_answer.specs.Enter.{situation_with, with_reentry, with_entries};
 ghost use Rattle.casa_plan.specs.Seen.{sight};
 
-use crate::draft::Draft;
 use crate::flight_lists::Crossings;
 use crate::offers::best_offer;
+use crate::sighted::row_with;
 use crate::write::write_flight;
 use casa_flight::{Comp, Key, Row};
 use casa_time::Moment;
-use casa_view::{Catalogue, Version, View};
+use casa_view::{Catalogue, Change, Version, View};
 use std::alloc::{AllocError, Global};
 
 /// An ungoverned flight as it stands once it has entered, where these regulations are open. `AllocError` where there is no
 /// memory to work it out.
 fn entered<V: Version>(
     view: &View<V>,
-    draft: &Draft,
+    draft: &Change,
     clock: Moment,
     _catalogue: &Catalogue,
     key: Key,
@@ -41,10 +41,10 @@ fn entered<V: Version>(
 }
 
 /// The flight under a key enters anew, if there is one. `AllocError` where there is no memory for that.
-fn reenter<V: Version>(
+pub(crate) fn reenter<V: Version>(
     alloc: Global,
     view: &View<V>,
-    draft: &mut Draft,
+    draft: &mut Change,
     clock: Moment,
     catalogue: &Catalogue,
     key: Key,
@@ -53,7 +53,7 @@ fn reenter<V: Version>(
         with_reentry clock catalogue.now (sight V.item_of view.now) draft.old key
         (row_with (sight V.item_of view.now) draft.old key)) }
 {
-    let Some(row) = draft.row_with(view, &key) else {
+    let Some(row) = row_with(view, draft, &key) else {
         return Ok(());
     };
     let row = row.ungoverned()?;
@@ -66,7 +66,7 @@ fn reenter<V: Version>(
 pub(crate) fn enter_all<V: Version>(
     alloc: Global,
     view: &View<V>,
-    draft: &mut Draft,
+    draft: &mut Change,
     clock: Moment,
     catalogue: &Catalogue,
     comps: &[Comp],

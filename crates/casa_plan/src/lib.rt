@@ -4,7 +4,6 @@
 
 mod clock_moves;
 mod closing;
-mod draft;
 mod entering;
 mod flight_lists;
 mod laws;
@@ -12,7 +11,6 @@ mod new_rates;
 mod offers;
 mod one_flight;
 mod opening;
-mod planned;
 mod planning;
 mod replies;
 mod rooms;
@@ -22,6 +20,5 @@ mod telling;
 mod write;
 
 pub use laws::views_show_what_is_read;
-pub use planned::Planned;
-pub use planning::plan;
-pub use rooms::{answer, board_of};
+pub use planning::{Direct, plan};
+pub use rooms::board_of;

@@ -4,12 +4,11 @@ ghost use Rattle.std.specs.Prelude.{◌≡◌, IfOk};
 ghost use Rattle.casa_answer.specs.NewRates.{new_rates, rates};
 ghost use Rattle.casa_plan.specs.Seen.{sight};
 
-use crate::draft::Draft;
 use crate::replies::{no_messages, refused};
 use casa_flight::{Answer, Refusal, RegId, Reply, has_span};
 use casa_grid::{Grid, Profile};
 use casa_list::{SharedList, SlotList};
-use casa_view::{Version, View};
+use casa_view::{Change, Version, View};
 use std::alloc::{AllocError, Global};
 
 /// The list with a new profile, to be written. `AllocError` where there is no memory for it.
@@ -18,12 +17,12 @@ fn new_rates(
     id: RegId,
     profile: &Profile,
     list: &SlotList,
-) -> Result<Draft, AllocError>
+) -> Result<Change, AllocError>
     ensures { IfOk result (λ draft. draft ≡ new_rates id profile.now list.now) }
 {
     let mut list = list.try_clone()?;
     list.regrid(Grid::of(alloc, profile)?)?;
-    let mut draft = Draft::new(alloc);
+    let mut draft = Change::new(alloc);
     draft.set_list(id, Some(SharedList::new(alloc, list)?))?;
     Ok(draft)
 }
@@ -35,7 +34,7 @@ pub(crate) fn rates<V: Version>(
     view: &View<V>,
     id: RegId,
     profile: &Profile,
-) -> Result<(Reply, Draft), AllocError>
+) -> Result<(Reply, Change), AllocError>
     ensures { IfOk result (λ p. p ≡ rates (sight V.item_of view.now) id profile.now) }
 {
     let Some(list) = view.list(&id) else {

@@ -10,13 +10,12 @@ ghost use Rattle.casa_answer.specs.Sight.{list_with, regulations_in};
 ghost use Rattle.casa_answer.specs.OneFlight.{offers_of, entry_offer, with_offer, offered_delay};
 ghost use Rattle.casa_plan.specs.Seen.{sight};
 
-use crate::draft::Draft;
 use crate::flight_lists::{Crossings, take_out};
-use crate::sighted::clock;
+use crate::sighted::{clock, list_with};
 use casa_flight::{Comp, Key, Offer, RegId, Row, Stance, more_penalising};
 use casa_list::SlotList;
 use casa_time::Moment;
-use casa_view::{Version, View};
+use casa_view::{Change, Version, View};
 use std::alloc::{AllocError, Global};
 
 /// The calculated time over that a flight would have as a competitor once it had left, worked out on a copy.
@@ -59,7 +58,7 @@ pub(crate) fn time_there(list: &SlotList, comp: &Comp) -> Result<Moment, AllocEr
 /// `None` without a list. `AllocError` where there is no memory to work it out.
 fn offer_of<V: Version>(
     view: &View<V>,
-    draft: &Draft,
+    draft: &Change,
     key: Key,
     id: RegId,
     eto: Moment,
@@ -67,7 +66,7 @@ fn offer_of<V: Version>(
     ensures { IfOk result (λ offer. offer ≡
         offer_in id key (list_with (sight V.item_of view.now) draft.now id) (Some eto)) }
 {
-    let Some(list) = draft.list_with(view, &id) else {
+    let Some(list) = list_with(view, draft, &id) else {
         return Ok(None);
     };
     let cto = time_there(list, &Comp { eto, key })?;
@@ -77,7 +76,7 @@ fn offer_of<V: Version>(
 /// The most penalising offer of these regulations. `AllocError` where there is no memory to work it out.
 pub(crate) fn best_offer<V: Version>(
     view: &View<V>,
-    draft: &Draft,
+    draft: &Change,
     key: Key,
     over: &Crossings,
 ) -> Result<Option<Offer>, AllocError>
@@ -108,7 +107,7 @@ pub(crate) fn entry_offer<V: Version>(
     if row.is_exempt() || row.plan.is_gone(clock(view)) {
         return Ok(None);
     }
-    best_offer(view, &Draft::new(alloc), key, over)
+    best_offer(view, &Change::new(alloc), key, over)
 }
 
 /// The flight with the offer that it takes, if there is one.

@@ -7,7 +7,6 @@ ghost use Rattle.casa_answer.specs.Sight.{regulations_in};
 ghost use Rattle.casa_answer.specs.FlightCalls.{unchanged, rewritten, taking, entering, file, amend, cancel, is_taken, revise, exempted_if, exempt, show};
 ghost use Rattle.casa_plan.specs.Seen.{sight};
 
-use crate::draft::Draft;
 use crate::flight_lists::Crossings;
 use crate::offers::{entry_offer, offered_delay, with_offer};
 use crate::replies::refused;
@@ -15,7 +14,7 @@ use crate::sighted::{clock, crossed};
 use crate::telling::{ctot_shown, delay_shown, told};
 use crate::write::flight_written;
 use casa_flight::{Answer, FlightReply, Key, Messages, Offer, Plan, Refusal, Reply, Row};
-use casa_view::{Version, View};
+use casa_view::{Change, Version, View};
 use std::alloc::{AllocError, Global};
 use std::collections::BTreeMap;
 
@@ -25,13 +24,13 @@ fn unchanged<V: Version>(
     view: &View<V>,
     key: Key,
     row: &Row,
-) -> Result<(Reply, Draft), AllocError>
+) -> Result<(Reply, Change), AllocError>
     ensures { IfOk result (λ p. p ≡ unchanged (sight V.item_of view.now) key row.now) }
 {
     let flight = FlightReply::of(key, row, delay_shown(view, key, row));
     let messages = Messages::from_vec(Vec::new(alloc))?;
     let reply = Reply::Answered(Answer::Flight(flight), messages);
-    Ok((reply, Draft::new(alloc)))
+    Ok((reply, Change::new(alloc)))
 }
 
 /// A flight that stood so now stands so, with this delay in seconds, subject to these regulations.
@@ -43,7 +42,7 @@ fn rewritten<V: Version>(
     row: Row,
     delay: u32,
     has: &Crossings,
-) -> Result<(Reply, Draft), AllocError>
+) -> Result<(Reply, Change), AllocError>
     requires in_range { delay ≤ last_moment }
     requires subject { has.now.entries ≡ crossed row.plan (regulations_in (sight V.item_of view.now)) }
     ensures { IfOk result (λ p.
@@ -63,7 +62,7 @@ fn taking<V: Version>(
     row: Row,
     offer: &Option<Offer>,
     has: &Crossings,
-) -> Result<(Reply, Draft), AllocError>
+) -> Result<(Reply, Change), AllocError>
     requires { has.now.entries ≡ crossed row.plan (regulations_in (sight V.item_of view.now)) }
     ensures { IfOk result (λ p.
         p ≡ taking (sight V.item_of view.now) key (option_copied was.entry) row offer.now) }
@@ -79,7 +78,7 @@ fn entering<V: Version>(
     key: Key,
     was: Option<&Row>,
     row: Row,
-) -> Result<(Reply, Draft), AllocError>
+) -> Result<(Reply, Change), AllocError>
     ensures { IfOk result (λ p.
         p ≡ entering (sight V.item_of view.now) key (option_copied was.entry) row) }
 {
@@ -93,7 +92,7 @@ pub(crate) fn file<V: Version>(
     alloc: Global,
     view: &View<V>,
     plan: &Plan,
-) -> Result<(Reply, Draft), AllocError>
+) -> Result<(Reply, Change), AllocError>
     ensures { IfOk result (λ p. p ≡ file (sight V.item_of view.now) plan.now) }
 {
     let key = plan.key();
@@ -112,7 +111,7 @@ pub(crate) fn amend<V: Version>(
     alloc: Global,
     view: &View<V>,
     plan: &Plan,
-) -> Result<(Reply, Draft), AllocError>
+) -> Result<(Reply, Change), AllocError>
     ensures { IfOk result (λ p. p ≡ amend (sight V.item_of view.now) plan.now) }
 {
     let key = plan.key();
@@ -130,7 +129,7 @@ pub(crate) fn cancel<V: Version>(
     alloc: Global,
     view: &View<V>,
     key: Key,
-) -> Result<(Reply, Draft), AllocError>
+) -> Result<(Reply, Change), AllocError>
     ensures { IfOk result (λ p. p ≡ cancel (sight V.item_of view.now) key) }
 {
     let Some(row) = view.row(&key) else {
@@ -161,7 +160,7 @@ pub(crate) fn revise<V: Version>(
     alloc: Global,
     view: &View<V>,
     key: Key,
-) -> Result<(Reply, Draft), AllocError>
+) -> Result<(Reply, Change), AllocError>
     ensures { IfOk result (λ p. p ≡ revise (sight V.item_of view.now) key) }
 {
     let Some(row) = view.row(&key) else {
@@ -183,7 +182,7 @@ fn exempted<V: Version>(
     view: &View<V>,
     key: Key,
     row: &Row,
-) -> Result<(Reply, Draft), AllocError>
+) -> Result<(Reply, Change), AllocError>
     ensures { IfOk result (λ p. p ≡ exempted_if (sight V.item_of view.now) key row.now false) }
 {
     let has = crossed(alloc, view, &row.plan)?;
@@ -195,7 +194,7 @@ pub(crate) fn exempt<V: Version>(
     alloc: Global,
     view: &View<V>,
     key: Key,
-) -> Result<(Reply, Draft), AllocError>
+) -> Result<(Reply, Change), AllocError>
     ensures { IfOk result (λ p. p ≡ exempt (sight V.item_of view.now) key) }
 {
     let Some(row) = view.row(&key) else {
@@ -212,7 +211,7 @@ pub(crate) fn show<V: Version>(
     alloc: Global,
     view: &View<V>,
     key: Key,
-) -> Result<(Reply, Draft), AllocError>
+) -> Result<(Reply, Change), AllocError>
     ensures { IfOk result (λ p. p ≡ show (sight V.item_of view.now) key) }
 {
     match view.row(&key) {

@@ -1,24 +1,24 @@
 //! The planner of a regulation that opens.
 
-ghost use Rattle.std.specs.Prelude.{◌≡◌, List, Bool, false, Option, IfOk, Some};
+ghost use Rattle.std.specs.Prelude.{◌≡◌, List, Bool, false, Option, IfOk, OnOk, Some};
 ghost use Rattle.std.specs.Option.{option_map_or};
 ghost use Rattle.std.specs.List.{filter};
 ghost use Rattle.casa_flight.specs.declared.comp.Comp.{Comp};
 ghost use Rattle.casa_flight.specs.State.{regulation};
 ghost use Rattle.casa_flight.specs.Steps.{may_compete, most_regulations};
 ghost use Rattle.casa_answer.specs.Sight.{regulations_in};
+ghost use Rattle.casa_answer.specs.Enter.{with_entries};
 ghost use Rattle.casa_answer.specs.Opening.{with_regulation, all_forced, after_opening, open_reg};
 ghost use Rattle.casa_plan.specs.Seen.{sight};
 
-use crate::draft::Draft;
-use crate::entering::enter_all;
+use crate::entering::reenter;
 use crate::replies::{done, refused};
 use crate::sighted::{clock, regulations};
 use casa_flight::{Comp, Key, Loc, MAX_REGULATIONS, Refusal, RegId, Regulation, Reply, Stance};
 use casa_grid::{Grid, Profile};
 use casa_list::{SharedList, SlotList};
 use casa_time::Moment;
-use casa_view::{Catalogue, Version, View};
+use casa_view::{Catalogue, Change, Version, View};
 use std::alloc::{AllocError, Global};
 use std::collections::{BTreeMap, BTreeSet};
 
@@ -85,23 +85,26 @@ fn may_compete<V: Version>(view: &View<V>, clock: Moment, key: &Key) -> bool
     }
 }
 
-/// Those of these flights that may compete. `AllocError` where there is no memory for them.
-fn newcomers<V: Version>(
+/// Those of these flights that may compete enter one by one, where these regulations are open. `AllocError` where there is
+/// no memory for that.
+fn enter_newcomers<V: Version>(
     alloc: Global,
     view: &View<V>,
+    draft: &mut Change,
     clock: Moment,
+    catalogue: &Catalogue,
     comps: &BTreeSet<Comp>,
-) -> Result<Vec<Comp>, AllocError>
-    ensures { IfOk result (λ new. new.items ≡ filter (λ (c : Comp).
-        option_map_or (may_compete clock) ((sight V.item_of view.now).row c.key) false) comps.now.keys) }
+) -> Result<(), AllocError>
+    ensures { OnOk result (draft.new ≡
+        with_entries clock catalogue.now (sight V.item_of view.now) draft.old (filter (λ (c : Comp).
+        option_map_or (may_compete clock) ((sight V.item_of view.now).row c.key) false) comps.now.keys)) }
 {
-    let mut new = Vec::new(alloc);
     for comp in comps {
         if may_compete(view, clock, &comp.key) {
-            new.push(*comp)?;
+            reenter(alloc, view, draft, clock, catalogue, comp.key)?;
         }
     }
-    Ok(new)
+    Ok(())
 }
 
 /// What is written where a regulation opens and takes flights in. `AllocError` where there is no memory for that.
@@ -110,18 +113,17 @@ fn after_opening<V: Version>(
     view: &View<V>,
     regulation: Regulation,
     profile: &Profile,
-) -> Result<Draft, AllocError>
+) -> Result<Change, AllocError>
     ensures { IfOk result (λ draft. draft ≡
         after_opening (sight V.item_of view.now) regulation profile.now) }
 {
     let clock = clock(view);
     let catalogue = with_regulation(alloc, view, regulation)?;
     let over = view.flights_over(alloc, &regulation)?;
-    let comps = newcomers(alloc, view, clock, &over)?;
-    let mut draft = Draft::new(alloc);
+    let mut draft = Change::new(alloc);
     draft.set_list(regulation.id, Some(new_list(alloc, profile, &over)?))?;
-    enter_all(alloc, view, &mut draft, clock, &catalogue, comps.as_slice())?;
-    draft.set_catalogue(catalogue);
+    enter_newcomers(alloc, view, &mut draft, clock, &catalogue, &over)?;
+    draft.set_catalogue(catalogue)?;
     Ok(draft)
 }
 
@@ -133,7 +135,7 @@ pub(crate) fn open_reg<V: Version>(
     id: RegId,
     loc: Loc,
     profile: &Profile,
-) -> Result<(Reply, Draft), AllocError>
+) -> Result<(Reply, Change), AllocError>
     ensures { IfOk result (λ p. p ≡ open_reg (sight V.item_of view.now) id loc profile.now) }
 {
     if view.list(&id).is_some() {

@@ -1,25 +1,24 @@
-//! The planner of each call.
+//! The planner of each call, and the gate of programs.
 
 ghost use Rattle.std.specs.Prelude.{◌≡◌, IfOk};
 ghost use Rattle.casa_flight.specs.declared.state.State.{State};
 ghost use Rattle.casa_flight.specs.Good.{IsGood};
 ghost use Rattle.casa_flight.specs.Replies.{reply};
 ghost use Rattle.casa_footprint.specs.Change.{IsChange};
-ghost use Rattle.casa_view.specs.Board.{says};
 ghost use Rattle.casa_view.specs.View.{IsFor, Shows};
-ghost use Rattle.casa_answer.specs.Sight.{IsPlanned};
+ghost use Rattle.casa_answer.specs.Sight.{IsPlanned, says};
 ghost use Rattle.casa_plan.specs.Seen.{sight};
 
 use crate::clock_moves::tick;
 use crate::closing::close_reg;
-use crate::draft::Draft;
 use crate::new_rates::rates;
 use crate::one_flight::{amend, cancel, exempt, file, revise, show};
 use crate::opening::open_reg;
 use crate::shown_list::list;
 use crate::sighted::in_order;
+use casa_commit::Gate;
 use casa_flight::{Call, Reply};
-use casa_view::{Change, Version, View};
+use casa_view::{Board, Change, Kept, Version, View};
 use std::alloc::{AllocError, Global};
 
 /// The reply to a call, and what the call writes, by what a view shows.
@@ -27,7 +26,7 @@ fn planned<V: Version>(
     alloc: Global,
     view: &View<V>,
     call: &Call,
-) -> Result<(Reply, Draft), AllocError>
+) -> Result<(Reply, Change), AllocError>
     ensures { IfOk result (IsPlanned (sight V.item_of view.now) call.now) }
 {
     match call {
@@ -57,6 +56,22 @@ pub fn plan<V: Version>(
         (p.0 ≡ reply m call.now) × IsChange m call.now (says p.1)) }
 {
     in_order(view);
-    let (reply, draft) = planned(alloc, view, call)?;
-    Ok((reply, draft.into_change()?))
+    planned(alloc, view, call)
+}
+
+/// The gate of programs: works each answer out at once.
+#[derive(Clone, Copy, Debug)]
+pub struct Direct;
+
+impl<K: Kept> Gate<Board<K>> for Direct {
+    fn plan(
+        &self,
+        alloc: Global,
+        _desk: u32,
+        _turn: u32,
+        view: &View<K::Version>,
+        call: &Call,
+    ) -> Result<(Reply, Change), AllocError> {
+        plan(alloc, view, call)
+    }
 }

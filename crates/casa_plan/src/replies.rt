@@ -8,18 +8,18 @@ ghost use Rattle.casa_answer.specs.Sight.{nothing_written, list_with};
 ghost use Rattle.casa_answer.specs.Told.{ctot_by, message_shown, messages_shown, done};
 ghost use Rattle.casa_plan.specs.Seen.{sight};
 
-use crate::draft::Draft;
+use crate::sighted::list_with;
 use crate::telling::{ctot_shown_if, delay_in};
 use casa_flight::{Answer, Key, Message, Messages, Refusal, Reply, Row, is_issued};
 use casa_list::SlotList;
-use casa_view::{Version, View};
+use casa_view::{Change, Version, View, WrittenRow};
 use std::alloc::{AllocError, Global};
 
 /// A refused call, which writes nothing.
-pub(crate) fn refused(alloc: Global, refusal: Refusal) -> (Reply, Draft)
+pub(crate) fn refused(alloc: Global, refusal: Refusal) -> (Reply, Change)
     ensures { result ≡ (Reply.Refused refusal, nothing_written) }
 {
-    (Reply::Refused(refusal), Draft::new(alloc))
+    (Reply::Refused(refusal), Change::new(alloc))
 }
 
 /// No message. `AllocError` where there is no memory for the count of its copies.
@@ -41,18 +41,18 @@ fn delay_at(list: Option<&SlotList>, key: &Key) -> u32
 }
 
 /// The calculated take-off time of a flight with a draft laid over the view, in seconds from midnight UTC.
-fn ctot_drafted<V: Version>(view: &View<V>, draft: &Draft, key: &Key, row: &Row) -> u32
+fn ctot_drafted<V: Version>(view: &View<V>, draft: &Change, key: &Key, row: &Row) -> u32
     ensures { result ≡ ctot_by (list_with (sight V.item_of view.now) draft.now) key.now row.now }
 {
     let Some(id) = row.governing else {
         return row.plan.etot();
     };
-    row.plan.etot() + delay_at(draft.list_with(view, &id), key)
+    row.plan.etot() + delay_at(list_with(view, draft, &id), key)
 }
 
 /// The message to the operator of a flight that a draft writes. Take-off times are worked out only where it depends on
 /// them.
-fn message_to<V: Version>(view: &View<V>, draft: &Draft, key: &Key, row: &Row) -> Option<Message>
+fn message_to<V: Version>(view: &View<V>, draft: &Change, key: &Key, row: &Row) -> Option<Message>
     ensures { result ≡ message_shown (sight V.item_of view.now) draft.now key.now row.now }
 {
     let was_issued = is_issued(view.row(key));
@@ -73,13 +73,13 @@ fn message_to<V: Version>(view: &View<V>, draft: &Draft, key: &Key, row: &Row) -
 /// The message of a row that a draft writes, if it writes one.
 fn message_of_row<V: Version>(
     view: &View<V>,
-    draft: &Draft,
+    draft: &Change,
     key: &Key,
-    row: &Option<Row>,
+    row: &WrittenRow,
 ) -> Option<Message>
     ensures { result ≡ option_and_then (message_shown (sight V.item_of view.now) draft.now key.now) row.now }
 {
-    message_to(view, draft, key, row.as_ref()?)
+    message_to(view, draft, key, row.row()?)
 }
 
 /// The messages to the operators of the flights that a draft writes, in the order of their keys. `AllocError` where
@@ -87,7 +87,7 @@ fn message_of_row<V: Version>(
 fn messages<V: Version>(
     alloc: Global,
     view: &View<V>,
-    draft: &Draft,
+    draft: &Change,
 ) -> Result<Vec<Message>, AllocError>
     ensures { IfOk result (λ all. all.items ≡ messages_shown (sight V.item_of view.now) draft.now) }
 {
@@ -105,8 +105,8 @@ fn messages<V: Version>(
 pub(crate) fn done<V: Version>(
     alloc: Global,
     view: &View<V>,
-    draft: Draft,
-) -> Result<(Reply, Draft), AllocError>
+    draft: Change,
+) -> Result<(Reply, Change), AllocError>
     ensures { IfOk result (λ p. p ≡ done (sight V.item_of view.now) draft) }
 {
     let messages = Messages::from_vec(messages(alloc, view, &draft)?)?;

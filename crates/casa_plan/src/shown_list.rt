@@ -15,7 +15,6 @@ ghost use Rattle.casa_answer.specs.Look.{rows_shown, list_shown, list};
 ghost use Rattle.casa_plan.specs.Rows.{row_as};
 ghost use Rattle.casa_plan.specs.Seen.{sight};
 
-use crate::draft::Draft;
 use crate::replies::{no_messages, refused};
 use crate::telling::delay_shown;
 use casa_flight::{
@@ -23,7 +22,7 @@ use casa_flight::{
     slot_number, sort_rows,
 };
 use casa_list::{SlotList, Standing};
-use casa_view::{Version, View};
+use casa_view::{Change, Version, View};
 use std::alloc::{AllocError, Global};
 
 /// The delay that a flight is shown with, in seconds; none where the view does not show it.
@@ -126,7 +125,7 @@ pub(crate) fn list<V: Version>(
     alloc: Global,
     view: &View<V>,
     id: RegId,
-) -> Result<(Reply, Draft), AllocError>
+) -> Result<(Reply, Change), AllocError>
     ensures { IfOk result (λ p. p ≡ list (sight V.item_of view.now) id) }
 {
     let Some(regulation) = regulation(view, &id) else {
@@ -137,5 +136,5 @@ pub(crate) fn list<V: Version>(
     };
     let shown = list_shown(alloc, view, regulation, list)?;
     let reply = Reply::Answered(Answer::List(shown), no_messages(alloc)?);
-    Ok((reply, Draft::new(alloc)))
+    Ok((reply, Change::new(alloc)))
 }

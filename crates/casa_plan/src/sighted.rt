@@ -1,14 +1,16 @@
-//! What a view shows to a planner.
+//! What a view shows to a planner, alone or with a change laid over it.
 
 ghost use Rattle.std.specs.Prelude.{◌≡◌, IfOk};
+ghost use Rattle.std.specs.Option.{option_copied};
 ghost use Rattle.casa_footprint.specs.Finding.{crossed};
 ghost use Rattle.casa_view.specs.Shown.{HasRowsInOrder};
-ghost use Rattle.casa_answer.specs.Sight.{clock_in, regulations_in};
+ghost use Rattle.casa_answer.specs.Sight.{clock_in, regulations_in, row_with, list_with};
 ghost use Rattle.casa_plan.specs.Seen.{sight};
 
-use casa_flight::{Plan, RegId, Regulation};
+use casa_flight::{Key, Plan, RegId, Regulation, Row};
+use casa_list::SlotList;
 use casa_time::Moment;
-use casa_view::{Version, View};
+use casa_view::{Change, Version, View};
 use std::alloc::{AllocError, Global};
 use std::collections::BTreeMap;
 
@@ -52,4 +54,32 @@ pub(crate) fn in_order<V: Version>(view: &View<V>)
     ensures { HasRowsInOrder view.now }
 {
     let _rows = view.rows();
+}
+
+/// The row of a flight as it is written, or else as the view shows it.
+pub(crate) fn row_with<'a, V: Version>(
+    view: &'a View<V>,
+    draft: &'a Change,
+    key: &Key,
+) -> Option<&'a Row>
+    ensures { option_copied result ≡ row_with (sight V.item_of view.now) draft.now key.now }
+{
+    match draft.rows().get(key) {
+        Some(row) => row.row(),
+        None => view.row(key),
+    }
+}
+
+/// The list of a regulation as it is written, or else as the view shows it.
+pub(crate) fn list_with<'a, V: Version>(
+    view: &'a View<V>,
+    draft: &'a Change,
+    id: &RegId,
+) -> Option<&'a SlotList>
+    ensures { option_copied result ≡ list_with (sight V.item_of view.now) draft.now id.now }
+{
+    match draft.lists().get(id) {
+        Some(list) => Some(list.as_ref()?.list()),
+        None => view.list(id),
+    }
 }

@@ -3,19 +3,47 @@
 ghost use Rattle.std.specs.Prelude.{◌≡◌, ◌++◌, [], ◌∷◌, IfOk, OnOk, option_copied};
 ghost use Rattle.std.specs.Option.{option_map};
 ghost use Rattle.casa_flight.specs.Listing.{Listing};
-ghost use Rattle.casa_answer.specs.Sight.{regulations_in};
+ghost use Rattle.casa_flight.specs.Text.{without};
+ghost use Rattle.casa_flight.specs.Good.{AreInOrder};
+ghost use Rattle.casa_answer.specs.Sight.{regulations_in, list_with};
 ghost use Rattle.casa_answer.specs.Write.{with_flight, with_stances, crossed_by, left, standing, write_flight};
 ghost use Rattle.casa_answer.specs.OneFlight.{flight_written};
 ghost use Rattle.casa_plan.specs.Seen.{sight};
 
-use crate::draft::Draft;
 use crate::flight_lists::{Crossings, with_flight};
 use crate::sighted::crossed;
 use casa_flight::{Key, RegId, Row, Stance};
 use casa_list::SharedList;
-use casa_view::{Version, View};
+use casa_view::{Change, Version, View};
 use std::alloc::{AllocError, Global};
 use std::collections::BTreeMap;
+
+/// Takes out the list of a regulation as it is written; what the view shows where it is not written. `AllocError` where it
+/// is shared too often to count.
+fn take_shared<V: Version>(
+    view: &View<V>,
+    draft: &mut Change,
+    id: &RegId,
+) -> Result<Option<SharedList>, AllocError>
+    ensures list { IfOk result (λ list. list ≡ list_with (sight V.item_of view.now) draft.old id.now) }
+    ensures left { OnOk result (draft.new ≡ record draft.old { lists = without draft.old.lists id.now }) }
+    ensures ordered { AreInOrder draft.old.lists }
+{
+    match draft.take_list(id) {
+        Some(list) => Ok(list),
+        None => shared(view.shared_list(id)),
+    }
+}
+
+/// The same list, not copied, if there is one. `AllocError` where it is shared too often to count.
+fn shared(list: Option<&SharedList>) -> Result<Option<SharedList>, AllocError>
+    ensures { IfOk result (λ same. same ≡ option_copied list.entry) }
+{
+    match list {
+        Some(list) => Ok(Some(list.share()?)),
+        None => Ok(None),
+    }
+}
 
 /// The list with a flight standing so, or not at all, if there is a list. `AllocError` where there is no memory for it.
 fn stood(
@@ -36,7 +64,7 @@ fn stood(
 pub(crate) fn stand<V: Version>(
     alloc: Global,
     view: &View<V>,
-    draft: &mut Draft,
+    draft: &mut Change,
     key: Key,
     id: RegId,
     stance: Option<Stance>,
@@ -45,8 +73,7 @@ pub(crate) fn stand<V: Version>(
       lists = with_stances (sight V.item_of view.now) key draft.old.lists ((id, stance) ∷ []);
     }) }
 {
-    draft.lists_in_order();
-    let list = draft.take_shared(view, &id)?;
+    let list = take_shared(view, draft, &id)?;
     let list = stood(alloc, list, key, stance)?;
     draft.set_list(id, list)
 }
@@ -55,7 +82,7 @@ pub(crate) fn stand<V: Version>(
 fn leave_lists<V: Version>(
     alloc: Global,
     view: &View<V>,
-    draft: &mut Draft,
+    draft: &mut Change,
     key: Key,
     had: &Crossings,
     has: &Crossings,
@@ -77,7 +104,7 @@ fn leave_lists<V: Version>(
 fn stand_in_lists<V: Version>(
     alloc: Global,
     view: &View<V>,
-    draft: &mut Draft,
+    draft: &mut Change,
     key: Key,
     now: Option<&Row>,
     has: &Crossings,
@@ -102,7 +129,7 @@ fn stand_in_lists<V: Version>(
 pub(crate) fn write_flight<V: Version>(
     alloc: Global,
     view: &View<V>,
-    draft: &mut Draft,
+    draft: &mut Change,
     key: Key,
     now: Option<Row>,
     had: &Crossings,
@@ -140,13 +167,13 @@ pub(crate) fn flight_written<V: Version>(
     was: Option<&Row>,
     now: Option<Row>,
     has: &Crossings,
-) -> Result<Draft, AllocError>
+) -> Result<Change, AllocError>
     requires { has.now.entries ≡ crossed_by (regulations_in (sight V.item_of view.now)) now }
     ensures { IfOk result (λ draft.
         draft ≡ flight_written (sight V.item_of view.now) key (option_copied was.entry) now) }
 {
     let had = crossed_by(alloc, view, was)?;
-    let mut draft = Draft::new(alloc);
+    let mut draft = Change::new(alloc);
     write_flight(alloc, view, &mut draft, key, now, &had, has)?;
     Ok(draft)
 }

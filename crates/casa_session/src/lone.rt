@@ -10,7 +10,7 @@ use casa_commit::{CallFault, Room};
 use casa_desk::Desk;
 use casa_flight::{Call, Reply};
 use casa_history::{Pass, Receipt};
-use casa_plan::answer;
+use casa_plan::Direct;
 use casa_view::{Board, Copies};
 use std::alloc::{AllocError, Global};
 use std::io::{Read, Write};
@@ -78,7 +78,7 @@ impl Lone {
         ensures err { OnErr result (self.new ≡ self.old) }
         ensures foreign { result ≢ Err CallFault.ForeignPass }
     {
-        answer(alloc, &mut self.room, &mut self.pass, call)
+        self.room.locked(alloc, &mut self.pass, call, &Direct)
     }
 }
 

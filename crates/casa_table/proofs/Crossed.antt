@@ -1,5 +1,5 @@
 -- the regulations at the locations of a plan are all to which it can be subject
-use Rattle.std.proofs.Common.{◌≡◌, ℕ, nat_le, nat_lt, List, [], ◌∷◌, ◌++◌, map, reverse, Bool, true, false, ◌||◌, ◌&&◌}
+use Rattle.std.proofs.Common.{◌≡◌, ℕ, List, [], ◌∷◌, ◌++◌, map, reverse, Bool, true, false, ◌||◌}
 use Rattle.std.proofs.Common.{cond}
 use Rattle.std.proofs.Common.{refl, sym, ap, ◌∙◌, Option, None, Some, subst, if◌then◌else◌}
 use Rattle.std.proofs.Math.Bool.{or-true}

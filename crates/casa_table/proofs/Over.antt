@@ -5,7 +5,7 @@ use Rattle.std.specs.declared.cmp.Ordering.{Ordering}
 use Rattle.std.specs.declared.cmp.Ordering.TheVariants.{Less, Equal, Greater}
 use Rattle.std.specs.declared.ops.Bound.TheVariants.{Included, Excluded}
 use Rattle.std.specs.Ordering.{is_eq, is_gt, is_le, nat_cmp, ordering_then}
-use Rattle.std.specs.Option.{option_and_then, option_map, option_map_or, option_cmp}
+use Rattle.std.specs.Option.{option_and_then, option_map_or, option_cmp}
 use Rattle.std.specs.List.{list_any, filter, find, cons_option}
 use Rattle.std.specs.BTreeMap.{is_at}
 use Rattle.std.specs.BTreeMap.Range.{range_contains}

@@ -12,7 +12,7 @@ use casa_flight::Name;
 use std::collections::BTreeMap;
 
 /// Whether two versions are the same, or there is none on either side.
-fn same_version<V: Version>(one: Option<&V>, other: Option<&V>) -> bool
+pub fn same_version<V: Version>(one: Option<&V>, other: Option<&V>) -> bool
     ensures same { result ≡ same_version V.is_same (option_copied one.entry) (option_copied other.entry) }
     ensures shows { IsTrue result →
         option_map V.item_of (option_copied one.entry) ≡ option_map V.item_of (option_copied other.entry) }

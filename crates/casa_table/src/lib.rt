@@ -13,7 +13,7 @@ mod version;
 
 pub use asking::{due_named, flights_over_named};
 pub use catalogue::Catalogue;
-pub use comparing::{same_all, same_named};
+pub use comparing::{same_all, same_named, same_version};
 pub use copies::{Copied, Copies};
 pub use flights::FlightIndex;
 pub use index::{Index, NoIndex};

@@ -254,6 +254,21 @@ impl<Kind: Copy, V: Version, I: Index<Kind, V>> Table<Kind, V, I> {
         Ok(())
     }
 
+    /// No changes, in the memory of those that were made ready before, where no view has them.
+    pub fn spare(&mut self) -> Changes<Kind, V>
+        ensures none { result.entries ≡ [] }
+        ensures same { self.new.entries ≡ self.old.entries }
+    {
+        let mut spare = BTreeMap::new(self.alloc);
+        if let Some(coming) = Arc::get_mut(&mut self.coming) {
+            mem::swap(&mut spare, coming);
+        }
+        if !spare.is_empty() {
+            spare.clear();
+        }
+        spare
+    }
+
     /// Makes changes ready to be turned to. `AllocError` where there is no memory for them; the values are then as they
     /// were.
     pub fn fit(&mut self, changes: Changes<Kind, V>) -> Result<(), AllocError>
@@ -263,8 +278,7 @@ impl<Kind: Copy, V: Version, I: Index<Kind, V>> Table<Kind, V, I> {
         self.consolidate()?;
         let mut changes = changes;
         keep_others(&mut changes, &self.recent)?;
-        self.coming = Arc::new(self.alloc, changes)?;
-        Ok(())
+        put_shared(self.alloc, &mut self.coming, changes)
     }
 
     /// Turns to the changes that were made ready.
@@ -274,6 +288,20 @@ impl<Kind: Copy, V: Version, I: Index<Kind, V>> Table<Kind, V, I> {
     {
         mem::swap(&mut self.recent, &mut self.coming);
     }
+}
+
+/// Puts a value in place of one that copies may share: where none does, in the memory that it has. `AllocError` where
+/// there is no memory for it; the old value is then there still.
+fn put_shared<T: Drop>(alloc: Global, shared: &mut Arc<T>, value: T) -> Result<(), AllocError>
+    ensures put { OnOk result (arc_value shared.new ≡ value) }
+    ensures kept { OnErr result (arc_value shared.new ≡ arc_value shared.old) }
+{
+    if let Some(place) = Arc::get_mut(shared) {
+        *place = value;
+        return Ok(());
+    }
+    *shared = Arc::new(alloc, value)?;
+    Ok(())
 }
 
 /// Moves all changes over to the values, if no view has either.

@@ -1,3 +1,4 @@
+pub mod Alone
 pub mod Pushed
 pub mod Turned
 pub mod Orderly

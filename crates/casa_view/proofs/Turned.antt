@@ -13,12 +13,11 @@ use Rattle.casa_flight.proofs.Entries.{text_cmp}
 use Rattle.casa_footprint.specs.Items.{ItemName, the_clock, the_catalogue, a_row, a_list, Content, moment, regulations}
 use Rattle.casa_footprint.specs.Items.{row_or_none, list_or_none}
 use Rattle.casa_table.specs.declared.item.Item.{Item}
-use Rattle.casa_view.specs.declared.change.Change.{Change}
 use Rattle.casa_table.specs.Laid.{laid}
 use Rattle.casa_table.specs.Versions.{Versions, IsInOrder, moment_of, regulations_of, content_as}
 use Rattle.casa_table.specs.Versions.{version_at}
 use Rattle.casa_view.specs.Change.{is_absence, IsApplied}
-use Rattle.casa_view.specs.Board.{says, catalogue_written}
+use Rattle.casa_answer.specs.Sight.{Written, says}
 use Rattle.casa_view.specs.Next.{AreAlike, NextOne, NextRow, NextList}
 use Rattle.casa_table.proofs.Layers.{at-laid, sorted-laid}
 
@@ -112,12 +111,12 @@ module _ {V : Type 0} (item_of : V → Item) (number : V → ℕ) (n : ℕ) wher
 
   -- the versions after a change, of which the rows and the lists are these, and the clock and the catalogue come if
   -- they do
-  module _ (d : Change) (before now : Versions V) (clock catalogue : Option V) (rows lists : List (Text × Option V))
+  module _ (d : Written) (before now : Versions V) (clock catalogue : Option V) (rows lists : List (Text × Option V))
       (order : IsInOrder before) (rows_order : AreInOrder rows) (lists_order : AreInOrder lists)
       (clock_next : NextOne item_of number n moment_of d.clock clock)
-      (catalogue_next : NextOne item_of number n regulations_of (catalogue_written d) catalogue)
-      (rows_next : AreAlike (NextRow item_of number n) d.rows.entries rows)
-      (lists_next : AreAlike (NextList item_of number n) d.lists.entries lists)
+      (catalogue_next : NextOne item_of number n regulations_of d.catalogue catalogue)
+      (rows_next : AreAlike (NextRow item_of number n) d.rows rows)
+      (lists_next : AreAlike (NextList item_of number n) d.lists lists)
       (clock_is : now.clock ≡ unwrap_or clock before.clock)
       (catalogue_is : now.catalogue ≡ unwrap_or catalogue before.catalogue)
       (rows_are : now.rows ≡ laid rows before.rows) (lists_are : now.lists ≡ laid lists before.lists) where
@@ -129,12 +128,12 @@ module _ {V : Type 0} (item_of : V → Item) (number : V → ℕ) (n : ℕ) wher
         ap (λ (es : List (Text × V)). at_name es q) lists_are ∙ at-laid q lists before.lists lists_order order.lists
 
     row_next : (q : Text)
-        → Alike (NextRow item_of number n) (at_name d.rows.entries q) (at_name rows q)
-    row_next q = alike_at _ q d.rows.entries rows rows_next
+        → Alike (NextRow item_of number n) (at_name d.rows q) (at_name rows q)
+    row_next q = alike_at _ q d.rows rows rows_next
 
     list_next : (q : Text)
-        → Alike (NextList item_of number n) (at_name d.lists.entries q) (at_name lists q)
-    list_next q = alike_at _ q d.lists.entries lists lists_next
+        → Alike (NextList item_of number n) (at_name d.lists q) (at_name lists q)
+    list_next q = alike_at _ q d.lists lists lists_next
 
     shown : (i : ItemName) (x : Content) → says d i ≡ Some x → Shows i (version_at now i) x
     shown the_clock x e =
@@ -142,27 +141,27 @@ module _ {V : Type 0} (item_of : V → Item) (number : V → ℕ) (n : ℕ) wher
         (clock_written d.clock clock before.clock clock_next x e)
     shown the_catalogue x e =
         subst (λ (v : V). Shows the_catalogue (Some v) x) (sym catalogue_is)
-        (regulations_written (catalogue_written d) catalogue before.catalogue catalogue_next x e)
+        (regulations_written d.catalogue catalogue before.catalogue catalogue_next x e)
     shown (a_row q) x e =
         subst (λ (w : Option V). Shows (a_row q) w x) (sym (row_now q))
-        (row_written q (at_name d.rows.entries q) (at_name rows q) (at_name before.rows q) (row_next q) x e)
+        (row_written q (at_name d.rows q) (at_name rows q) (at_name before.rows q) (row_next q) x e)
     shown (a_list q) x e =
         subst (λ (w : Option V). Shows (a_list q) w x) (sym (list_now q))
-        (list_written q (at_name d.lists.entries q) (at_name lists q) (at_name before.lists q)
+        (list_written q (at_name d.lists q) (at_name lists q) (at_name before.lists q)
         (list_next q) x e)
 
     same : (i : ItemName) → says d i ≡ None → version_at now i ≡ version_at before i
     same the_clock e = ap Some (clock_is ∙ one_stays moment_of moment d.clock clock before.clock clock_next e)
     same the_catalogue e =
         ap Some (catalogue_is
-        ∙ one_stays regulations_of regulations (catalogue_written d) catalogue before.catalogue catalogue_next e)
+        ∙ one_stays regulations_of regulations d.catalogue catalogue before.catalogue catalogue_next e)
     same (a_row q) e =
         row_now q
-        ∙ stays _ row_or_none (at_name d.rows.entries q) (at_name rows q) (at_name before.rows q)
+        ∙ stays _ row_or_none (at_name d.rows q) (at_name rows q) (at_name before.rows q)
         (row_next q) e
     same (a_list q) e =
         list_now q
-        ∙ stays _ list_or_none (at_name d.lists.entries q) (at_name lists q) (at_name before.lists q)
+        ∙ stays _ list_or_none (at_name d.lists q) (at_name lists q) (at_name before.lists q)
         (list_next q) e
 
     pub turned : IsApplied item_of number (says d) n before now

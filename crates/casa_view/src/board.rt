@@ -99,7 +99,8 @@ impl<K: Kept> Board<K> {
 }
 
 impl<K: Kept> World for Board<K> {
-    ghost use Rattle.casa_view.specs.Board.{says, next_versions};
+    ghost use Rattle.casa_view.specs.Board.{next_versions};
+    ghost use Rattle.casa_answer.specs.Sight.{says};
     ghost use Rattle.casa_footprint.specs.Change.{IsChange};
     ghost use Rattle.casa_view.specs.Change.{IsApplied};
     ghost use Rattle.casa_view.specs.Sets.{standing_set};

@@ -1,53 +1,191 @@
-ghost use Rattle.std.specs.Prelude.{◌≡◌, IfOk};
-ghost use Rattle.std.specs.Option.{option_map};
-ghost use Rattle.casa_flight.specs.Text.{Text, at_name};
-ghost use Rattle.casa_footprint.specs.Items.{the_clock, the_catalogue, a_row, a_list};
-ghost use Rattle.casa_footprint.specs.Items.{moment, regulations, row_or_none, list_or_none};
+//! What a call writes.
+
+ghost use Rattle.std.specs.Prelude.{◌≡◌, Some, IfOk, OnOk};
+ghost use Rattle.std.specs.Option.{option_copied};
+ghost use Rattle.casa_flight.specs.Text.{at_name, put, without};
+ghost use Rattle.casa_flight.specs.Good.{AreInOrder};
+ghost use Rattle.casa_answer.specs.Sight.{nothing_written};
+ghost use Rattle.casa_view.specs.Board.{catalogue_written};
+ghost use Rattle.casa_view.specs.Next.{NextRow};
 
 use casa_flight::{Key, RegId, Row};
 use casa_list::SharedList;
-use casa_table::{Catalogue, Item};
+use casa_table::{Catalogue, Item, Kept, row_in};
 use casa_time::Moment;
 use std::alloc::{AllocError, Global};
 use std::collections::BTreeMap;
+use std::marker::Model;
 use std::sync::Arc;
 
 /// The items that a call writes, each at most once: the clock and the catalogue, if it writes them, and rows and lists by
-/// their names, or that there is none.
+/// their names, or that there is none. Planners write it, and the board makes the versions of it.
+///
+/// Contracts see what is written.
 #[derive(Drop)]
 pub struct Change {
-    pub(crate) clock: Option<Moment>,
-    pub(crate) catalogue: Option<Arc<Item>>,
-    pub(crate) rows: BTreeMap<Key, Option<Row>>,
-    pub(crate) lists: BTreeMap<RegId, Option<SharedList>>,
+    alloc: Global,
+    clock: Option<Moment>,
+    catalogue: Option<Arc<Item>>,
+    rows: BTreeMap<Key, WrittenRow>,
+    lists: BTreeMap<RegId, Option<SharedList>>,
+}
+
+impl Model for Change {
+    ghost use Rattle.casa_answer.specs.Sight.{Written};
+    ghost use Rattle.casa_view.specs.Board.{catalogue_written};
+
+    ghost Value = { Written };
+
+    ghost view = { λ d. record {
+      clock = d.clock;
+      catalogue = catalogue_written d.catalogue;
+      rows = d.rows.entries;
+      lists = d.lists.entries;
+    } };
 }
 
 impl Change {
-    ghost use Rattle.casa_view.specs.Board.{says};
-
-    /// The change that writes these. `AllocError` where there is no memory for a count of the views that have the
-    /// catalogue.
-    pub fn new(
-        alloc: Global,
-        clock: Option<Moment>,
-        catalogue: Option<Catalogue>,
-        rows: BTreeMap<Key, Option<Row>>,
-        lists: BTreeMap<RegId, Option<SharedList>>,
-    ) -> Result<Change, AllocError>
-        ensures clock { IfOk result (λ d. says d the_clock ≡ option_map moment clock) }
-        ensures catalogue { IfOk result (λ d. says d the_catalogue ≡ option_map regulations catalogue) }
-        ensures rows { IfOk result (λ d. (key : Text) → says d (a_row key) ≡ option_map row_or_none (at_name rows.entries key)) }
-        ensures lists { IfOk result (λ d. (id : Text) → says d (a_list id) ≡ option_map list_or_none (at_name lists.entries id)) }
+    /// A change that writes nothing.
+    pub fn new(alloc: Global) -> Change
+        ensures { result ≡ nothing_written }
     {
-        let catalogue = match catalogue {
-            Some(catalogue) => Some(Arc::new(alloc, Item::Catalogue(catalogue))?),
+        Change {
+            alloc,
+            clock: None,
+            catalogue: None,
+            rows: BTreeMap::new(alloc),
+            lists: BTreeMap::new(alloc),
+        }
+    }
+
+    /// Writes the clock.
+    pub fn set_clock(&mut self, at: Moment)
+        ensures { self.new ≡ record self.old { clock = Some at } }
+    {
+        self.clock = Some(at);
+    }
+
+    /// Writes the catalogue. `AllocError` where there is no memory for a count of the views that have it.
+    pub fn set_catalogue(&mut self, catalogue: Catalogue) -> Result<(), AllocError>
+        ensures { OnOk result (self.new ≡ record self.old { catalogue = Some catalogue }) }
+    {
+        self.catalogue = Some(Arc::new(self.alloc, Item::Catalogue(catalogue))?);
+        Ok(())
+    }
+
+    /// Writes a flight's row, or that there is none. `AllocError` where there is no memory for it.
+    pub fn set_row(&mut self, key: Key, row: Option<Row>) -> Result<(), AllocError>
+        ensures { OnOk result (self.new ≡ record self.old { rows = put self.old.rows key row }) }
+    {
+        let row = WrittenRow::new(self.alloc, key, row)?;
+        self.rows.insert(key, row)?;
+        Ok(())
+    }
+
+    /// Writes a regulation's list, or that there is none. `AllocError` where there is no memory for it.
+    pub fn set_list(&mut self, id: RegId, list: Option<SharedList>) -> Result<(), AllocError>
+        ensures { OnOk result (self.new ≡ record self.old { lists = put self.old.lists id list }) }
+    {
+        self.lists.insert(id, list)?;
+        Ok(())
+    }
+
+    /// Takes out what is written of a regulation's list, if anything is.
+    pub fn take_list(&mut self, id: &RegId) -> Option<Option<SharedList>>
+        ensures list { result ≡ at_name self.old.lists id.now }
+        ensures left { self.new ≡ record self.old { lists = without self.old.lists id.now } }
+        ensures ordered { AreInOrder self.old.lists }
+    {
+        // That the identifiers ascend is known of a map from its length.
+        let _count = self.lists.len();
+        self.lists.remove(id)
+    }
+
+    /// The clock, if it is written.
+    pub(crate) fn clock(&self) -> Option<Moment>
+        ensures { result ≡ self.now.clock }
+    {
+        self.clock
+    }
+
+    /// The catalogue, if it is written.
+    pub(crate) fn catalogue(&self) -> &Option<Arc<Item>>
+        ensures { catalogue_written result.now ≡ self.now.catalogue }
+    {
+        &self.catalogue
+    }
+
+    /// The rows that are written, or absences, by keys.
+    pub fn rows(&self) -> &BTreeMap<Key, WrittenRow>
+        ensures { result.now.entries ≡ self.now.rows }
+    {
+        &self.rows
+    }
+
+    /// The lists that are written, or absences, by identifiers.
+    pub fn lists(&self) -> &BTreeMap<RegId, Option<SharedList>>
+        ensures { result.now.entries ≡ self.now.lists }
+    {
+        &self.lists
+    }
+}
+
+/// The row of a flight as it is written, or that there is none: the item of which its version will be made, so that it is
+/// not made twice.
+///
+/// Contracts see the row.
+#[derive(Drop)]
+pub struct WrittenRow {
+    item: Option<Arc<Item>>,
+}
+
+impl Model for WrittenRow {
+    ghost use Rattle.std.specs.Prelude.{Option, IsSome, IfSome};
+    ghost use Rattle.std.specs.Option.{option_and_then};
+    ghost use Rattle.std.specs.Arc.{arc_value};
+    ghost use Rattle.casa_flight.specs.declared.row.Row.{Row};
+    ghost use Rattle.casa_table.specs.Versions.{row_of};
+
+    ghost Value = { Option Row };
+
+    ghost view = { λ w. option_and_then (λ item. row_of (arc_value item)) w.item };
+
+    ghost invariant = { λ w. IfSome w.item (λ item. IsSome (row_of (arc_value item))) };
+}
+
+impl WrittenRow {
+    /// The row of the flight under this key, or that there is none. `AllocError` where there is no memory for it.
+    pub fn new(alloc: Global, key: Key, row: Option<Row>) -> Result<WrittenRow, AllocError>
+        ensures { IfOk result (λ written. written ≡ row) }
+    {
+        let item = match row {
+            Some(row) => Some(Arc::new(alloc, Item::Row(key, Some(row)))?),
             None => None,
         };
-        Ok(Change {
-            clock,
-            catalogue,
-            rows,
-            lists,
-        })
+        Ok(WrittenRow { item })
+    }
+
+    /// The row, if there is one.
+    pub fn row(&self) -> Option<&Row>
+        ensures { option_copied result ≡ self.now }
+    {
+        match &self.item {
+            Some(item) => row_in(item),
+            None => None,
+        }
+    }
+
+    /// The version that the entry with this number writes. An absent row has none.
+    pub(crate) fn version<K: Kept>(
+        &self,
+        store: &mut K,
+        number: usize,
+    ) -> Result<Option<K::Version>, AllocError>
+        ensures { IfOk result (NextRow K.Version.item_of K.Version.number number self.now) }
+    {
+        match &self.item {
+            Some(item) => Ok(Some(store.put(number, Arc::try_clone(item)?)?)),
+            None => Ok(None),
+        }
     }
 }

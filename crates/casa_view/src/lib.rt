@@ -17,7 +17,7 @@ mod writing;
 
 pub use board::Board;
 pub use casa_table::{Catalogue, Copied, Copies, Item, Kept, Version};
-pub use change::Change;
+pub use change::{Change, WrittenRow};
 pub use laws::rows_are_those_shown;
 pub use rows::Rows;
 pub use view::View;

@@ -48,6 +48,16 @@ impl<'a, Kind, X> Ahead<'a, Kind, X> {
         }
     }
 
+    /// One entry.
+    fn one(name: &'a Name<Kind>, value: &'a X) -> Ahead<'a, Kind, X>
+        ensures { result ≡ (name.now, value.now) ∷ [] }
+    {
+        Ahead {
+            first: Some((name, value)),
+            others: None,
+        }
+    }
+
     /// The entries of a map.
     fn of(map: &'a BTreeMap<Name<Kind>, X>) -> Ahead<'a, Kind, X>
         ensures entries { result ≡ map.now.entries }
@@ -120,6 +130,16 @@ impl<'a, Kind, V> Overlaid<'a, Kind, V> {
         Overlaid {
             values: Ahead::of(values),
             changes: Ahead::of(changes),
+        }
+    }
+
+    /// One change alone.
+    pub(crate) fn one(name: &'a Name<Kind>, change: &'a Option<V>) -> Overlaid<'a, Kind, V>
+        ensures { result ≡ (name.now, change.now) ∷ [] }
+    {
+        Overlaid {
+            values: Ahead::none(),
+            changes: Ahead::one(name, change),
         }
     }
 

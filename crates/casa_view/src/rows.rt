@@ -24,6 +24,7 @@ impl<Kind, V: Version, I: Index<Kind, V>> Part<Kind, V, I> {
                 let (values, changes) = shared.layers();
                 Overlaid::over(values, changes)
             }
+            Part::One(name, version) => Overlaid::one(name, version),
             Part::Named(noted) => Overlaid::alone(noted),
         }
     }

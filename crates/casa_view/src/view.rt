@@ -9,6 +9,8 @@ use casa_time::Moment;
 pub enum Part<Kind, V, I: Index<Kind, V>> {
     /// The versions of all names that have one: any other name has none.
     All(Shared<Kind, V, I>),
+    /// The version of one name, or that it has none: as a map of it alone, without the memory.
+    One(Name<Kind>, Option<V>),
     /// The versions of some names, and which of these have none.
     Named(Changes<Kind, V>),
 }
@@ -34,6 +36,7 @@ impl<Kind, V, I: Index<Kind, V>> Part<Kind, V, I> {
     {
         match self {
             Part::All(shared) => shared.get(name),
+            Part::One(held, version) => { if held == name { version.as_ref() } else { None } }
             Part::Named(noted) => noted.get(name)?.as_ref(),
         }
     }
@@ -46,6 +49,7 @@ impl<Kind, V, I: Index<Kind, V>> Part<Kind, V, I> {
             Part::All(shared) => {
                 let _layers = shared.layers();
             }
+            Part::One(_, _) => {}
             Part::Named(noted) => {
                 let _length = noted.len();
             }

@@ -8,7 +8,7 @@ ghost use Rattle.casa_table.specs.Crossed.{meets};
 ghost use Rattle.casa_view.specs.Board.{versions};
 ghost use Rattle.casa_table.specs.Versions.{IsInOrder, regulations_of, row_of, list_of, list_at};
 ghost use Rattle.casa_view.specs.View.{IsTaken};
-ghost use Rattle.casa_view.specs.Taking.{Sees, SeesAlso, meets_if, meets_either, is_of, named, IsRead};
+ghost use Rattle.casa_view.specs.Taking.{Sees, Holds, SeesAlso, meets_if, meets_either, is_of, named, IsRead};
 ghost use Rattle.casa_view.specs.Taking.{row_at, plan_at, governing_at, has_forced, forced_at, governs_forced_at};
 
 use crate::contents::list_in;
@@ -16,7 +16,7 @@ use crate::items::Items;
 use crate::view::{Part, View};
 use casa_flight::{Call, Key, OfFlight, OfRegulation, Plan, RegId, Row, Stance};
 use casa_list::SlotList;
-use casa_table::{Changes, Item, Version, row_in};
+use casa_table::{Changes, FlightIndex, Item, NoIndex, Version, row_in};
 use casa_time::Moment;
 use std::alloc::{AllocError, Global};
 use std::collections::BTreeMap;
@@ -180,12 +180,10 @@ impl<V: Version> Items<V> {
     }
 
     /// The row of a key alone.
-    fn one_row(&self, alloc: Global, key: &Key) -> Result<Changes<OfFlight, V>, AllocError>
-        ensures { IfOk result (λ noted. Sees (versions self.now).rows (same_text key.now) noted.entries) }
+    fn one_row(&self, key: &Key) -> Result<Part<OfFlight, V, FlightIndex>, AllocError>
+        ensures { IfOk result (Holds (versions self.now).rows (same_text key.now)) }
     {
-        let mut noted = BTreeMap::new(alloc);
-        self.see_row(&mut noted, key)?;
-        Ok(noted)
+        Ok(Part::One(*key, version_again(self.rows.get(key))?))
     }
 
     /// The list of a regulation alone, if there is one.
@@ -206,18 +204,18 @@ impl<V: Version> Items<V> {
         &self,
         clock: bool,
         catalogue: bool,
-        rows: Changes<OfFlight, V>,
-        lists: Changes<OfRegulation, V>,
+        rows: Part<OfFlight, V, FlightIndex>,
+        lists: Part<OfRegulation, V, NoIndex>,
     ) -> Result<View<V>, AllocError>
         ensures { IfOk result (λ v. (t u : Text → Bool) →
-            Sees (versions self.now).rows t rows.entries → Sees (versions self.now).lists u lists.entries →
+            Holds (versions self.now).rows t rows → Holds (versions self.now).lists u lists →
             IsTaken (versions self.now) (named clock catalogue t u) v) }
     {
         Ok(View {
             clock: version_if(&self.clock, clock)?,
             catalogue: version_if(&self.catalogue, catalogue)?,
-            rows: Part::Named(rows),
-            lists: Part::Named(lists),
+            rows,
+            lists,
         })
     }
 
@@ -234,8 +232,8 @@ impl<V: Version> Items<V> {
             (meets_either (regulations_of (V.item_of self.now.catalogue)) (option_copied old.entry) (option_copied new.entry)))) }
     {
         let lists = self.lists_of(alloc, old, new)?;
-        let rows = self.one_row(alloc, key)?;
-        self.view_with(clock, true, rows, lists)
+        let row = self.one_row(key)?;
+        self.view_with(clock, true, row, Part::Named(lists))
     }
 
     /// What a change of rates reads.
@@ -243,7 +241,8 @@ impl<V: Version> Items<V> {
         ensures { IfOk result (IsTaken (versions self.now) (named false true (λ q. false) (same_text id.now))) }
     {
         let lists = self.one_list(alloc, Some(*id))?;
-        self.view_with(false, true, BTreeMap::new(alloc), lists)
+        let none = BTreeMap::new(alloc);
+        self.view_with(false, true, Part::Named(none), Part::Named(lists))
     }
 
     /// What it reads to show a flight.
@@ -252,8 +251,8 @@ impl<V: Version> Items<V> {
             (is_of (governing_at V.item_of (versions self.now) key.now)))) }
     {
         let lists = self.one_list(alloc, self.governing(key))?;
-        let rows = self.one_row(alloc, key)?;
-        self.view_with(false, false, rows, lists)
+        let row = self.one_row(key)?;
+        self.view_with(false, false, row, Part::Named(lists))
     }
 
     /// Notes the row of a flight, and the list that governs it.
@@ -326,7 +325,7 @@ impl<V: Version> Items<V> {
         let mut lists = BTreeMap::new(alloc);
         self.see_forced(&mut rows, &mut lists, self.list(id))?;
         self.see_list(&mut lists, id)?;
-        self.view_with(false, true, rows, lists)
+        self.view_with(false, true, Part::Named(rows), Part::Named(lists))
     }
 
     /// All items: a few counts, whatever their number.

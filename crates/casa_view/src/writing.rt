@@ -1,18 +1,17 @@
 //! How a change is written: its versions are made, and then they are turned to.
 
-ghost use Rattle.std.specs.Prelude.{◌≡◌, OnOk, IfOk, unwrap_or};
-ghost use Rattle.std.specs.Option.{option_map};
-ghost use Rattle.std.specs.Arc.{arc_value};
+ghost use Rattle.std.specs.Prelude.{◌≡◌, [], OnOk, IfOk, unwrap_or};
 ghost use Rattle.casa_flight.specs.Text.{put};
 ghost use Rattle.casa_flight.specs.Good.{AreInOrder};
-ghost use Rattle.casa_view.specs.Board.{versions, next_versions, says};
+ghost use Rattle.casa_answer.specs.Sight.{says};
+ghost use Rattle.casa_view.specs.Board.{versions, next_versions, catalogue_written};
 ghost use Rattle.casa_view.specs.Change.{IsApplied};
 ghost use Rattle.casa_table.specs.Versions.{IsInOrder, moment_of, regulations_of};
 ghost use Rattle.casa_view.specs.Next.{AreAlike, NextOne, NextRow, NextList};
 
-use crate::change::Change;
+use crate::change::{Change, WrittenRow};
 use crate::items::Items;
-use casa_flight::{Key, Name, OfFlight, OfRegulation, RegId, Row};
+use casa_flight::{Key, Name, OfFlight, OfRegulation, RegId};
 use casa_list::SharedList;
 use casa_table::{Changes, Item, Kept, Version};
 use casa_time::Moment;
@@ -55,29 +54,12 @@ fn catalogue_version<K: Kept>(
     catalogue: &Option<Arc<Item>>,
 ) -> Result<Option<K::Version>, AllocError>
     ensures { IfOk result (NextOne K.Version.item_of K.Version.number number regulations_of
-        (option_map (λ item. regulations_of (arc_value item)) catalogue.now)) }
+        (catalogue_written catalogue.now)) }
 {
     match catalogue {
         Some(item) => Ok(Some(store.put(number, Arc::try_clone(item)?)?)),
         None => Ok(None),
     }
-}
-
-/// The version of a row that is there. An absent row has none.
-fn row_version<K: Kept>(
-    alloc: Global,
-    store: &mut K,
-    number: usize,
-    key: Key,
-    row: &Option<Row>,
-) -> Result<Option<K::Version>, AllocError>
-    ensures { IfOk result (NextRow K.Version.item_of K.Version.number number row.now) }
-{
-    let Some(row) = row else {
-        return Ok(None);
-    };
-    let item = Item::Row(key, Some(row.clone()?));
-    Ok(Some(version(alloc, store, number, item)?))
 }
 
 /// The version of a list, or of its absence, which keeps the number of the close.
@@ -110,37 +92,40 @@ fn put_version<Kind, V: Drop>(
     Ok(())
 }
 
-/// The versions of the rows of a change.
+/// The versions of the rows of a change, in memory that is to spare.
 fn row_versions<K: Kept>(
-    alloc: Global,
     store: &mut K,
     number: usize,
-    rows: &BTreeMap<Key, Option<Row>>,
+    rows: &BTreeMap<Key, WrittenRow>,
+    spare: Changes<OfFlight, K::Version>,
 ) -> Result<Changes<OfFlight, K::Version>, AllocError>
+    requires { spare.entries ≡ [] }
     ensures versions { IfOk result (λ versions.
         AreAlike (NextRow K.Version.item_of K.Version.number number) rows.now.entries versions.entries) }
     ensures ordered { IfOk result (λ versions. AreInOrder versions.entries) }
 {
-    let mut versions = BTreeMap::new(alloc);
+    let mut versions = spare;
     for (key, row) in rows.iter() {
-        let version = row_version(alloc, store, number, *key, row)?;
+        let version = row.version(store, number)?;
         put_version(&mut versions, *key, version)?;
     }
     Ok(versions)
 }
 
-/// The versions of the lists of a change.
+/// The versions of the lists of a change, in memory that is to spare.
 fn list_versions<K: Kept>(
     alloc: Global,
     store: &mut K,
     number: usize,
     lists: &BTreeMap<RegId, Option<SharedList>>,
+    spare: Changes<OfRegulation, K::Version>,
 ) -> Result<Changes<OfRegulation, K::Version>, AllocError>
+    requires { spare.entries ≡ [] }
     ensures versions { IfOk result (λ versions.
         AreAlike (NextList K.Version.item_of K.Version.number number) lists.now.entries versions.entries) }
     ensures ordered { IfOk result (λ versions. AreInOrder versions.entries) }
 {
-    let mut versions = BTreeMap::new(alloc);
+    let mut versions = spare;
     for (id, list) in lists.iter() {
         let version = list_version(alloc, store, number, *id, list)?;
         put_version(&mut versions, *id, version)?;
@@ -191,10 +176,12 @@ pub(crate) fn fit<K: Kept>(
     ensures same { versions items.new ≡ versions items.old }
     ensures room { OnOk result (IsApplied K.Version.item_of K.Version.number (says change.now) number (versions items.new) (next_versions items.new)) }
 {
-    items.next_clock = clock_version(alloc, store, number, change.clock)?;
-    items.next_catalogue = catalogue_version(store, number, &change.catalogue)?;
-    let rows = row_versions(alloc, store, number, &change.rows)?;
-    let lists = list_versions(alloc, store, number, &change.lists)?;
+    items.next_clock = clock_version(alloc, store, number, change.clock())?;
+    items.next_catalogue = catalogue_version(store, number, change.catalogue())?;
+    let spare = items.rows.spare();
+    let rows = row_versions(store, number, change.rows(), spare)?;
+    let spare = items.lists.spare();
+    let lists = list_versions(alloc, store, number, change.lists(), spare)?;
     items.rows.fit(rows)?;
     items.lists.fit(lists)
 }

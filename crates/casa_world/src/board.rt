@@ -7,10 +7,7 @@ ghost use Rattle.casa_world.specs.Board.{HasSameStamps, IsViewAfter, IsTied};
 ghost use Rattle.casa_world.specs.Tied.{present_view, current_unmoved, applied_tied};
 
 use crate::stamped::Stamped;
-use casa_flight::{Call, Reply};
-use casa_plan::plan;
-use casa_view::{Board, Change, Kept, View};
-use std::alloc::{AllocError, Global};
+use casa_view::{Board, Kept};
 
 impl<K: Kept> Stamped for Board<K> {
     ghost is_unmoved = { HasSameStamps };
@@ -18,14 +15,6 @@ impl<K: Kept> Stamped for Board<K> {
     ghost is_view_of = { IsViewAfter K.Version.item_of K.Version.number };
 
     ghost is_tied = { λ v w. IsTied K.Version.is_same K.Version.number (versions w.items) v };
-
-    fn plan(
-        alloc: Global,
-        view: &View<K::Version>,
-        call: &Call,
-    ) -> Result<(Reply, Change), AllocError> {
-        plan(alloc, view, call)
-    }
 
     ghost present_view = { λ w c v es is for_call of_world current shown.
         present_view K.Version.item_of K.Version.number K.Version.is_same K.Version.same_number (versions w.items) es is

@@ -9,7 +9,8 @@ use crate::desk::{Desk, Held};
 use crate::event::Event;
 use crate::stamped::Stamped;
 use crate::turns::turn;
-use casa_commit::{DeskFault, Prepared, Room};
+use casa_commit::{DeskFault, Gate, Prepared, Room};
+use casa_plan::Direct;
 use std::alloc::{AllocError, Global};
 
 /// The most workers.
@@ -50,6 +51,8 @@ pub(crate) fn happen<W: Stamped>(
     desks: &mut [Desk<W::Call, W::Reply, W::View, Prepared<W>>],
     event: &Event<W::Call>,
 ) -> Result<(), AllocError>
+where
+    Direct: Gate<W>,
     requires seated { AreOfRoom W.World room.old desks.old }
     requires all { length desks.old ≡ most_workers }
     ensures happens { OnOk result ((m : Scene W.Call W.Reply) → Shows W.World W.Stamped.own room.old desks.old m →
@@ -71,6 +74,8 @@ pub(crate) fn happen_all<W: Stamped>(
     desks: &mut [Desk<W::Call, W::Reply, W::View, Prepared<W>>],
     events: &[Event<W::Call>],
 ) -> Result<(), AllocError>
+where
+    Direct: Gate<W>,
     requires scene { Shows W.World W.Stamped.own room.old desks.old opening_scene }
     requires all { length desks.old ≡ most_workers }
     ensures leads { OnOk result ((n : Scene W.Call W.Reply) × Leads (reply_after W.World) W.is_unmoved events.now opening_scene n

@@ -10,7 +10,8 @@ use crate::desk::Desk;
 use crate::desks::{happen_all, open_desks};
 use crate::event::Event;
 use crate::stamped::Stamped;
-use casa_commit::{Prepared, Room, World};
+use casa_commit::{Gate, Prepared, Room, World};
+use casa_plan::Direct;
 use std::alloc::{AllocError, Global};
 
 /// What came of a list of events: the history, the world that it left, and the outcome of each worker's last commit.
@@ -27,6 +28,8 @@ pub(crate) fn play_on<W: Stamped + Drop>(
     world: W,
     events: &[Event<W::Call>],
 ) -> Result<Run<W>, AllocError>
+where
+    Direct: Gate<W>,
     requires { W.state world ≡ W.opening }
     ensures run { IfOk result (λ run. IsRun (reply_after W.World) W.is_unmoved events.now (run_history run) (run_outcomes run)) }
     ensures legal { IfOk result (λ run. IsLegal W.after W.reply W.opening (run_history run)) }

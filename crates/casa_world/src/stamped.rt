@@ -1,12 +1,10 @@
-ghost use Rattle.std.specs.Prelude.{◌≡◌, ◌↔◌, ◌+◌, ◌++◌, ℕ, List, length, IfOk};
+ghost use Rattle.std.specs.Prelude.{◌≡◌, ◌↔◌, ◌+◌, ◌++◌, ℕ, List, length};
 ghost use Rattle.casa_history.specs.declared.entry.Entry.{Entry};
-ghost use Rattle.casa_commit.specs.Answers.{IsAnswer};
 ghost use Rattle.casa_commit.specs.Legal.{replay};
 
 use casa_commit::World;
-use std::alloc::{AllocError, Global};
 
-/// A world on whose views calls are planned, and whose marks follow the stamps of its items.
+/// A world whose marks follow the stamps of its items.
 pub(crate) trait Stamped: World {
     /// What the call reads after the first history has the same stamps after the second.
     ghost is_unmoved: { List (Entry Self.Call Self.Reply) → Self.Call → List (Entry Self.Call Self.Reply) → Type 0 };
@@ -16,15 +14,6 @@ pub(crate) trait Stamped: World {
 
     /// Where a stamp of the view is the present one, so is its mark.
     ghost is_tied: { Self.View → Self → Type 0 };
-
-    /// The reply and the change of a call, worked out on a view for it. `AllocError` where there is no memory.
-    fn plan(
-        alloc: Global,
-        view: &Self::View,
-        call: &Self::Call,
-    ) -> Result<(Self::Reply, Self::Change), AllocError>
-        requires { Self.is_for view.now call.now }
-        ensures { IfOk result (λ answer. IsAnswer Self.World view.now call.now answer.0 answer.1) };
 
     /// A view whose marks are the present ones shows what the call reads after the history.
     ghost present_view: { (w : Self) (c : Self.Call) (v : Self.View) (es : List (Entry Self.Call Self.Reply)) →

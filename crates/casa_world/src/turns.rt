@@ -5,7 +5,6 @@ ghost use Rattle.casa_history.specs.declared.pass.Pass.{Pass};
 ghost use Rattle.casa_commit.specs.declared.prepared.Prepared.{Prepared};
 ghost use Rattle.casa_world.specs.declared.desk.Desk.{Desk};
 ghost use Rattle.casa_history.specs.Entries.{desk_of};
-ghost use Rattle.casa_commit.specs.Answers.{IsAnswer};
 ghost use Rattle.casa_commit.specs.Prepared.{view_of};
 ghost use Rattle.casa_commit.specs.Rooms.{world_of, entries_of, Admits};
 ghost use Rattle.casa_world.specs.Scenes.{Worker, Scene, with_hand, nothing, read, compute, Commits, Happens, worker_of, most_workers};
@@ -16,7 +15,8 @@ use crate::desk::{Desk, Held};
 use crate::event::Event;
 use crate::handing::hand_in;
 use crate::stamped::Stamped;
-use casa_commit::{Prepared, Room, World, prepare};
+use casa_commit::{Gate, Prepared, Room, World, prepare};
+use casa_plan::Direct;
 use std::alloc::{AllocError, Global};
 use std::mem::replace;
 
@@ -44,6 +44,8 @@ pub(crate) fn compute<W: Stamped>(
     room: &Room<W>,
     desk: &mut Desk<W::Call, W::Reply, W::View, Prepared<W>>,
 ) -> Result<(), AllocError>
+where
+    Direct: Gate<W>,
     requires for_call { IsForHeld W.is_for desk.old.held }
     ensures pass { desk.new.pass ≡ desk.old.pass }
     ensures stands { OnOk result ((x : Worker W.Call W.Reply) →
@@ -52,11 +54,9 @@ pub(crate) fn compute<W: Stamped>(
 {
     match replace(&mut desk.held, Held::Nothing) {
         Held::View(call, view) => {
-            let plan = |v: &W::View, c: &W::Call| -> Result<(W::Reply, W::Change), AllocError>
-                requires { W.is_for v.now c.now }
-                ensures { IfOk result (λ answer. IsAnswer W.World v.now c.now answer.0 answer.1) }
-            { W::plan(alloc, v, c) };
-            desk.held = Held::Answer(prepare::<W, _>(view, call, &plan)?);
+            let number = desk.pass.desk();
+            let answer = prepare(alloc, &Direct, number, 0, view, call)?;
+            desk.held = Held::Answer(answer);
         }
         held => desk.held = held,
     }
@@ -115,6 +115,8 @@ pub(crate) fn turn<W: Stamped>(
     desk: &mut Desk<W::Call, W::Reply, W::View, Prepared<W>>,
     event: &Event<W::Call>,
 ) -> Result<(), AllocError>
+where
+    Direct: Gate<W>,
     requires admitted { Admits room.old desk.old.pass }
     requires for_call { IsForHeld W.is_for desk.old.held }
     requires of_world { IsOfHeld (λ p. W.is_of (view_of p) (world_of room.old)) desk.old.held }

@@ -11,5 +11,5 @@ mod tests;
 mod world;
 
 pub use cell::{Answer, Cell, Change, Copying, View};
-pub use plan::copied;
+pub use plan::Copier;
 pub use world::Cells;

@@ -1,17 +1,15 @@
 ghost use Rattle.std.specs.Prelude.{◌<◌};
 
-use crate::{Answer, Cells, Copying, copied};
-use casa_commit::{
-    CallFault, CommitFault, DeskFault, Prepared, Room, World, commit, locked, prepare,
-};
+use crate::{Answer, Cells, Copier, Copying};
+use casa_commit::{CallFault, CommitFault, DeskFault, Prepared, Room, World, commit, prepare};
 use casa_history::{Pass, Receipt, Settled, Torn, settle};
 use std::alloc::Global;
 use std::process::Abort;
 
 /// The answer to a copy, worked out on a view of the room as it is.
-fn prepared<R: Abort>(rt: &R, room: &Room<Cells>, call: Copying) -> Prepared<Cells> {
+fn prepared<R: Abort>(rt: &R, alloc: Global, room: &Room<Cells>, call: Copying) -> Prepared<Cells> {
     let view = room.world().view(&call).expect(rt, "memory");
-    prepare::<Cells, _>(view, call, &copied).expect(rt, "memory")
+    prepare(alloc, &Copier, 0, 0, view, call).expect(rt, "memory")
 }
 
 /// A room with this number over four cells, and the passes of its desks 0 and 1.
@@ -67,9 +65,9 @@ fn settled<R: Abort>(
 fn the_second_write_of_a_cell_is_stale(rt: HostRuntime) {
     let (mut room, mut zero, mut one) = two_desks(&rt, rt.alloc(), 7);
     assert_eq!(&rt; (room.desks(), zero.desk(), one.desk()), (2, 0, 1));
-    let first = prepared(&rt, &room, Copying::new(0, 1));
-    let second = prepared(&rt, &room, Copying::new(0, 2));
-    let third = prepared(&rt, &room, Copying::new(1, 0));
+    let first = prepared(&rt, rt.alloc(), &room, Copying::new(0, 1));
+    let second = prepared(&rt, rt.alloc(), &room, Copying::new(0, 2));
+    let third = prepared(&rt, rt.alloc(), &room, Copying::new(1, 0));
     let first = seen(&rt, commit(&mut room, &mut zero, first));
     let second = seen(&rt, commit(&mut room, &mut one, second));
     assert_eq!(&rt;
@@ -78,10 +76,8 @@ fn the_second_write_of_a_cell_is_stale(rt: HostRuntime) {
     );
     let faults = stale_twice(&rt, &mut room, &mut one, third);
     assert_eq!(&rt; faults, (CommitFault::Stale, CommitFault::Stale));
-    let third = seen(
-        &rt,
-        locked(&mut room, &mut one, &Copying::new(1, 0), &copied),
-    );
+    let call = Copying::new(1, 0);
+    let third = seen(&rt, room.locked(rt.alloc(), &mut one, &call, &Copier));
     assert_eq!(&rt; third, (3, Answer::Value(1)));
     assert_eq!(&rt; (room.world().value(0), room.history().len()), (2, 3));
     let (desks, entries) = (2, 3);
@@ -91,19 +87,19 @@ fn the_second_write_of_a_cell_is_stale(rt: HostRuntime) {
     );
 }
 
-/// The faults that a pass meets in this room, in `commit` and in `locked`.
+/// The faults that a pass meets in this room, at a commit and in one section.
 fn faults_of<R: Abort>(
     rt: &R,
+    alloc: Global,
     room: &mut Room<Cells>,
     pass: &mut Pass<Copying, Answer>,
 ) -> (CommitFault, CallFault) {
     let call = Copying::new(0, 1);
-    let answer = prepared(rt, room, call);
+    let answer = prepared(rt, alloc, room, call);
     let (fault, _) = commit(room, pass, answer).expect_err(rt, "a foreign pass");
-    let call_fault = locked(room, pass, &call, &copied).expect_err(
-        rt,
-        "a foreign pass in one section",
-    );
+    let call_fault = room
+        .locked(alloc, pass, &call, &Copier)
+        .expect_err(rt, "a foreign pass in one section");
     (fault, call_fault)
 }
 
@@ -113,10 +109,10 @@ fn a_foreign_pass_is_refused(rt: HostRuntime) {
     let foreign = (CommitFault::ForeignPass, CallFault::ForeignPass);
     let (mut room, _zero, _one) = two_desks(&rt, alloc, 7);
     let (_room_8, mut of_room_8, _) = two_desks(&rt, alloc, 8);
-    assert_eq!(&rt; faults_of(&rt, &mut room, &mut of_room_8), foreign);
+    assert_eq!(&rt; faults_of(&rt, alloc, &mut room, &mut of_room_8), foreign);
     let (mut other, _, _) = two_desks(&rt, alloc, 7);
     let mut of_desk_2 = other.open_desk().expect(&rt, "desk 2");
-    assert_eq!(&rt; faults_of(&rt, &mut room, &mut of_desk_2), foreign);
+    assert_eq!(&rt; faults_of(&rt, alloc, &mut room, &mut of_desk_2), foreign);
     assert_eq!(&rt; room.history().len(), 0);
 }
 
@@ -172,18 +168,19 @@ fn committed<R: Abort>(
 /// Answers a copy in one section, again where memory was refused, which has changed nothing.
 fn answered<R: Abort>(
     rt: &R,
+    alloc: Global,
     room: &mut Room<Cells>,
     pass: &mut Pass<Copying, Answer>,
     call: &Copying,
 ) -> (usize, Answer) {
-    match locked(room, pass, call, &copied) {
+    match room.locked(alloc, pass, call, &Copier) {
         Ok(receipt) => (receipt.position, receipt.entry.reply),
         Err(fault) => {
             assert_eq!(rt;
                 (fault, counts(room, pass, 0)),
                 (CallFault::NoMemory, (1, 1, 0))
             );
-            seen(rt, locked(room, pass, call, &copied))
+            seen(rt, room.locked(alloc, pass, call, &Copier))
         }
     }
 }
@@ -191,9 +188,9 @@ fn answered<R: Abort>(
 #[test]
 fn a_refused_growth_changes_nothing(rt: HostRuntime) {
     let (mut room, mut pass) = one_desk(&rt, rt.alloc());
-    let answer = prepared(&rt, &room, Copying::new(0, 1));
+    let answer = prepared(&rt, rt.alloc(), &room, Copying::new(0, 1));
     let first = committed(&rt, &mut room, &mut pass, answer);
     assert_eq!(&rt; (first, room.world().value(1)), ((1, Answer::Value(0)), 1));
-    let second = answered(&rt, &mut room, &mut pass, &Copying::new(1, 0));
+    let second = answered(&rt, rt.alloc(), &mut room, &mut pass, &Copying::new(1, 0));
     assert_eq!(&rt; second, (2, Answer::Value(1)));
 }

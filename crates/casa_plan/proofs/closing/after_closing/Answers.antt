@@ -12,7 +12,7 @@ returns g c =
     let v : Sight = sight g.V.Version.item_of c.args.view.now in
     let id : Text = c.args.id in
     let rs : List Regulation = c.in_ok-catalogue.catalogue in
-    c.set_catalogue.ensures
+    c.in_ok-set_catalogue.ensures
     ∙ ap (λ (w : Written). let x : Written = record w { catalogue = Some rs } in x)
     (c.in_ok-enter_all.ensures
     ∙ (λ i. with_entries c.clock.result rs v

@@ -1,5 +1,9 @@
-use Rattle.std.proofs.Common.{List, ap, ◌∙◌, Some}
+use Rattle.std.proofs.Common.{List, ap, ◌∙◌, false, Some}
+use Rattle.std.specs.Option.{option_map_or}
+use Rattle.std.specs.List.{filter}
+use Rattle.casa_flight.specs.declared.comp.Comp.{Comp}
 use Rattle.casa_flight.specs.declared.regulation.Regulation.{Regulation}
+use Rattle.casa_flight.specs.Steps.{may_compete}
 use Rattle.casa_flight.specs.Text.{put}
 use Rattle.casa_view.proofs.ViewRows.{rows-ordered, rows-shown}
 use Rattle.casa_answer.specs.Sight.{Sight, Written}
@@ -14,13 +18,12 @@ returns g c =
     let v : Sight = sight item_of c.args.view.now in
     let r : Regulation = c.args.regulation in
     let rs : List Regulation = c.in_ok-catalogue.catalogue in
-    c.set_catalogue.ensures
+    c.in_ok-set_catalogue.ensures
     ∙ ap (λ (w : Written). let x : Written = record w { catalogue = Some rs } in x)
-    (c.in_ok-enter_all.ensures
-    ∙ (λ i. with_entries c.clock-clock.result rs v
-    ((c.in_ok-set_list.ensures ∙ ap (λ (w : Written). let x : Written = record w { lists = put w.lists r.id (Some c.in_ok-new_list.field-0) } in x) c.new-draft.ensures) i)
-    (c.as_slice.ensures.value i)))
-    ∙ opening_as v r c.args.profile.now c.clock-clock.result rs c.in_ok-over.over.keys c.in_ok-comps.comps.items c.in_ok-new_list.field-0
+    (c.in_ok-enter_newcomers.ensures
+    ∙ ap (λ (w : Written). with_entries c.clock-clock.result rs v w (filter (λ (f : Comp). option_map_or (may_compete c.clock-clock.result) (v.row f.key) false) c.in_ok-over.over.keys))
+    (c.in_ok-set_list.ensures ∙ ap (λ (w : Written). let x : Written = record w { lists = put w.lists r.id (Some c.in_ok-new_list.field-0) } in x) c.new-draft.ensures))
+    ∙ opening_as v r c.args.profile.now c.clock-clock.result rs c.in_ok-over.over.keys c.in_ok-new_list.field-0
     (rows-ordered item_of c.args.view.now.rows c.flights_over.ensures.ordered)
     (λ key. rows-shown item_of c.args.view.now.rows key c.flights_over.ensures.ordered)
-    c.clock-clock.ensures c.in_ok-catalogue.ensures c.in_ok-over.ensures.over c.in_ok-comps.ensures c.in_ok-new_list.ensures
+    c.clock-clock.ensures c.in_ok-catalogue.ensures c.in_ok-over.ensures.over c.in_ok-new_list.ensures

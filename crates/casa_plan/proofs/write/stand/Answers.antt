@@ -17,7 +17,7 @@ returns g c =
     let id : Text = c.args.id in
     let set : Listing → Listing = λ l. with_flight l c.args.key c.args.stance in
     let now : c.in_ok-list-2.list ≡ option_map set (list_with v w id) = c.in_ok-list-2.ensures ∙ ap (option_map set) c.in_ok-list.ensures.list in
-    let sorted : AreInOrder w.lists = c.lists_in_order.ensures in
+    let sorted : AreInOrder w.lists = c.take_shared.ensures.ordered in
     on_ok_weaker c.set_list.result
     (λ h. h
     ∙ ap (λ (w : Written). let x : Written = record w { lists = put w.lists id c.in_ok-list-2.list } in x) c.in_ok-list.ensures.left

@@ -8,12 +8,12 @@ use Rattle.casa_commit.proofs.Replays.{good_state}
 use Rattle.casa_world.proofs.Hands.{holds_compute}
 use Rattle.casa_world.proofs.turns.compute.Goals as goal
 
-pub returns-in_ok-prepare-in-View-clause-stands : goal.returns-in_ok-prepare-in-View-clause-stands
-returns-in_ok-prepare-in-View-clause-stands g c x stands =
+pub returns-in_ok-answer-in-View-clause-stands : goal.returns-in_ok-answer-in-View-clause-stands
+returns-in_ok-answer-in-View-clause-stands g c x stands =
     let W = g.W.World in
     let m = g.met.W.World in
-    let p = c.in_ok-prepare-in-View.field-0 in
-    let en = c.in_ok-prepare-in-View.ensures in
+    let p = c.in_ok-answer-in-View.answer in
+    let en = c.in_ok-answer-in-View.ensures in
     let call = c.in-View.call in
     let good = λ (b : List (Entry g.row.W-Call.Denot g.row.W-Reply.Denot)). good_state W.good W.after m.good_after W.opening m.good_opening b (replay W.after W.opening b) refl in
     let w = world_of c.args.room.now in (

@@ -8,7 +8,7 @@ pub returns-clause-stands : goal.returns-clause-stands
 returns-clause-stands g c =
     let accepted = c.in_ok-receipt.ensures.accepted in
     accepted_stands g.W.World c.args.self.now.room c.args.desk.now.pass c.args.call.now accepted.0
-    c.in_ok-receipt.receipt c.locked.new.room c.locked.new.pass accepted.1
+    c.in_ok-receipt.receipt c.locked.new.self c.locked.new.pass accepted.1
 
 -- a refusal leaves the pass as it was
 pub invariant_of-desk : goal.invariant_of-desk
@@ -27,7 +27,7 @@ invariant_of-desk-2 g c =
     let desk = c.args.desk.now in
     let given = c.in_ok-receipt.receipt in
     let accepted = c.in_ok-receipt.ensures.accepted in
-    let stands = accepted_stands g.W.World c.args.self.now.room desk.pass c.args.call.now accepted.0 given c.locked.new.room c.locked.new.pass accepted.1 in
+    let stands = accepted_stands g.W.World c.args.self.now.room desk.pass c.args.call.now accepted.0 given c.locked.new.self c.locked.new.pass accepted.1 in
     record {
       part = c.add.ensures.parts ∙ desk.part;
       counted = counted_more _ _ _ _ given desk.counted c.add.ensures.amount stands.kept.2;

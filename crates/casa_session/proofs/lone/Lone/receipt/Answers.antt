@@ -20,13 +20,13 @@ says es call = ap (λ (m : State). reply m call) (state_replayed es ∙ state-of
 
 pub invariant_of-self : goal.invariant_of-self
 invariant_of-self c =
-    alone-answered says c.self.inside.room c.self.inside.pass c.args.call.now c.answer.new.room c.answer.new.pass c.self.invariant c.answer.result c.answer.ensures.accepted c.answer.ensures.refused
+    alone-answered says c.self.inside.room c.self.inside.pass c.args.call.now c.locked.new.self c.locked.new.pass c.self.invariant c.locked.result c.locked.ensures.accepted c.locked.ensures.refused
 
 pub returns-clause-ok : goal.returns-clause-ok
 returns-clause-ok c =
-    let P : List Call → Type 0 = λ (before : List Call). IfOk c.answer.result (λ given. receipts_played (calls_in (entries_of c.answer.new.room)) ≡ receipts_played before ++ given ∷ []) in
+    let P : List Call → Type 0 = λ (before : List Call). IfOk c.locked.result (λ given. receipts_played (calls_in (entries_of c.locked.new.self)) ≡ receipts_played before ++ given ∷ []) in
     subst P c.self.view_is
-    (receipt-answered says c.self.inside.room c.self.inside.pass c.args.call.now c.answer.new.room c.answer.new.pass c.self.invariant c.answer.result c.answer.ensures.accepted)
+    (receipt-answered says c.self.inside.room c.self.inside.pass c.args.call.now c.locked.new.self c.locked.new.pass c.self.invariant c.locked.result c.locked.ensures.accepted)
 
 pub returns-clause-foreign : goal.returns-clause-foreign
-returns-clause-foreign c = λ is. c.answer.ensures.foreign.0 is (alone-admitted c.self.inside.room c.self.inside.pass c.self.invariant)
+returns-clause-foreign c = λ is. c.locked.ensures.foreign.0 is (alone-admitted c.self.inside.room c.self.inside.pass c.self.invariant)
