@@ -1,19 +1,18 @@
 //! Flights that enter one by one, each after those before it have.
 
-ghost use Rattle.std.specs.Prelude.{◌≡◌, IfOk, OnOk};
+ghost use Rattle.std.specs.Prelude.{◌≡◌, IfOk, OnOk, option_copied};
 ghost use Rattle.casa_flight.specs.Entry.{entered};
 ghost use Rattle.casa_footprint.specs.Finding.{crossed};
 ghost use Rattle.casa_answer.specs.Sight.{row_with};
 ghost use Rattle.casa_answer.specs.Enter.{situation_with, with_reentry, with_entries};
 ghost use Rattle.casa_plan.specs.Seen.{sight};
 
-use crate::flight_lists::Crossings;
 use crate::offers::best_offer;
 use crate::sighted::row_with;
 use crate::write::write_flight;
 use casa_flight::{Comp, Key, Row};
 use casa_time::Moment;
-use casa_view::{Catalogue, Change, Version, View};
+use casa_view::{Catalogue, Change, Crossings, Version, View};
 use std::alloc::{AllocError, Global};
 
 /// An ungoverned flight as it stands once it has entered, where these regulations are open. `AllocError` where there is no
@@ -27,7 +26,7 @@ fn entered<V: Version>(
     row: Row,
     over: &Crossings,
 ) -> Result<Row, AllocError>
-    requires { over.now.entries ≡ crossed row.plan _catalogue.now }
+    requires { over.now ≡ crossed row.plan _catalogue.now }
     ensures { IfOk result (λ new. new ≡
         entered (situation_with clock _catalogue.now (sight V.item_of view.now) draft.now) key row) }
 {
@@ -40,7 +39,8 @@ fn entered<V: Version>(
     }
 }
 
-/// The flight under a key enters anew, if there is one. `AllocError` where there is no memory for that.
+/// The flight under a key enters anew, if there is one: with the row that is written, or else with this one, as which the
+/// view shows it. `AllocError` where there is no memory for that.
 pub(crate) fn reenter<V: Version>(
     alloc: Global,
     view: &View<V>,
@@ -48,12 +48,14 @@ pub(crate) fn reenter<V: Version>(
     clock: Moment,
     catalogue: &Catalogue,
     key: Key,
+    shown: Option<&Row>,
 ) -> Result<(), AllocError>
+    requires { option_copied shown ≡ (sight V.item_of view.now).row key }
     ensures { OnOk result (draft.new ≡
         with_reentry clock catalogue.now (sight V.item_of view.now) draft.old key
         (row_with (sight V.item_of view.now) draft.old key)) }
 {
-    let Some(row) = row_with(view, draft, &key) else {
+    let Some(row) = row_with(draft, &key, shown) else {
         return Ok(());
     };
     let row = row.ungoverned()?;
@@ -75,7 +77,8 @@ pub(crate) fn enter_all<V: Version>(
         with_entries clock catalogue.now (sight V.item_of view.now) draft.old comps.now) }
 {
     for comp in comps {
-        reenter(alloc, view, draft, clock, catalogue, comp.key)?;
+        let row = view.row(&comp.key);
+        reenter(alloc, view, draft, clock, catalogue, comp.key, row)?;
     }
     Ok(())
 }

@@ -8,14 +8,9 @@ ghost use Rattle.casa_flight.specs.IssuedTimes.{with_issued};
 ghost use Rattle.casa_list.specs.Standings.{governed_place};
 ghost use Rattle.casa_answer.specs.Write.{with_flight};
 
-use casa_flight::{Comp, Key, RegId, Stance};
+use casa_flight::{Comp, Key, Stance};
 use casa_list::{SharedList, SlotList};
-use casa_time::Moment;
 use std::alloc::{AllocError, Global};
-use std::collections::BTreeMap;
-
-/// The regulations to which a flight is subject, by identifiers, with its times over.
-pub(crate) type Crossings = BTreeMap<RegId, Moment>;
 
 /// Takes a flight out, which stands in this way, if it is there.
 pub(crate) fn take_out(list: &mut SlotList, key: &Key, was: &Option<Stance>)

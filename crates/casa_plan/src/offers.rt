@@ -10,12 +10,12 @@ ghost use Rattle.casa_answer.specs.Sight.{list_with, regulations_in};
 ghost use Rattle.casa_answer.specs.OneFlight.{offers_of, entry_offer, with_offer, offered_delay};
 ghost use Rattle.casa_plan.specs.Seen.{sight};
 
-use crate::flight_lists::{Crossings, take_out};
+use crate::flight_lists::take_out;
 use crate::sighted::{clock, list_with};
 use casa_flight::{Comp, Key, Offer, RegId, Row, Stance, more_penalising};
 use casa_list::SlotList;
 use casa_time::Moment;
-use casa_view::{Change, Version, View};
+use casa_view::{Change, Crossings, Version, View};
 use std::alloc::{AllocError, Global};
 
 /// The calculated time over that a flight would have as a competitor once it had left, worked out on a copy.
@@ -81,10 +81,10 @@ pub(crate) fn best_offer<V: Version>(
     over: &Crossings,
 ) -> Result<Option<Offer>, AllocError>
     ensures { IfOk result (λ best. best ≡
-        most_penalising (offers_of (list_with (sight V.item_of view.now) draft.now) key over.now.entries)) }
+        most_penalising (offers_of (list_with (sight V.item_of view.now) draft.now) key over.now)) }
 {
     let mut best = None;
-    for (id, eto) in over {
+    for (id, eto) in over.iter() {
         if let Some(offer) = offer_of(view, draft, key, *id, *eto)? {
             best = Some(more_penalising(best, offer));
         }
@@ -101,7 +101,7 @@ pub(crate) fn entry_offer<V: Version>(
     row: &Row,
     over: &Crossings,
 ) -> Result<Option<Offer>, AllocError>
-    requires { over.now.entries ≡ crossed row.now.plan (regulations_in (sight V.item_of view.now)) }
+    requires { over.now ≡ crossed row.now.plan (regulations_in (sight V.item_of view.now)) }
     ensures { IfOk result (λ offer. offer ≡ entry_offer (sight V.item_of view.now) key row.now) }
 {
     if row.is_exempt() || row.plan.is_gone(clock(view)) {

@@ -1,22 +1,21 @@
 //! The planners of the calls on one flight.
 
-ghost use Rattle.std.specs.Prelude.{◌≡◌, ◌≤◌, IfOk, option_copied, false};
+ghost use Rattle.std.specs.Prelude.{◌≡◌, ◌≤◌, IfOk, option_copied, false, nat_lt};
 ghost use Rattle.casa_time.specs.Moment.{last_moment};
 ghost use Rattle.casa_footprint.specs.Finding.{crossed};
-ghost use Rattle.casa_answer.specs.Sight.{regulations_in};
+ghost use Rattle.casa_answer.specs.Sight.{clock_in, regulations_in};
 ghost use Rattle.casa_answer.specs.FlightCalls.{unchanged, rewritten, taking, entering, file, amend, cancel, is_taken, revise, exempted_if, exempt, show};
 ghost use Rattle.casa_plan.specs.Seen.{sight};
 
-use crate::flight_lists::Crossings;
 use crate::offers::{entry_offer, offered_delay, with_offer};
 use crate::replies::refused;
 use crate::sighted::{clock, crossed};
 use crate::telling::{ctot_shown, delay_shown, told};
 use crate::write::flight_written;
 use casa_flight::{Answer, FlightReply, Key, Messages, Offer, Plan, Refusal, Reply, Row};
-use casa_view::{Change, Version, View};
+use casa_named::Few;
+use casa_view::{Change, Crossings, Version, View};
 use std::alloc::{AllocError, Global};
-use std::collections::BTreeMap;
 
 /// The flight as it is shown.
 fn unchanged<V: Version>(
@@ -44,7 +43,7 @@ fn rewritten<V: Version>(
     has: &Crossings,
 ) -> Result<(Reply, Change), AllocError>
     requires in_range { delay ≤ last_moment }
-    requires subject { has.now.entries ≡ crossed row.plan (regulations_in (sight V.item_of view.now)) }
+    requires subject { has.now ≡ crossed row.plan (regulations_in (sight V.item_of view.now)) }
     ensures { IfOk result (λ p.
         p ≡ rewritten (sight V.item_of view.now) key (option_copied was.entry) row delay) }
 {
@@ -63,7 +62,7 @@ fn taking<V: Version>(
     offer: &Option<Offer>,
     has: &Crossings,
 ) -> Result<(Reply, Change), AllocError>
-    requires { has.now.entries ≡ crossed row.plan (regulations_in (sight V.item_of view.now)) }
+    requires { has.now ≡ crossed row.plan (regulations_in (sight V.item_of view.now)) }
     ensures { IfOk result (λ p.
         p ≡ taking (sight V.item_of view.now) key (option_copied was.entry) row offer.now) }
 {
@@ -87,6 +86,13 @@ fn entering<V: Version>(
     taking(alloc, view, key, was, row, &offer, &has)
 }
 
+/// Whether a plan's off-block time has passed.
+fn is_late<V: Version>(view: &View<V>, plan: &Plan) -> bool
+    ensures { result ≡ nat_lt plan.now.eobt (clock_in (sight V.item_of view.now)) }
+{
+    plan.eobt() < clock(view)
+}
+
 /// A filed flight is added and enters.
 pub(crate) fn file<V: Version>(
     alloc: Global,
@@ -96,11 +102,10 @@ pub(crate) fn file<V: Version>(
     ensures { IfOk result (λ p. p ≡ file (sight V.item_of view.now) plan.now) }
 {
     let key = plan.key();
-    let is_late = plan.eobt() < clock(view);
     if let Some(_row) = view.row(&key) {
         return Ok(refused(alloc, Refusal::Duplicate));
     }
-    if is_late {
+    if is_late(view, plan) {
         return Ok(refused(alloc, Refusal::Late));
     }
     entering(alloc, view, key, None, Row::filed(plan)?)
@@ -118,7 +123,7 @@ pub(crate) fn amend<V: Version>(
     let Some(row) = view.row(&key) else {
         return Ok(refused(alloc, Refusal::NoFlight));
     };
-    if plan.eobt() < clock(view) {
+    if is_late(view, plan) {
         return Ok(refused(alloc, Refusal::Late));
     }
     entering(alloc, view, key, Some(row), row.amended(plan)?)
@@ -136,7 +141,7 @@ pub(crate) fn cancel<V: Version>(
         return Ok(refused(alloc, Refusal::NoFlight));
     };
     let messages = Messages::from_vec(Vec::new(alloc))?;
-    let has = BTreeMap::new(alloc);
+    let has = Few::new(alloc);
     let draft = flight_written(alloc, view, key, Some(row), None, &has)?;
     Ok((Reply::Answered(Answer::Done, messages), draft))
 }

@@ -1,6 +1,6 @@
 //! The planner of a regulation that opens.
 
-ghost use Rattle.std.specs.Prelude.{◌≡◌, List, Bool, false, Option, IfOk, OnOk, Some};
+ghost use Rattle.std.specs.Prelude.{◌≡◌, List, Bool, false, Option, IfOk, OnOk, Some, option_copied};
 ghost use Rattle.std.specs.Option.{option_map_or};
 ghost use Rattle.std.specs.List.{filter};
 ghost use Rattle.casa_flight.specs.declared.comp.Comp.{Comp};
@@ -14,7 +14,9 @@ ghost use Rattle.casa_plan.specs.Seen.{sight};
 use crate::entering::reenter;
 use crate::replies::{done, refused};
 use crate::sighted::{clock, regulations};
-use casa_flight::{Comp, Key, Loc, MAX_REGULATIONS, Refusal, RegId, Regulation, Reply, Stance};
+use casa_flight::{
+    Comp, Key, Loc, MAX_REGULATIONS, Refusal, RegId, Regulation, Reply, Row, Stance,
+};
 use casa_grid::{Grid, Profile};
 use casa_list::{SharedList, SlotList};
 use casa_time::Moment;
@@ -75,11 +77,11 @@ fn new_list(
     )
 }
 
-/// Whether a flight that a view shows may compete.
-fn may_compete<V: Version>(view: &View<V>, clock: Moment, key: &Key) -> bool
-    ensures { result ≡ option_map_or (may_compete clock) ((sight V.item_of view.now).row key.now) false }
+/// Whether a flight with this row may compete, if there is one.
+fn may_compete(clock: Moment, row: Option<&Row>) -> bool
+    ensures { result ≡ option_map_or (may_compete clock) (option_copied row.entry) false }
 {
-    match view.row(key) {
+    match row {
         Some(row) => row.may_compete(clock),
         None => false,
     }
@@ -100,8 +102,9 @@ fn enter_newcomers<V: Version>(
         option_map_or (may_compete clock) ((sight V.item_of view.now).row c.key) false) comps.now.keys)) }
 {
     for comp in comps {
-        if may_compete(view, clock, &comp.key) {
-            reenter(alloc, view, draft, clock, catalogue, comp.key)?;
+        let row = view.row(&comp.key);
+        if may_compete(clock, row) {
+            reenter(alloc, view, draft, clock, catalogue, comp.key, row)?;
         }
     }
     Ok(())

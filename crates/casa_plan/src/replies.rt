@@ -92,7 +92,7 @@ fn messages<V: Version>(
     ensures { IfOk result (λ all. all.items ≡ messages_shown (sight V.item_of view.now) draft.now) }
 {
     let mut all = Vec::new(alloc);
-    for (key, row) in draft.rows() {
+    for (key, row) in draft.rows().iter() {
         if let Some(message) = message_of_row(view, draft, key, row) {
             all.push(message)?;
         }

@@ -1,18 +1,19 @@
 //! What a view shows to a planner, alone or with a change laid over it.
 
-ghost use Rattle.std.specs.Prelude.{◌≡◌, IfOk};
+ghost use Rattle.std.specs.Prelude.{◌≡◌, IfOk, unwrap_or};
 ghost use Rattle.std.specs.Option.{option_copied};
+ghost use Rattle.casa_flight.specs.Text.{at_name};
 ghost use Rattle.casa_footprint.specs.Finding.{crossed};
 ghost use Rattle.casa_view.specs.Shown.{HasRowsInOrder};
-ghost use Rattle.casa_answer.specs.Sight.{clock_in, regulations_in, row_with, list_with};
+ghost use Rattle.casa_answer.specs.Sight.{clock_in, regulations_in, list_with};
 ghost use Rattle.casa_plan.specs.Seen.{sight};
 
 use casa_flight::{Key, Plan, RegId, Regulation, Row};
 use casa_list::SlotList;
+use casa_named::Few;
 use casa_time::Moment;
-use casa_view::{Change, Version, View};
+use casa_view::{Change, Crossings, Version, View};
 use std::alloc::{AllocError, Global};
-use std::collections::BTreeMap;
 
 /// The clock: midnight where the view does not hold it.
 pub(crate) fn clock<V: Version>(view: &View<V>) -> Moment
@@ -40,12 +41,12 @@ pub(crate) fn crossed<V: Version>(
     alloc: Global,
     view: &View<V>,
     plan: &Plan,
-) -> Result<BTreeMap<RegId, Moment>, AllocError>
-    ensures { IfOk result (λ found. found.entries ≡ crossed plan.now (regulations_in (sight V.item_of view.now))) }
+) -> Result<Crossings, AllocError>
+    ensures { IfOk result (λ found. found ≡ crossed plan.now (regulations_in (sight V.item_of view.now))) }
 {
     match view.catalogue() {
         Some(catalogue) => catalogue.crossed(alloc, plan),
-        None => Ok(BTreeMap::new(alloc)),
+        None => Ok(Few::new(alloc)),
     }
 }
 
@@ -56,17 +57,13 @@ pub(crate) fn in_order<V: Version>(view: &View<V>)
     let _rows = view.rows();
 }
 
-/// The row of a flight as it is written, or else as the view shows it.
-pub(crate) fn row_with<'a, V: Version>(
-    view: &'a View<V>,
-    draft: &'a Change,
-    key: &Key,
-) -> Option<&'a Row>
-    ensures { option_copied result ≡ row_with (sight V.item_of view.now) draft.now key.now }
+/// The row of a flight as it is written, or else this one, as which the view shows it.
+pub(crate) fn row_with<'a>(draft: &'a Change, key: &Key, shown: Option<&'a Row>) -> Option<&'a Row>
+    ensures { option_copied result ≡ unwrap_or (at_name draft.now.rows key.now) (option_copied shown.entry) }
 {
     match draft.rows().get(key) {
         Some(row) => row.row(),
-        None => view.row(key),
+        None => shown,
     }
 }
 

@@ -10,13 +10,13 @@ ghost use Rattle.casa_answer.specs.Write.{with_flight, with_stances, crossed_by,
 ghost use Rattle.casa_answer.specs.OneFlight.{flight_written};
 ghost use Rattle.casa_plan.specs.Seen.{sight};
 
-use crate::flight_lists::{Crossings, with_flight};
+use crate::flight_lists::with_flight;
 use crate::sighted::crossed;
 use casa_flight::{Key, RegId, Row, Stance};
 use casa_list::SharedList;
-use casa_view::{Change, Version, View};
+use casa_named::Few;
+use casa_view::{Change, Crossings, Version, View};
 use std::alloc::{AllocError, Global};
-use std::collections::BTreeMap;
 
 /// Takes out the list of a regulation as it is written; what the view shows where it is not written. `AllocError` where it
 /// is shared too often to count.
@@ -88,11 +88,11 @@ fn leave_lists<V: Version>(
     has: &Crossings,
 ) -> Result<(), AllocError>
     ensures { OnOk result (draft.new ≡ record draft.old {
-      lists = with_stances (sight V.item_of view.now) key draft.old.lists (left had.now.entries has.now.entries);
+      lists = with_stances (sight V.item_of view.now) key draft.old.lists (left had.now has.now);
     }) }
 {
-    for (id, _) in had {
-        if !has.contains_key(id) {
+    for (id, _) in had.iter() {
+        if has.get(id).is_none() {
             stand(alloc, view, draft, key, *id, None)?;
         }
     }
@@ -111,13 +111,13 @@ fn stand_in_lists<V: Version>(
 ) -> Result<(), AllocError>
     ensures { OnOk result (draft.new ≡ record draft.old {
       lists = with_stances (sight V.item_of view.now) key draft.old.lists
-          (standing (option_copied now.entry) has.now.entries);
+          (standing (option_copied now.entry) has.now);
     }) }
 {
     let Some(row) = now else {
         return Ok(());
     };
-    for (id, eto) in has {
+    for (id, eto) in has.iter() {
         let stance = Stance::of(row.is_governed_by(*id), row.issued, *eto);
         stand(alloc, view, draft, key, *id, Some(stance))?;
     }
@@ -136,7 +136,7 @@ pub(crate) fn write_flight<V: Version>(
     has: &Crossings,
 ) -> Result<(), AllocError>
     ensures { OnOk result (draft.new ≡ write_flight (sight V.item_of view.now) draft.old key now
-        (left had.now.entries has.now.entries ++ standing now has.now.entries)) }
+        (left had.now has.now ++ standing now has.now)) }
 {
     leave_lists(alloc, view, draft, key, had, has)?;
     stand_in_lists(alloc, view, draft, key, now.as_ref(), has)?;
@@ -150,11 +150,11 @@ fn crossed_by<V: Version>(
     row: Option<&Row>,
 ) -> Result<Crossings, AllocError>
     ensures { IfOk result (λ found.
-        found.entries ≡ crossed_by (regulations_in (sight V.item_of view.now)) (option_copied row.entry)) }
+        found ≡ crossed_by (regulations_in (sight V.item_of view.now)) (option_copied row.entry)) }
 {
     match row {
         Some(row) => crossed(alloc, view, &row.plan),
-        None => Ok(BTreeMap::new(alloc)),
+        None => Ok(Few::new(alloc)),
     }
 }
 
@@ -168,7 +168,7 @@ pub(crate) fn flight_written<V: Version>(
     now: Option<Row>,
     has: &Crossings,
 ) -> Result<Change, AllocError>
-    requires { has.now.entries ≡ crossed_by (regulations_in (sight V.item_of view.now)) now }
+    requires { has.now ≡ crossed_by (regulations_in (sight V.item_of view.now)) now }
     ensures { IfOk result (λ draft.
         draft ≡ flight_written (sight V.item_of view.now) key (option_copied was.entry) now) }
 {

@@ -26,7 +26,7 @@ use Rattle.casa_footprint.specs.Finding.{by_id}
 use Rattle.casa_table.specs.Crossed.{AreListed, HasPlaces, IsCatalogue, is_over, at_place, along, place_with}
 use Rattle.casa_table.proofs.Gathered.{gathered_is}
 use Rattle.casa_table.proofs.InTurn.{at-later, none_noted, one_noted, noted_both}
-use Rattle.casa_table.proofs.Layers.{same_test}
+use Rattle.casa_named.proofs.Found.{same_test}
 
 -- the index with one more
 pub added : {V : Type 0} (items : V → List Regulation) (es left now : List (Text × V)) (r : Regulation) (o : Option V)

@@ -14,6 +14,7 @@ use Rattle.casa_flight.specs.Good.{AreInOrder}
 use Rattle.casa_flight.proofs.Entries.{text_cmp, same_name, itself, named, apart, at-put, at-without_other, sorted-put}
 use Rattle.casa_flight.proofs.Entries.{sorted-remove}
 use Rattle.casa_laws.proofs.Kept.{at_above, at-without_same, same_entries}
+use Rattle.casa_named.proofs.Found.{same_test}
 use Rattle.casa_table.specs.Laid.{where_put, with_value, laid}
 
 pub sorted-with_value : {X : Type 0} (k : Text) (w : Option X) (es : List (Text × X)) → AreInOrder es
@@ -110,14 +111,6 @@ put-last {X} (e ∷ p) k v rest h =
     nat_list_cmp_total.antisymm k e.0 ∙ ap ordering_reverse (all-mid (λ y. text_cmp e.0 y ≡ Less) p k v rest h.0) in
     ap (λ (r : Ordering). match_ordering r ((k, v) ∷ e ∷ p) ((e.0, v) ∷ p) (e ∷ put p k v)) later
     ∙ ap (λ (es : List (Text × X)). e ∷ es) (put-last p k v rest h.1)
-
--- names are the same for a look-up as for a test
-pub same_test : (k q : Text) → is_eq (text_cmp q k) ≡ same_text k q
-same_test k q =
-    elim (same_text k q) as (λ b. same_text k q ≡ b → is_eq (text_cmp q k) ≡ b) [
-      | true ↦ λ e. subst (λ (t : Text). is_eq (text_cmp t k) ≡ true) (named k q e) (itself k)
-      | false ↦ λ e. apart k q e
-    ] refl
 
 -- what stands under each name after a change
 pub where-put : {X : Type 0} (P : (Text → Option X) → Type 0) (k : Text) (w : Option X) (es fs : List (Text × X))

@@ -22,7 +22,7 @@ use Rattle.casa_footprint.specs.Finding.{crossed}
 use Rattle.casa_footprint.specs.Finding.{by_id}
 use Rattle.casa_table.specs.Crossed.{before, after, others, meets, AreListed}
 use Rattle.casa_table.proofs.Crossed.{all_open}
-use Rattle.casa_table.proofs.Layers.{same_test}
+use Rattle.casa_named.proofs.Found.{same_test}
 
 flipped : (k q : Text) (o : Ordering) → text_cmp k q ≡ o → text_cmp q k ≡ ordering_reverse o
 flipped k q o h = nat_list_cmp_total.antisymm q k ∙ ap ordering_reverse h

@@ -20,6 +20,7 @@ use crate::item::row_in;
 use crate::table::{Base, Changes, Shared};
 use crate::version::Version;
 use casa_flight::{Comp, Key, OfFlight, Regulation, Row, subject};
+use casa_named::Few;
 use casa_time::{Moment, due};
 use std::alloc::{AllocError, Global};
 use std::collections::{BTreeMap, BTreeSet};
@@ -261,13 +262,13 @@ fn answer_named<V: Version>(question: &Question, value: &Option<V>) -> Option<Mo
 /// where there is no memory for the keys.
 pub fn due_named<V: Version>(
     alloc: Global,
-    rows: &Changes<OfFlight, V>,
+    rows: &Few<OfFlight, Option<V>>,
     at: Moment,
 ) -> Result<Vec<Key>, AllocError>
-    ensures { IfOk result (λ keys. keys.items ≡ due_keys at (rows_named V.item_of rows.now.entries)) }
+    ensures { IfOk result (λ keys. keys.items ≡ due_keys at (rows_named V.item_of rows.now)) }
 {
     let mut keys = Vec::new(alloc);
-    for (key, value) in rows {
+    for (key, value) in rows.iter() {
         if answer_named(&Question::Due(at), value).is_some() {
             keys.push(*key)?;
         }
@@ -279,14 +280,14 @@ pub fn due_named<V: Version>(
 /// for the flights.
 pub fn flights_over_named<V: Version>(
     alloc: Global,
-    rows: &Changes<OfFlight, V>,
+    rows: &Few<OfFlight, Option<V>>,
     regulation: &Regulation,
 ) -> Result<BTreeSet<Comp>, AllocError>
     ensures { IfOk result (λ comps. comps.keys ≡
-        flights_over (λ (row : Row). true) regulation.now (rows_named V.item_of rows.now.entries)) }
+        flights_over (λ (row : Row). true) regulation.now (rows_named V.item_of rows.now)) }
 {
     let mut comps = BTreeSet::new(alloc);
-    for (key, value) in rows {
+    for (key, value) in rows.iter() {
         if let Some(eto) = answer_named(&Question::Over(*regulation), value) {
             comps.insert(Comp { eto, key: *key })?;
         }

@@ -9,11 +9,15 @@ ghost use Rattle.casa_footprint.specs.Finding.{by_id};
 ghost use Rattle.casa_table.specs.Crossed.{before, after, others, AreListed, HasPlaces};
 ghost use Rattle.casa_table.specs.Crossed.{at_place, along, place_with};
 
-use casa_flight::{Loc, Plan, RegId, Regulation};
+use casa_flight::{Loc, OfRegulation, Plan, RegId, Regulation};
+use casa_named::Few;
 use casa_time::Moment;
 use std::alloc::{AllocError, Global};
 use std::collections::BTreeMap;
 use std::marker::Model;
+
+/// The regulations to which a flight is subject, by identifiers, with its times over.
+pub type Crossings = Few<OfRegulation, Moment>;
 
 /// The open regulations in the order of their identifiers, with an index by location.
 ///
@@ -101,8 +105,8 @@ impl Catalogue {
 
     /// The regulations to which a flight with this plan is subject, by identifiers, with the plan's time over. It looks
     /// only at those that are at a location of the plan. `AllocError` where there is no memory for what it finds.
-    pub fn crossed(&self, alloc: Global, plan: &Plan) -> Result<BTreeMap<RegId, Moment>, AllocError>
-        ensures { IfOk result (λ found. found.entries ≡ crossed plan.now self.now) }
+    pub fn crossed(&self, alloc: Global, plan: &Plan) -> Result<Crossings, AllocError>
+        ensures { IfOk result (λ found. found ≡ crossed plan.now self.now) }
     {
         noted_along(alloc, &self.places, plan)
     }
@@ -229,11 +233,11 @@ fn noted_along(
     alloc: Global,
     places: &BTreeMap<Loc, Vec<Regulation>>,
     plan: &Plan,
-) -> Result<BTreeMap<RegId, Moment>, AllocError>
+) -> Result<Crossings, AllocError>
     ensures { IfOk result (λ found.
-        HasNoted (crossed plan.now (along (at_place (λ v. v.items) places.now.entries) plan.now.via)) [] found.entries) }
+        HasNoted (crossed plan.now (along (at_place (λ v. v.items) places.now.entries) plan.now.via)) [] found) }
 {
-    let mut found = BTreeMap::new(alloc);
+    let mut found = Few::new(alloc);
     for crossing in plan.via() {
         note_at(&mut found, places, plan, &crossing.loc)?;
     }
@@ -242,13 +246,13 @@ fn noted_along(
 
 /// Notes the regulations at a location to which a flight with this plan is subject.
 fn note_at(
-    found: &mut BTreeMap<RegId, Moment>,
+    found: &mut Crossings,
     places: &BTreeMap<Loc, Vec<Regulation>>,
     plan: &Plan,
     loc: &Loc,
 ) -> Result<(), AllocError>
     ensures { OnOk result (HasNoted (crossed plan.now (at_place (λ v. v.items) places.now.entries loc.now))
-        found.old.entries found.new.entries) }
+        found.old found.new) }
 {
     match places.get(loc) {
         Some(regulations) => note_each(found, plan, regulations.as_slice()),
@@ -258,11 +262,11 @@ fn note_at(
 
 /// Notes those of the regulations to which a flight with this plan is subject.
 fn note_each(
-    found: &mut BTreeMap<RegId, Moment>,
+    found: &mut Crossings,
     plan: &Plan,
     regulations: &[Regulation],
 ) -> Result<(), AllocError>
-    ensures { OnOk result (HasNoted (crossed plan.now regulations.now) found.old.entries found.new.entries) }
+    ensures { OnOk result (HasNoted (crossed plan.now regulations.now) found.old found.new) }
 {
     for regulation in regulations {
         note(found, regulation.id, plan.time_over(regulation))?;
@@ -271,15 +275,11 @@ fn note_each(
 }
 
 /// Notes an entry, if there is one.
-fn note(
-    found: &mut BTreeMap<RegId, Moment>,
-    id: RegId,
-    time: Option<Moment>,
-) -> Result<(), AllocError>
-    ensures { OnOk result (found.new.entries ≡ noted found.old.entries id time) }
+fn note(found: &mut Crossings, id: RegId, time: Option<Moment>) -> Result<(), AllocError>
+    ensures { OnOk result (found.new ≡ noted found.old id time) }
 {
     if let Some(time) = time {
-        found.insert(id, time)?;
+        found.put(id, time)?;
     }
     Ok(())
 }

@@ -6,9 +6,10 @@ ghost use Rattle.casa_flight.specs.Text.{Text, at_name};
 ghost use Rattle.casa_table.specs.Same.{same_version};
 
 use crate::index::Index;
-use crate::table::{Changes, Shared, Table, Values};
+use crate::table::{Shared, Table, Values};
 use crate::version::Version;
 use casa_flight::Name;
+use casa_named::Few;
 use std::collections::BTreeMap;
 
 /// Whether two versions are the same, or there is none on either side.
@@ -104,11 +105,11 @@ pub fn same_all<Kind: Copy, V: Version, I: Index<Kind, V>>(
 /// Whether the versions under these names are the present ones, where none stands for a name that has none.
 pub fn same_named<Kind: Copy, V: Version, I: Index<Kind, V>>(
     table: &Table<Kind, V, I>,
-    named: &Changes<Kind, V>,
+    named: &Few<Kind, Option<V>>,
 ) -> bool
-    ensures same { IsTrue result ↔ ((q : Text) (w : Option V) → at_name named.now.entries q ≡ Some w →
+    ensures same { IsTrue result ↔ ((q : Text) (w : Option V) → at_name named.now q ≡ Some w →
         same_version V.is_same (at_name table.now.entries q) w ≡ true) }
-    ensures shows { IsTrue result → (q : Text) (w : Option V) → at_name named.now.entries q ≡ Some w →
+    ensures shows { IsTrue result → (q : Text) (w : Option V) → at_name named.now q ≡ Some w →
         option_map V.item_of (at_name table.now.entries q) ≡ option_map V.item_of w }
 {
     for (name, version) in named.iter() {

@@ -12,7 +12,7 @@ mod table;
 mod version;
 
 pub use asking::{due_named, flights_over_named};
-pub use catalogue::Catalogue;
+pub use catalogue::{Catalogue, Crossings};
 pub use comparing::{same_all, same_named, same_version};
 pub use copies::{Copied, Copies};
 pub use flights::FlightIndex;

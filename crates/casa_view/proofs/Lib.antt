@@ -1,4 +1,3 @@
-pub mod Alone
 pub mod Pushed
 pub mod Turned
 pub mod Orderly
@@ -9,6 +8,5 @@ pub mod Reading
 pub mod Noted
 pub mod Taken
 pub mod WhatIsRead
-pub mod Merging
 pub mod RowsOf
 pub mod ViewRows

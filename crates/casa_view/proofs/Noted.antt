@@ -8,7 +8,7 @@ use Rattle.std.specs.Ordering.{is_eq}
 use Rattle.casa_flight.specs.Text.{Text, at_name, put, same_text}
 use Rattle.casa_flight.proofs.Entries.{text_cmp, named, at-put}
 use Rattle.casa_view.specs.Taking.{Sees}
-use Rattle.casa_table.proofs.Layers.{same_test}
+use Rattle.casa_named.proofs.Found.{same_test}
 
 -- one name more is noted
 seen_one : {V : Type 0} (k q : Text) (es : List (Text × V)) (noted : Option (Option V)) (t b : Bool) →

@@ -18,7 +18,7 @@ use Rattle.casa_table.specs.declared.item.Item.{Item}
 use Rattle.casa_table.specs.Versions.{row_of}
 use Rattle.casa_table.specs.Flights.{rows_of, rows_named}
 use Rattle.casa_table.specs.Laid.{with_value, laid}
-use Rattle.casa_view.specs.Overlaid.{overlaid, present}
+use Rattle.casa_named.specs.Overlaid.{overlaid, present}
 use Rattle.casa_table.proofs.Layers.{sorted-with_value}
 
 keys-present : {X : Type 0} (es : List (Text × X)) → keys_of es ≡ keys_of (present es)

@@ -36,7 +36,7 @@ use Rattle.casa_table.specs.Crossed.{meets}
 use Rattle.casa_view.specs.View.{IsTaken}
 use Rattle.casa_view.specs.Taking.{meets_if, meets_either, is_of, named, row_at, plan_at, governing_at, has_forced}
 use Rattle.casa_view.specs.Taking.{forced_at, governs_forced_at, IsRead}
-use Rattle.casa_table.proofs.Layers.{same_test}
+use Rattle.casa_named.proofs.Found.{same_test}
 
 -- a view with the versions of these items, which are what the call reads
 pub is_read : {V E : Type 0} (item_of : V → Item) (number : V → ℕ) (vs : Versions V) (call called : Call) →

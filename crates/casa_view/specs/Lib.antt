@@ -8,5 +8,4 @@ pub mod Sets
 pub mod Applied
 pub mod WellStanding
 pub mod Alike
-pub mod Overlaid
 pub mod Shown

@@ -1,4 +1,4 @@
-use Rattle.std.specs.Prelude.{ℕ, List, [], ◌∷◌, Option, None, Some}
+use Rattle.std.specs.Prelude.{ℕ, List, Option, None, Some}
 use Rattle.std.specs.Option.{option_map, option_and_then}
 use Rattle.casa_flight.specs.declared.regulation.Regulation.{Regulation}
 use Rattle.casa_flight.specs.declared.row.Row.{Row}
@@ -10,7 +10,7 @@ use Rattle.casa_table.specs.declared.item.Item.{Item}
 use Rattle.casa_table.specs.declared.item.Item.TheVariants.{Clock, Catalogue, Row as RowOf, List as ListOf}
 use Rattle.casa_view.specs.declared.view.View.{View}
 use Rattle.casa_view.specs.declared.view.Part.{Part}
-use Rattle.casa_view.specs.declared.view.Part.TheVariants.{All, One, Named}
+use Rattle.casa_view.specs.declared.view.Part.TheVariants.{All, Named}
 use Rattle.casa_table.specs.Versions.{moment_of, row_of, list_of}
 use Rattle.casa_view.specs.View.{seen}
 use Rattle.casa_table.specs.Flights.{rows_of, rows_named}
@@ -25,8 +25,7 @@ catalogue_of (ListOf id list) = None
 -- what a part of a view holds is in the order of its names
 abbrev pub IsInOrder : {K V I : Type 0} → Part K V I → Type 0
 IsInOrder (All entries) = AreInOrder entries
-IsInOrder (One held version) = AreInOrder ((held, version) ∷ [])
-IsInOrder (Named noted) = AreInOrder noted.entries
+IsInOrder (Named noted) = AreInOrder noted
 
 -- the rows that a view holds are in the order of their keys
 abbrev pub HasRowsInOrder : {V : Type 0} → View V → Type 0
@@ -53,8 +52,7 @@ module _ {V : Type 0} (item_of : V → Item) where
   -- the rows that a part of a view has, as its entries come
   abbrev pub rows_in : {K I : Type 0} → Part K V I → List (Text × Row)
   rows_in (All entries) = rows_of item_of entries
-  rows_in (One held version) = rows_named item_of ((held, version) ∷ [])
-  rows_in (Named noted) = rows_named item_of noted.entries
+  rows_in (Named noted) = rows_named item_of noted
 
   -- the rows that a view shows
   abbrev pub rows_shown : View V → List (Text × Row)

@@ -12,19 +12,14 @@ use Rattle.casa_footprint.specs.Items.{ItemName, the_clock, the_catalogue, a_row
 use Rattle.casa_footprint.specs.Footprint.{reads, is_forced}
 use Rattle.casa_table.specs.declared.item.Item.{Item}
 use Rattle.casa_view.specs.declared.view.View.{View}
-use Rattle.casa_view.specs.declared.view.Part.{Part}
 use Rattle.casa_table.specs.Crossed.{meets}
 use Rattle.casa_table.specs.Versions.{Versions, row_of, list_at, shown_state}
 use Rattle.casa_view.specs.Standing.{StandsWell, standing}
-use Rattle.casa_view.specs.View.{seen_in, IsTaken}
+use Rattle.casa_view.specs.View.{IsTaken}
 
 -- noted is what the entries have under the names that pass the test, and nothing under others
 abbrev pub Sees : {V : Type 0} → List (Text × V) → (Text → Bool) → List (Text × Option V) → Type 0
 Sees es test noted = (q : Text) → at_name noted q ≡ (if test q then Some (at_name es q) else None)
-
--- and so of what a part of a view holds
-abbrev pub Holds : {K V I : Type 0} → List (Text × V) → (Text → Bool) → Part K V I → Type 0
-Holds {K} {V} es test part = (q : Text) → seen_in part q ≡ (if test q then Some (at_name es q) else None)
 
 -- the names that pass the test are noted too
 abbrev pub SeesAlso : {V : Type 0} → List (Text × V) → (Text → Bool)

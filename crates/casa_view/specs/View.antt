@@ -1,4 +1,4 @@
-use Rattle.std.specs.Prelude.{◌≡◌, List, [], ◌∷◌, Bool, true, Option, None, Some, if◌then◌else◌}
+use Rattle.std.specs.Prelude.{◌≡◌, List, Bool, true, Option, None, Some, if◌then◌else◌}
 use Rattle.std.specs.Option.{option_map}
 use Rattle.casa_flight.specs.declared.call.Call.{Call}
 use Rattle.casa_flight.specs.declared.state.State.{State}
@@ -9,15 +9,14 @@ use Rattle.casa_footprint.specs.Footprint.{reads}
 use Rattle.casa_table.specs.declared.item.Item.{Item}
 use Rattle.casa_view.specs.declared.view.View.{View}
 use Rattle.casa_view.specs.declared.view.Part.{Part}
-use Rattle.casa_view.specs.declared.view.Part.TheVariants.{All, One, Named}
+use Rattle.casa_view.specs.declared.view.Part.TheVariants.{All, Named}
 use Rattle.casa_table.specs.Same.{same_version}
 use Rattle.casa_table.specs.Versions.{Versions, version_at, content_as}
 
 -- the version that a view has under a name, or that there is none; it may not hold the name
 abbrev pub seen_in : {K V I : Type 0} → Part K V I → Text → Option (Option V)
 seen_in (All entries) name = Some (at_name entries name)
-seen_in (One held version) name = at_name ((held, version) ∷ []) name
-seen_in (Named noted) name = at_name noted.entries name
+seen_in (Named noted) name = at_name noted name
 
 abbrev pub seen : {V : Type 0} → View V → ItemName → Option (Option V)
 seen v the_clock = option_map Some v.clock

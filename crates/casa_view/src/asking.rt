@@ -1,34 +1,17 @@
 //! What is asked of the rows of a view at once: which flights are to be issued, and which are subject to a regulation.
 
-ghost use Rattle.std.specs.Prelude.{◌≡◌, ◌∷◌, [], true, IfOk};
+ghost use Rattle.std.specs.Prelude.{◌≡◌, true, IfOk};
 ghost use Rattle.casa_flight.specs.declared.row.Row.{Row};
 ghost use Rattle.casa_flight.specs.Steps.{flights_over};
 ghost use Rattle.casa_footprint.specs.Finding.{due_keys};
 ghost use Rattle.casa_view.specs.Shown.{rows_shown, HasRowsInOrder};
 
 use crate::view::{Part, View};
-use casa_flight::{Comp, Key, OfFlight, Regulation};
-use casa_table::{Changes, Version, due_named, flights_over_named};
+use casa_flight::{Comp, Key, Regulation};
+use casa_table::{Version, due_named, flights_over_named};
 use casa_time::Moment;
 use std::alloc::{AllocError, Global};
-use std::collections::{BTreeMap, BTreeSet};
-
-/// The version of one row under its key. `AllocError` where there is no memory for it.
-fn alone<V: Version>(
-    alloc: Global,
-    key: &Key,
-    version: &Option<V>,
-) -> Result<Changes<OfFlight, V>, AllocError>
-    ensures { IfOk result (λ rows. rows.entries ≡ (key.now, version.now) ∷ []) }
-{
-    let version = match version {
-        Some(version) => Some(version.try_clone()?),
-        None => None,
-    };
-    let mut rows = BTreeMap::new(alloc);
-    rows.insert(*key, version)?;
-    Ok(rows)
-}
+use std::collections::BTreeSet;
 
 impl<V: Version> View<V> {
     /// The keys of the flights that are governed, due at this time and not issued, in their order, among the rows that the
@@ -41,7 +24,6 @@ impl<V: Version> View<V> {
         self.rows.in_order();
         match &self.rows {
             Part::All(shared) => shared.due(alloc, at),
-            Part::One(key, version) => due_named(alloc, &alone(alloc, key, version)?, at),
             Part::Named(rows) => due_named(alloc, rows, at),
         }
     }
@@ -61,9 +43,6 @@ impl<V: Version> View<V> {
         self.rows.in_order();
         match &self.rows {
             Part::All(shared) => shared.flights_over(alloc, regulation),
-            Part::One(key, version) => {
-                flights_over_named(alloc, &alone(alloc, key, version)?, regulation)
-            }
             Part::Named(rows) => flights_over_named(alloc, rows, regulation),
         }
     }

@@ -1,6 +1,6 @@
 //! What a call writes.
 
-ghost use Rattle.std.specs.Prelude.{◌≡◌, Some, IfOk, OnOk};
+ghost use Rattle.std.specs.Prelude.{◌≡◌, Some, IfOk, OnOk, OnErr};
 ghost use Rattle.std.specs.Option.{option_copied};
 ghost use Rattle.casa_flight.specs.Text.{at_name, put, without};
 ghost use Rattle.casa_flight.specs.Good.{AreInOrder};
@@ -8,12 +8,12 @@ ghost use Rattle.casa_answer.specs.Sight.{nothing_written};
 ghost use Rattle.casa_view.specs.Board.{catalogue_written};
 ghost use Rattle.casa_view.specs.Next.{NextRow};
 
-use casa_flight::{Key, RegId, Row};
+use casa_flight::{Key, OfFlight, OfRegulation, RegId, Row};
 use casa_list::SharedList;
+use casa_named::Few;
 use casa_table::{Catalogue, Item, Kept, row_in};
 use casa_time::Moment;
 use std::alloc::{AllocError, Global};
-use std::collections::BTreeMap;
 use std::marker::Model;
 use std::sync::Arc;
 
@@ -26,8 +26,8 @@ pub struct Change {
     alloc: Global,
     clock: Option<Moment>,
     catalogue: Option<Arc<Item>>,
-    rows: BTreeMap<Key, WrittenRow>,
-    lists: BTreeMap<RegId, Option<SharedList>>,
+    rows: Few<OfFlight, WrittenRow>,
+    lists: Few<OfRegulation, Option<SharedList>>,
 }
 
 impl Model for Change {
@@ -39,8 +39,8 @@ impl Model for Change {
     ghost view = { λ d. record {
       clock = d.clock;
       catalogue = catalogue_written d.catalogue;
-      rows = d.rows.entries;
-      lists = d.lists.entries;
+      rows = d.rows;
+      lists = d.lists;
     } };
 }
 
@@ -53,8 +53,8 @@ impl Change {
             alloc,
             clock: None,
             catalogue: None,
-            rows: BTreeMap::new(alloc),
-            lists: BTreeMap::new(alloc),
+            rows: Few::new(alloc),
+            lists: Few::new(alloc),
         }
     }
 
@@ -65,29 +65,32 @@ impl Change {
         self.clock = Some(at);
     }
 
-    /// Writes the catalogue. `AllocError` where there is no memory for a count of the views that have it.
+    /// Writes the catalogue. `AllocError` where there is no memory for a count of the views that have it; nothing has
+    /// changed then.
     pub fn set_catalogue(&mut self, catalogue: Catalogue) -> Result<(), AllocError>
-        ensures { OnOk result (self.new ≡ record self.old { catalogue = Some catalogue }) }
+        ensures unchanged { OnErr result (self.new ≡ self.old) }
+        ensures written { OnOk result (self.new ≡ record self.old { catalogue = Some catalogue }) }
     {
         self.catalogue = Some(Arc::new(self.alloc, Item::Catalogue(catalogue))?);
         Ok(())
     }
 
-    /// Writes a flight's row, or that there is none. `AllocError` where there is no memory for it.
+    /// Writes a flight's row, or that there is none. `AllocError` where there is no memory for it; nothing has changed then.
     pub fn set_row(&mut self, key: Key, row: Option<Row>) -> Result<(), AllocError>
-        ensures { OnOk result (self.new ≡ record self.old { rows = put self.old.rows key row }) }
+        ensures unchanged { OnErr result (self.new ≡ self.old) }
+        ensures written { OnOk result (self.new ≡ record self.old { rows = put self.old.rows key row }) }
     {
         let row = WrittenRow::new(self.alloc, key, row)?;
-        self.rows.insert(key, row)?;
-        Ok(())
+        self.rows.put(key, row)
     }
 
-    /// Writes a regulation's list, or that there is none. `AllocError` where there is no memory for it.
+    /// Writes a regulation's list, or that there is none. `AllocError` where there is no memory for it; nothing has changed
+    /// then.
     pub fn set_list(&mut self, id: RegId, list: Option<SharedList>) -> Result<(), AllocError>
-        ensures { OnOk result (self.new ≡ record self.old { lists = put self.old.lists id list }) }
+        ensures unchanged { OnErr result (self.new ≡ self.old) }
+        ensures written { OnOk result (self.new ≡ record self.old { lists = put self.old.lists id list }) }
     {
-        self.lists.insert(id, list)?;
-        Ok(())
+        self.lists.put(id, list)
     }
 
     /// Takes out what is written of a regulation's list, if anything is.
@@ -96,9 +99,7 @@ impl Change {
         ensures left { self.new ≡ record self.old { lists = without self.old.lists id.now } }
         ensures ordered { AreInOrder self.old.lists }
     {
-        // That the identifiers ascend is known of a map from its length.
-        let _count = self.lists.len();
-        self.lists.remove(id)
+        self.lists.take(id)
     }
 
     /// The clock, if it is written.
@@ -116,15 +117,15 @@ impl Change {
     }
 
     /// The rows that are written, or absences, by keys.
-    pub fn rows(&self) -> &BTreeMap<Key, WrittenRow>
-        ensures { result.now.entries ≡ self.now.rows }
+    pub fn rows(&self) -> &Few<OfFlight, WrittenRow>
+        ensures { result.now ≡ self.now.rows }
     {
         &self.rows
     }
 
     /// The lists that are written, or absences, by identifiers.
-    pub fn lists(&self) -> &BTreeMap<RegId, Option<SharedList>>
-        ensures { result.now.entries ≡ self.now.lists }
+    pub fn lists(&self) -> &Few<OfRegulation, Option<SharedList>>
+        ensures { result.now ≡ self.now.lists }
     {
         &self.lists
     }

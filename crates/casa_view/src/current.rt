@@ -6,7 +6,7 @@ ghost use Rattle.casa_view.specs.View.{same_held, IsSamePart, ShowsPart, IsCurre
 
 use crate::items::Items;
 use crate::view::{Part, View};
-use casa_table::{Index, Table, Version, same_all, same_named, same_version};
+use casa_table::{Index, Table, Version, same_all, same_named};
 
 /// Whether a version is the one that a view holds, if it holds one.
 fn same_held<V: Version>(version: &V, held: &Option<V>) -> bool
@@ -29,7 +29,6 @@ fn same_part<Kind: Copy, V: Version, I: Index<Kind, V>>(
 {
     match part {
         Part::All(shared) => same_all(table, shared),
-        Part::One(name, version) => same_version(table.get(name), version.as_ref()),
         Part::Named(named) => same_named(table, named),
     }
 }

@@ -8,9 +8,9 @@ ghost use Rattle.std.specs.Option.{option_copied};
 ghost use Rattle.casa_table.specs.Flights.{row_named, rows_named};
 ghost use Rattle.casa_view.specs.Shown.{rows_in, rows_shown, HasRowsInOrder};
 
-use crate::overlaid::Overlaid;
 use crate::view::{Part, View};
 use casa_flight::{Key, OfFlight, Row};
+use casa_named::Overlaid;
 use casa_table::{Index, Version, row_in};
 use std::marker::Model;
 
@@ -24,14 +24,13 @@ impl<Kind, V: Version, I: Index<Kind, V>> Part<Kind, V, I> {
                 let (values, changes) = shared.layers();
                 Overlaid::over(values, changes)
             }
-            Part::One(name, version) => Overlaid::one(name, version),
             Part::Named(noted) => Overlaid::alone(noted),
         }
     }
 }
 
 /// The row of a version, if there is one.
-fn row_of<'a, V: Version>(version: Option<&'a V>) -> Option<&'a Row>
+pub(crate) fn row_of<'a, V: Version>(version: Option<&'a V>) -> Option<&'a Row>
     ensures { option_copied result ≡ row_named V.item_of (option_copied version.entry) }
 {
     row_in(version?.item())

@@ -1,7 +1,8 @@
 use crate::contents::{catalogue_in, clock_in, list_in, shared_list_in};
 use casa_flight::{Key, Name, OfFlight, OfRegulation, RegId, Row};
 use casa_list::{SharedList, SlotList};
-use casa_table::{Catalogue, Changes, FlightIndex, Index, NoIndex, Shared, Version, row_in};
+use casa_named::Few;
+use casa_table::{Catalogue, FlightIndex, Index, NoIndex, Shared, Version, row_in};
 use casa_time::Moment;
 
 /// Versions of all names, or of some.
@@ -9,10 +10,8 @@ use casa_time::Moment;
 pub enum Part<Kind, V, I: Index<Kind, V>> {
     /// The versions of all names that have one: any other name has none.
     All(Shared<Kind, V, I>),
-    /// The version of one name, or that it has none: as a map of it alone, without the memory.
-    One(Name<Kind>, Option<V>),
     /// The versions of some names, and which of these have none.
-    Named(Changes<Kind, V>),
+    Named(Few<Kind, Option<V>>),
 }
 
 /// What a call reads: items with their versions, and which items were not there.
@@ -36,7 +35,6 @@ impl<Kind, V, I: Index<Kind, V>> Part<Kind, V, I> {
     {
         match self {
             Part::All(shared) => shared.get(name),
-            Part::One(held, version) => { if held == name { version.as_ref() } else { None } }
             Part::Named(noted) => noted.get(name)?.as_ref(),
         }
     }
@@ -49,9 +47,8 @@ impl<Kind, V, I: Index<Kind, V>> Part<Kind, V, I> {
             Part::All(shared) => {
                 let _layers = shared.layers();
             }
-            Part::One(_, _) => {}
             Part::Named(noted) => {
-                let _length = noted.len();
+                let _entries = noted.iter();
             }
         }
     }

@@ -1,25 +1,29 @@
 //! How the versions of what a call reads are taken.
 
 ghost use Rattle.std.specs.Prelude.{◌≡◌, ◌||◌, ◌&&◌, Bool, OnOk, IfOk, is_some, if◌then◌else◌, true, false, Some, None};
-ghost use Rattle.std.specs.Option.{option_copied};
+ghost use Rattle.std.specs.Option.{option_copied, option_map, option_and_then};
+ghost use Rattle.casa_flight.specs.declared.row.Row.{Row as FlightRow};
 ghost use Rattle.casa_flight.specs.Text.{Text, at_name, same_text};
 ghost use Rattle.casa_footprint.specs.Footprint.{is_forced};
 ghost use Rattle.casa_table.specs.Crossed.{meets};
 ghost use Rattle.casa_view.specs.Board.{versions};
 ghost use Rattle.casa_table.specs.Versions.{IsInOrder, regulations_of, row_of, list_of, list_at};
 ghost use Rattle.casa_view.specs.View.{IsTaken};
-ghost use Rattle.casa_view.specs.Taking.{Sees, Holds, SeesAlso, meets_if, meets_either, is_of, named, IsRead};
-ghost use Rattle.casa_view.specs.Taking.{row_at, plan_at, governing_at, has_forced, forced_at, governs_forced_at};
+ghost use Rattle.casa_view.specs.Taking.{Sees, SeesAlso, meets_if, meets_either, is_of, named, IsRead};
+ghost use Rattle.casa_view.specs.Taking.{plan_at, governing_at, has_forced, forced_at, governs_forced_at};
 
 use crate::contents::list_in;
 use crate::items::Items;
+use crate::rows::row_of;
 use crate::view::{Part, View};
 use casa_flight::{Call, Key, OfFlight, OfRegulation, Plan, RegId, Row, Stance};
 use casa_list::SlotList;
-use casa_table::{Changes, FlightIndex, Item, NoIndex, Version, row_in};
-use casa_time::Moment;
+use casa_named::Few;
+use casa_table::{Crossings, Item, Version};
 use std::alloc::{AllocError, Global};
-use std::collections::BTreeMap;
+
+/// Versions of some names that a view reads, or that there is none.
+type Noted<Kind, V> = Few<Kind, Option<V>>;
 
 /// The version once more, if it is wanted.
 fn version_if<V: Version>(version: &V, wanted: bool) -> Result<Option<V>, AllocError>
@@ -43,31 +47,31 @@ fn version_again<V: Version>(version: Option<&V>) -> Result<Option<V>, AllocErro
 }
 
 /// The regulations to which a plan is subject, among those of a catalogue.
-fn crossed(
-    alloc: Global,
-    catalogue: &Item,
-    plan: &Plan,
-) -> Result<BTreeMap<RegId, Moment>, AllocError>
+fn crossed(alloc: Global, catalogue: &Item, plan: &Plan) -> Result<Crossings, AllocError>
     ensures { IfOk result (λ found. (id : Text) →
-        is_some (at_name found.entries id) ≡ meets (regulations_of catalogue.now) plan.now id) }
+        is_some (at_name found id) ≡ meets (regulations_of catalogue.now) plan.now id) }
 {
     match catalogue {
         Item::Catalogue(catalogue) => catalogue.crossed(alloc, plan),
-        _ => Ok(BTreeMap::new(alloc)),
+        _ => Ok(Few::new(alloc)),
     }
 }
 
-impl<V: Version> Items<V> {
-    /// The row under a key.
-    fn row(&self, key: &Key) -> Option<&Row>
-        ensures { option_copied result ≡ row_at V.item_of (versions self.now) key.now }
-    {
-        match self.rows.get(key) {
-            Some(version) => row_in(version.item()),
-            None => None,
-        }
-    }
+/// The plan of a flight with this row, if there is one.
+fn plan_of(row: Option<&Row>) -> Option<&Plan>
+    ensures { option_copied result ≡ option_map (λ (r : FlightRow). r.plan) (option_copied row.entry) }
+{
+    Some(&row?.plan)
+}
 
+/// The regulation that governs a flight with this row, if there is one.
+fn governing_of(row: Option<&Row>) -> Option<RegId>
+    ensures { result ≡ option_and_then (λ (r : FlightRow). r.governing) (option_copied row.entry) }
+{
+    row?.governing
+}
+
+impl<V: Version> Items<V> {
     /// The list of a regulation.
     fn list(&self, id: &RegId) -> Option<&SlotList>
         ensures { option_copied result ≡ list_at V.item_of (versions self.now) id.now }
@@ -78,49 +82,33 @@ impl<V: Version> Items<V> {
         }
     }
 
-    /// The plan of the flight with this key.
-    fn plan(&self, key: &Key) -> Option<&Plan>
-        ensures { option_copied result ≡ plan_at V.item_of (versions self.now) key.now }
+    /// Notes the row of a key, which has this version.
+    fn see_row(
+        &self,
+        noted: &mut Noted<OfFlight, V>,
+        key: &Key,
+        version: Option<&V>,
+    ) -> Result<(), AllocError>
+        requires { option_copied version ≡ at_name (versions self.now).rows key.now }
+        ensures { OnOk result (SeesAlso (versions self.now).rows (same_text key.now) noted.old noted.new) }
     {
-        match self.row(key) {
-            Some(row) => Some(&row.plan),
-            None => None,
-        }
-    }
-
-    /// The regulation that governs the flight with this key.
-    fn governing(&self, key: &Key) -> Option<RegId>
-        ensures { result ≡ governing_at V.item_of (versions self.now) key.now }
-    {
-        match self.row(key) {
-            Some(row) => row.governing,
-            None => None,
-        }
-    }
-
-    /// Notes the row of a key.
-    fn see_row(&self, noted: &mut Changes<OfFlight, V>, key: &Key) -> Result<(), AllocError>
-        ensures { OnOk result (SeesAlso (versions self.now).rows (same_text key.now) noted.old.entries noted.new.entries) }
-    {
-        noted.insert(*key, version_again(self.rows.get(key))?)?;
-        Ok(())
+        noted.put(*key, version_again(version)?)
     }
 
     /// Notes the list of a regulation.
-    fn see_list(&self, noted: &mut Changes<OfRegulation, V>, id: &RegId) -> Result<(), AllocError>
-        ensures { OnOk result (SeesAlso (versions self.now).lists (same_text id.now) noted.old.entries noted.new.entries) }
+    fn see_list(&self, noted: &mut Noted<OfRegulation, V>, id: &RegId) -> Result<(), AllocError>
+        ensures { OnOk result (SeesAlso (versions self.now).lists (same_text id.now) noted.old noted.new) }
     {
-        noted.insert(*id, version_again(self.lists.get(id))?)?;
-        Ok(())
+        noted.put(*id, version_again(self.lists.get(id))?)
     }
 
     /// Notes the list of a regulation, if there is one.
     fn see_list_if(
         &self,
-        noted: &mut Changes<OfRegulation, V>,
+        noted: &mut Noted<OfRegulation, V>,
         id: Option<RegId>,
     ) -> Result<(), AllocError>
-        ensures { OnOk result (SeesAlso (versions self.now).lists (is_of id) noted.old.entries noted.new.entries) }
+        ensures { OnOk result (SeesAlso (versions self.now).lists (is_of id) noted.old noted.new) }
     {
         match id {
             Some(id) => self.see_list(noted, &id),
@@ -131,14 +119,14 @@ impl<V: Version> Items<V> {
     /// Notes the lists of these regulations.
     fn see_lists(
         &self,
-        noted: &mut Changes<OfRegulation, V>,
-        ids: &BTreeMap<RegId, Moment>,
+        noted: &mut Noted<OfRegulation, V>,
+        ids: &Crossings,
     ) -> Result<(), AllocError>
         ensures { OnOk result (SeesAlso (versions self.now).lists
-            (λ q. is_some (at_name ids.now.entries q))
-            noted.old.entries noted.new.entries) }
+            (λ q. is_some (at_name ids.now q))
+            noted.old noted.new) }
     {
-        for (id, _) in ids {
+        for (id, _) in ids.iter() {
             self.see_list(noted, id)?;
         }
         Ok(())
@@ -148,12 +136,12 @@ impl<V: Version> Items<V> {
     fn see_lists_of(
         &self,
         alloc: Global,
-        noted: &mut Changes<OfRegulation, V>,
+        noted: &mut Noted<OfRegulation, V>,
         plan: Option<&Plan>,
     ) -> Result<(), AllocError>
         ensures { OnOk result (SeesAlso (versions self.now).lists
             (meets_if (regulations_of (V.item_of self.now.catalogue)) (option_copied plan.entry))
-            noted.old.entries noted.new.entries) }
+            noted.old noted.new) }
     {
         if let Some(plan) = plan {
             let ids = crossed(alloc, self.catalogue.item(), plan)?;
@@ -168,22 +156,30 @@ impl<V: Version> Items<V> {
         alloc: Global,
         old: Option<&Plan>,
         new: Option<&Plan>,
-    ) -> Result<Changes<OfRegulation, V>, AllocError>
+    ) -> Result<Noted<OfRegulation, V>, AllocError>
         ensures { IfOk result (λ noted. Sees (versions self.now).lists
             (meets_either (regulations_of (V.item_of self.now.catalogue)) (option_copied old.entry) (option_copied new.entry))
-            noted.entries) }
+            noted) }
     {
-        let mut noted = BTreeMap::new(alloc);
+        let mut noted = Few::new(alloc);
         self.see_lists_of(alloc, &mut noted, new)?;
         self.see_lists_of(alloc, &mut noted, old)?;
         Ok(noted)
     }
 
-    /// The row of a key alone.
-    fn one_row(&self, key: &Key) -> Result<Part<OfFlight, V, FlightIndex>, AllocError>
-        ensures { IfOk result (Holds (versions self.now).rows (same_text key.now)) }
+    /// The row of a key alone, which has this version.
+    fn one_row(
+        &self,
+        alloc: Global,
+        key: &Key,
+        version: Option<&V>,
+    ) -> Result<Noted<OfFlight, V>, AllocError>
+        requires { option_copied version ≡ at_name (versions self.now).rows key.now }
+        ensures { IfOk result (λ noted. Sees (versions self.now).rows (same_text key.now) noted) }
     {
-        Ok(Part::One(*key, version_again(self.rows.get(key))?))
+        let mut noted = Few::new(alloc);
+        self.see_row(&mut noted, key, version)?;
+        Ok(noted)
     }
 
     /// The list of a regulation alone, if there is one.
@@ -191,10 +187,10 @@ impl<V: Version> Items<V> {
         &self,
         alloc: Global,
         id: Option<RegId>,
-    ) -> Result<Changes<OfRegulation, V>, AllocError>
-        ensures { IfOk result (λ noted. Sees (versions self.now).lists (is_of id) noted.entries) }
+    ) -> Result<Noted<OfRegulation, V>, AllocError>
+        ensures { IfOk result (λ noted. Sees (versions self.now).lists (is_of id) noted) }
     {
-        let mut noted = BTreeMap::new(alloc);
+        let mut noted = Few::new(alloc);
         self.see_list_if(&mut noted, id)?;
         Ok(noted)
     }
@@ -204,36 +200,48 @@ impl<V: Version> Items<V> {
         &self,
         clock: bool,
         catalogue: bool,
-        rows: Part<OfFlight, V, FlightIndex>,
-        lists: Part<OfRegulation, V, NoIndex>,
+        rows: Noted<OfFlight, V>,
+        lists: Noted<OfRegulation, V>,
     ) -> Result<View<V>, AllocError>
         ensures { IfOk result (λ v. (t u : Text → Bool) →
-            Holds (versions self.now).rows t rows → Holds (versions self.now).lists u lists →
+            Sees (versions self.now).rows t rows → Sees (versions self.now).lists u lists →
             IsTaken (versions self.now) (named clock catalogue t u) v) }
     {
         Ok(View {
             clock: version_if(&self.clock, clock)?,
             catalogue: version_if(&self.catalogue, catalogue)?,
-            rows,
-            lists,
+            rows: Part::Named(rows),
+            lists: Part::Named(lists),
         })
     }
 
-    /// What a call on one flight reads.
+    /// What is read as a flight is filed.
+    fn file_view(&self, alloc: Global, plan: &Plan) -> Result<View<V>, AllocError>
+        ensures { IfOk result (IsTaken (versions self.now) (named true true (same_text plan.now.key)
+            (meets_either (regulations_of (V.item_of self.now.catalogue)) None (Some plan.now)))) }
+    {
+        let key = plan.key();
+        let lists = self.lists_of(alloc, None, Some(plan))?;
+        let row = self.one_row(alloc, &key, self.rows.get(&key))?;
+        self.view_with(true, true, row, lists)
+    }
+
+    /// What a call reads on a flight that was filed, and gets a new plan if there is one.
     fn flight_view(
         &self,
         alloc: Global,
         clock: bool,
         key: &Key,
-        old: Option<&Plan>,
         new: Option<&Plan>,
     ) -> Result<View<V>, AllocError>
         ensures { IfOk result (IsTaken (versions self.now) (named clock true (same_text key.now)
-            (meets_either (regulations_of (V.item_of self.now.catalogue)) (option_copied old.entry) (option_copied new.entry)))) }
+            (meets_either (regulations_of (V.item_of self.now.catalogue))
+            (plan_at V.item_of (versions self.now) key.now) (option_copied new.entry)))) }
     {
-        let lists = self.lists_of(alloc, old, new)?;
-        let row = self.one_row(key)?;
-        self.view_with(clock, true, row, Part::Named(lists))
+        let version = self.rows.get(key);
+        let lists = self.lists_of(alloc, plan_of(row_of(version)), new)?;
+        let row = self.one_row(alloc, key, version)?;
+        self.view_with(clock, true, row, lists)
     }
 
     /// What a change of rates reads.
@@ -241,8 +249,8 @@ impl<V: Version> Items<V> {
         ensures { IfOk result (IsTaken (versions self.now) (named false true (λ q. false) (same_text id.now))) }
     {
         let lists = self.one_list(alloc, Some(*id))?;
-        let none = BTreeMap::new(alloc);
-        self.view_with(false, true, Part::Named(none), Part::Named(lists))
+        let none = Few::new(alloc);
+        self.view_with(false, true, none, lists)
     }
 
     /// What it reads to show a flight.
@@ -250,41 +258,43 @@ impl<V: Version> Items<V> {
         ensures { IfOk result (IsTaken (versions self.now) (named false false (same_text key.now)
             (is_of (governing_at V.item_of (versions self.now) key.now)))) }
     {
-        let lists = self.one_list(alloc, self.governing(key))?;
-        let row = self.one_row(key)?;
-        self.view_with(false, false, row, Part::Named(lists))
+        let version = self.rows.get(key);
+        let lists = self.one_list(alloc, governing_of(row_of(version)))?;
+        let row = self.one_row(alloc, key, version)?;
+        self.view_with(false, false, row, lists)
     }
 
     /// Notes the row of a flight, and the list that governs it.
     fn see_flight(
         &self,
-        rows: &mut Changes<OfFlight, V>,
-        lists: &mut Changes<OfRegulation, V>,
+        rows: &mut Noted<OfFlight, V>,
+        lists: &mut Noted<OfRegulation, V>,
         key: &Key,
     ) -> Result<(), AllocError>
-        ensures rows { OnOk result (SeesAlso (versions self.now).rows (same_text key.now) rows.old.entries rows.new.entries) }
+        ensures rows { OnOk result (SeesAlso (versions self.now).rows (same_text key.now) rows.old rows.new) }
         ensures lists { OnOk result (SeesAlso (versions self.now).lists
             (is_of (governing_at V.item_of (versions self.now) key.now))
-            lists.old.entries lists.new.entries) }
+            lists.old lists.new) }
     {
-        self.see_row(rows, key)?;
-        self.see_list_if(lists, self.governing(key))
+        let version = self.rows.get(key);
+        self.see_row(rows, key, version)?;
+        self.see_list_if(lists, governing_of(row_of(version)))
     }
 
     /// Notes the row of a flight that stands so in a list, and the list that governs it, if it is forced there.
     fn see_if_forced(
         &self,
-        rows: &mut Changes<OfFlight, V>,
-        lists: &mut Changes<OfRegulation, V>,
+        rows: &mut Noted<OfFlight, V>,
+        lists: &mut Noted<OfRegulation, V>,
         key: &Key,
         stance: &Stance,
     ) -> Result<(), AllocError>
         ensures rows { OnOk result (SeesAlso (versions self.now).rows
             (λ q. is_forced stance.now && same_text key.now q)
-            rows.old.entries rows.new.entries) }
+            rows.old rows.new) }
         ensures lists { OnOk result (SeesAlso (versions self.now).lists
             (λ q. is_forced stance.now && is_of (governing_at V.item_of (versions self.now) key.now) q)
-            lists.old.entries lists.new.entries) }
+            lists.old lists.new) }
     {
         match stance {
             Stance::Forced { .. } => self.see_flight(rows, lists, key),
@@ -295,16 +305,16 @@ impl<V: Version> Items<V> {
     /// Notes the rows of the flights that are forced in a list, and the lists that govern them, if there is a list.
     fn see_forced(
         &self,
-        rows: &mut Changes<OfFlight, V>,
-        lists: &mut Changes<OfRegulation, V>,
+        rows: &mut Noted<OfFlight, V>,
+        lists: &mut Noted<OfRegulation, V>,
         list: Option<&SlotList>,
     ) -> Result<(), AllocError>
         ensures rows { OnOk result (SeesAlso (versions self.now).rows
             (λ q. has_forced (λ k. same_text k q) (option_copied list.entry))
-            rows.old.entries rows.new.entries) }
+            rows.old rows.new) }
         ensures lists { OnOk result (SeesAlso (versions self.now).lists
             (λ q. has_forced (λ k. is_of (governing_at V.item_of (versions self.now) k) q) (option_copied list.entry))
-            lists.old.entries lists.new.entries) }
+            lists.old lists.new) }
     {
         let Some(list) = list else {
             return Ok(());
@@ -321,11 +331,11 @@ impl<V: Version> Items<V> {
             (forced_at V.item_of (versions self.now) id.now)
             (λ q. same_text id.now q || governs_forced_at V.item_of (versions self.now) id.now q))) }
     {
-        let mut rows = BTreeMap::new(alloc);
-        let mut lists = BTreeMap::new(alloc);
+        let mut rows = Few::new(alloc);
+        let mut lists = Few::new(alloc);
         self.see_forced(&mut rows, &mut lists, self.list(id))?;
         self.see_list(&mut lists, id)?;
-        self.view_with(false, true, Part::Named(rows), Part::Named(lists))
+        self.view_with(false, true, rows, lists)
     }
 
     /// All items: a few counts, whatever their number.
@@ -346,14 +356,11 @@ impl<V: Version> Items<V> {
         ensures { IfOk result (IsRead V.item_of V.number (versions self.now) call.now) }
     {
         match call {
-            Call::File(plan) => self.flight_view(alloc, true, &plan.key(), None, Some(plan)),
-            Call::Amend(plan) => {
-                let key = plan.key();
-                self.flight_view(alloc, true, &key, self.plan(&key), Some(plan))
-            }
-            Call::Cancel(key) => self.flight_view(alloc, false, key, self.plan(key), None),
-            Call::Revise(key) => self.flight_view(alloc, true, key, self.plan(key), None),
-            Call::Exempt(key) => self.flight_view(alloc, false, key, self.plan(key), None),
+            Call::File(plan) => self.file_view(alloc, plan),
+            Call::Amend(plan) => self.flight_view(alloc, true, &plan.key(), Some(plan)),
+            Call::Cancel(key) => self.flight_view(alloc, false, key, None),
+            Call::Revise(key) => self.flight_view(alloc, true, key, None),
+            Call::Exempt(key) => self.flight_view(alloc, false, key, None),
             Call::OpenReg(_, _, _) => self.whole_view(),
             Call::CloseReg(_) => self.whole_view(),
             Call::Tick(_) => self.whole_view(),

@@ -11,12 +11,12 @@ ghost use Rattle.casa_view.specs.Next.{AreAlike, NextOne, NextRow, NextList};
 
 use crate::change::{Change, WrittenRow};
 use crate::items::Items;
-use casa_flight::{Key, Name, OfFlight, OfRegulation, RegId};
+use casa_flight::{Name, OfFlight, OfRegulation, RegId};
 use casa_list::SharedList;
+use casa_named::Few;
 use casa_table::{Changes, Item, Kept, Version};
 use casa_time::Moment;
 use std::alloc::{AllocError, Global};
-use std::collections::BTreeMap;
 use std::sync::Arc;
 
 /// The version of an item.
@@ -96,12 +96,12 @@ fn put_version<Kind, V: Drop>(
 fn row_versions<K: Kept>(
     store: &mut K,
     number: usize,
-    rows: &BTreeMap<Key, WrittenRow>,
+    rows: &Few<OfFlight, WrittenRow>,
     spare: Changes<OfFlight, K::Version>,
 ) -> Result<Changes<OfFlight, K::Version>, AllocError>
     requires { spare.entries ≡ [] }
     ensures versions { IfOk result (λ versions.
-        AreAlike (NextRow K.Version.item_of K.Version.number number) rows.now.entries versions.entries) }
+        AreAlike (NextRow K.Version.item_of K.Version.number number) rows.now versions.entries) }
     ensures ordered { IfOk result (λ versions. AreInOrder versions.entries) }
 {
     let mut versions = spare;
@@ -117,12 +117,12 @@ fn list_versions<K: Kept>(
     alloc: Global,
     store: &mut K,
     number: usize,
-    lists: &BTreeMap<RegId, Option<SharedList>>,
+    lists: &Few<OfRegulation, Option<SharedList>>,
     spare: Changes<OfRegulation, K::Version>,
 ) -> Result<Changes<OfRegulation, K::Version>, AllocError>
     requires { spare.entries ≡ [] }
     ensures versions { IfOk result (λ versions.
-        AreAlike (NextList K.Version.item_of K.Version.number number) lists.now.entries versions.entries) }
+        AreAlike (NextList K.Version.item_of K.Version.number number) lists.now versions.entries) }
     ensures ordered { IfOk result (λ versions. AreInOrder versions.entries) }
 {
     let mut versions = spare;

@@ -12,10 +12,10 @@ returns g c =
     let v : Sight = sight g.V.Version.item_of c.args.view.now in
     let id : Text = c.args.id in
     let rs : List Regulation = c.in_ok-catalogue.catalogue in
-    c.in_ok-set_catalogue.ensures
+    c.in_ok-set_catalogue.ensures.written
     ∙ ap (λ (w : Written). let x : Written = record w { catalogue = Some rs } in x)
     (c.in_ok-enter_all.ensures
     ∙ (λ i. with_entries c.clock.result rs v
-    ((c.in_ok-set_list.ensures ∙ ap (λ (w : Written). let x : Written = record w { lists = put w.lists id None } in x) c.new-draft.ensures) i)
+    ((c.in_ok-set_list.ensures.written ∙ ap (λ (w : Written). let x : Written = record w { lists = put w.lists id None } in x) c.new-draft.ensures) i)
     (c.as_slice-comps.ensures.value i)))
     ∙ closing_as v id c.args.list.now c.clock.result rs c.in_ok-comps.comps.items c.clock.ensures c.in_ok-catalogue.ensures c.in_ok-comps.ensures

@@ -1,7 +1,7 @@
-use Rattle.std.proofs.Common.{◌≡◌, ◌++◌, ap, sym, ◌∙◌, Some}
+use Rattle.std.proofs.Common.{◌≡◌, ◌++◌, ap, sym, ◌∙◌, Some, unwrap_or}
 use Rattle.std.proofs.lemmas.Result.{on_ok_weaker}
 use Rattle.casa_flight.specs.declared.row.Row.{Row}
-use Rattle.casa_flight.specs.Text.{Text}
+use Rattle.casa_flight.specs.Text.{Text, at_name}
 use Rattle.casa_flight.specs.FlightPlan.{FlightPlan}
 use Rattle.casa_flight.specs.State.{ungoverned}
 use Rattle.casa_flight.specs.Entry.{Situation, entered}
@@ -23,9 +23,10 @@ returns g c =
     let new : Row = entered s key free in
     let row_is : c.in_ok-row.row ≡ free = c.in_ok-row.ensures in
     let new_is : c.in_ok-new.new ≡ new = c.in_ok-new.ensures ∙ ap (entered s key) row_is in
-    let over : c.in_ok-over.over.entries ≡ crossed free.plan c.args.catalogue.now = c.in_ok-over.ensures ∙ ap (λ (r : Row). crossed r.plan c.args.catalogue.now) row_is in
-    let over_now : c.in_ok-over.over.entries ≡ crossed new.plan c.args.catalogue.now = over ∙ ap (λ (p : FlightPlan). crossed p c.args.catalogue.now) (sym (entered_plan s key free)) in
+    let over : c.in_ok-over.over ≡ crossed free.plan c.args.catalogue.now = c.in_ok-over.ensures ∙ ap (λ (r : Row). crossed r.plan c.args.catalogue.now) row_is in
+    let over_now : c.in_ok-over.over ≡ crossed new.plan c.args.catalogue.now = over ∙ ap (λ (p : FlightPlan). crossed p c.args.catalogue.now) (sym (entered_plan s key free)) in
     on_ok_weaker c.write_flight.result
     (λ h. h
     ∙ (λ i. write_flight v w key (Some (new_is i)) (left (over i) (over_now i) ++ standing (Some (new_is i)) (over_now i)))
-    ∙ ap (with_reentry c.args.clock c.args.catalogue.now v w key) c.in-Some.ensures) c.write_flight.ensures
+    ∙ ap (with_reentry c.args.clock c.args.catalogue.now v w key)
+    (c.in-Some.ensures ∙ ap (unwrap_or (at_name w.rows key)) c.requires)) c.write_flight.ensures

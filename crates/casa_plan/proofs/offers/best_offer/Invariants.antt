@@ -9,4 +9,4 @@ use Rattle.casa_plan.proofs.offers.best_offer.Given as goal
 abbrev pub invariant-loop-id : goal.invariant-loop-id
 invariant-loop-id g l =
     most_from l.best (offers_of (list_with (sight g.V.Version.item_of l.view) l.draft) l.key l.id-iterator)
-    ≡ most_penalising (offers_of (list_with (sight g.V.Version.item_of l.view) l.draft) l.key l.over.entries)
+    ≡ most_penalising (offers_of (list_with (sight g.V.Version.item_of l.view) l.draft) l.key l.over)

@@ -18,11 +18,11 @@ returns g c =
     let v : Sight = sight item_of c.args.view.now in
     let r : Regulation = c.args.regulation in
     let rs : List Regulation = c.in_ok-catalogue.catalogue in
-    c.in_ok-set_catalogue.ensures
+    c.in_ok-set_catalogue.ensures.written
     ∙ ap (λ (w : Written). let x : Written = record w { catalogue = Some rs } in x)
     (c.in_ok-enter_newcomers.ensures
     ∙ ap (λ (w : Written). with_entries c.clock-clock.result rs v w (filter (λ (f : Comp). option_map_or (may_compete c.clock-clock.result) (v.row f.key) false) c.in_ok-over.over.keys))
-    (c.in_ok-set_list.ensures ∙ ap (λ (w : Written). let x : Written = record w { lists = put w.lists r.id (Some c.in_ok-new_list.field-0) } in x) c.new-draft.ensures))
+    (c.in_ok-set_list.ensures.written ∙ ap (λ (w : Written). let x : Written = record w { lists = put w.lists r.id (Some c.in_ok-new_list.field-0) } in x) c.new-draft.ensures))
     ∙ opening_as v r c.args.profile.now c.clock-clock.result rs c.in_ok-over.over.keys c.in_ok-new_list.field-0
     (rows-ordered item_of c.args.view.now.rows c.flights_over.ensures.ordered)
     (λ key. rows-shown item_of c.args.view.now.rows key c.flights_over.ensures.ordered)

@@ -5,5 +5,5 @@ use Rattle.casa_plan.proofs.write.leave_lists.Given as goal
 
 abbrev pub invariant-loop-id : goal.invariant-loop-id
 invariant-loop-id g l =
-    record l.draft { lists = with_stances (sight g.V.Version.item_of l.view) l.key l.draft.lists (left l.id-iterator l.has.entries) }
-    ≡ record l.initial.draft { lists = with_stances (sight g.V.Version.item_of l.view) l.key l.initial.draft.lists (left l.had.entries l.has.entries) }
+    record l.draft { lists = with_stances (sight g.V.Version.item_of l.view) l.key l.draft.lists (left l.id-iterator l.has) }
+    ≡ record l.initial.draft { lists = with_stances (sight g.V.Version.item_of l.view) l.key l.initial.draft.lists (left l.had l.has) }

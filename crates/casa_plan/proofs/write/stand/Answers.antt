@@ -21,4 +21,4 @@ returns g c =
     on_ok_weaker c.set_list.result
     (λ h. h
     ∙ ap (λ (w : Written). let x : Written = record w { lists = put w.lists id c.in_ok-list-2.list } in x) c.in_ok-list.ensures.left
-    ∙ (λ i. record w { lists = put-without id (now i) w.lists sorted i })) c.set_list.ensures
+    ∙ (λ i. record w { lists = put-without id (now i) w.lists sorted i })) c.set_list.ensures.written

@@ -5,6 +5,6 @@ use Rattle.casa_table.proofs.asking.flights_over_named.Goals as goal
 
 pub returns : goal.returns
 returns g c =
-    let sorted : AreInOrder c.args.rows.now.entries = search rules in
-    let all = named_in_order g.V.Version.item_of c.args.regulation.now c.args.rows.now.entries sorted in
+    let sorted : AreInOrder c.args.rows.now = search rules in
+    let all = named_in_order g.V.Version.item_of c.args.regulation.now c.args.rows.now sorted in
     search rules

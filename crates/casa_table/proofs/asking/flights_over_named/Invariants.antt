@@ -10,4 +10,4 @@ abbrev pub invariant-loop-key : goal.invariant-loop-key
 invariant-loop-key g l =
     inserted l.comps.keys
     (kept (λ w. option_and_then (over_row l.regulation) (row_named g.V.Version.item_of w)) l.key-iterator)
-    ≡ inserted [] (kept (λ w. option_and_then (over_row l.regulation) (row_named g.V.Version.item_of w)) l.rows.entries)
+    ≡ inserted [] (kept (λ w. option_and_then (over_row l.regulation) (row_named g.V.Version.item_of w)) l.rows)

@@ -9,10 +9,10 @@ use Rattle.casa_table.proofs.catalogue.note_each.Goals as goal
 pub returns : goal.returns
 returns c =
     let regs = c.args.regulations.now in
-    let before = c.args.found.now.entries in
+    let before = c.args.found.now in
     let none : drop c.loop-regulation.regulation-index regs ≡ [] =
     drop_all c.loop-regulation.regulation-index regs c.loop-regulation-test.false in
     let same =
-    sym (ap (noted_each c.args.plan.now c.loop-regulation.found.entries) (sym none) ∙ c.loop-regulation.invariant) in
+    sym (ap (noted_each c.args.plan.now c.loop-regulation.found) (sym none) ∙ c.loop-regulation.invariant) in
     subst (λ (es : List (Text × ℕ)). HasNoted (crossed c.args.plan.now regs) before es) same
     (each_noted c.args.plan.now regs before)

@@ -4,5 +4,5 @@ use Rattle.casa_table.proofs.catalogue.note_each.Given as goal
 
 abbrev pub invariant-loop-regulation : goal.invariant-loop-regulation
 invariant-loop-regulation l =
-    noted_each l.plan l.found.entries (drop l.regulation-index l.regulations)
-    ≡ noted_each l.plan l.initial.found.entries l.regulations
+    noted_each l.plan l.found (drop l.regulation-index l.regulations)
+    ≡ noted_each l.plan l.initial.found l.regulations

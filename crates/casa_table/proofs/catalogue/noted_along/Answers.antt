@@ -24,7 +24,7 @@ loop-crossing-preserved c = λ now rest.
     let split = ap (λ (cs : List Crossing). crossed plan (along place cs)) ahead
     ∙ crossed-append plan (place it.loc) (along place (drop (i + 1) plan.via)) in
     c.loop-crossing.invariant now
-    (subst (λ (es : List (Text × ℕ)). HasNoted es c.loop-crossing.found.entries now) (sym split)
+    (subst (λ (es : List (Text × ℕ)). HasNoted es c.loop-crossing.found now) (sym split)
     (noted_both (crossed plan (place it.loc)) (crossed plan (along place (drop (i + 1) plan.via))) _ _ now
     c.in_ok-note_at.ensures rest))
 
@@ -32,7 +32,7 @@ pub returns : goal.returns
 returns c =
     let place = at_place (λ v. v.items) c.args.places.now.entries in
     let plan = c.args.plan.now in
-    let found = c.loop-crossing.found.entries in
+    let found = c.loop-crossing.found in
     let i = c.loop-crossing.crossing-index in
     let none : drop i plan.via ≡ [] =
     subst (λ (cs : List Crossing). drop i cs ≡ []) c.via-crossing-items.ensures

@@ -9,5 +9,5 @@ abbrev pub invariant-loop-crossing : goal.invariant-loop-crossing
 invariant-loop-crossing l =
     let place = at_place (λ v. v.items) l.places.entries in
     (now : List (Text × ℕ))
-    → HasNoted (crossed l.plan (along place (drop l.crossing-index l.plan.via))) l.found.entries now
+    → HasNoted (crossed l.plan (along place (drop l.crossing-index l.plan.via))) l.found now
     → HasNoted (crossed l.plan (along place l.plan.via)) [] now

@@ -17,8 +17,8 @@ loop-id-preserved g c =
     rest_more deref_pair _ _ _ (c.in-Some.id, c.in-Some.list) c.in-Some.is c.next.ensures.steps in
     let so_far : c.into_iter-id-iterator.result ≡ done ++ c.loop-id.id-iterator =
     rest_so_far deref_pair xs _ _ c.loop-id.yielded_by in
-    let start : c.into_iter-id-iterator.result ≡ c.args.lists.now.entries = search rules in
-    let all : c.args.lists.now.entries ≡ done ++ (name, item) ∷ rest =
+    let start : c.into_iter-id-iterator.result ≡ c.args.lists.now = search rules in
+    let all : c.args.lists.now ≡ done ++ (name, item) ∷ rest =
     sym start ∙ so_far ∙ ap (λ es. done ++ es) here in
     let sorted : AreInOrder (done ++ (name, item) ∷ rest) =
     subst (λ es. AreInOrder es) all c.iter-id-items.ensures.ordered in
@@ -32,5 +32,6 @@ loop-id-preserved g c =
 
 pub returns-clause-versions : goal.returns-clause-versions
 returns-clause-versions g c =
-    let all : map deref_pair c.loop-id.yielded ≡ c.args.lists.now.entries = search (rules, iter_end) in
+    let start : c.into_iter-id-iterator.result ≡ c.args.lists.now = search rules in
+    let all = (iter_end deref_pair _ c.loop-id.yielded _ _ _ _ start c.loop-id.yielded_by c.in-None.is c.next.ensures.steps).0 in
     rw (← all) c.loop-id.invariant.3

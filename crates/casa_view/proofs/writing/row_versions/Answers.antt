@@ -17,8 +17,8 @@ loop-key-preserved g c =
     rest_more deref_pair _ _ _ (c.in-Some.key, c.in-Some.row) c.in-Some.is c.next.ensures.steps in
     let so_far : c.into_iter-key-iterator.result ≡ done ++ c.loop-key.key-iterator =
     rest_so_far deref_pair xs _ _ c.loop-key.yielded_by in
-    let start : c.into_iter-key-iterator.result ≡ c.args.rows.now.entries = search rules in
-    let all : c.args.rows.now.entries ≡ done ++ (name, item) ∷ rest =
+    let start : c.into_iter-key-iterator.result ≡ c.args.rows.now = search rules in
+    let all : c.args.rows.now ≡ done ++ (name, item) ∷ rest =
     sym start ∙ so_far ∙ ap (λ es. done ++ es) here in
     let sorted : AreInOrder (done ++ (name, item) ∷ rest) =
     subst (λ es. AreInOrder es) all c.iter-key-items.ensures.ordered in
@@ -32,5 +32,6 @@ loop-key-preserved g c =
 
 pub returns-clause-versions : goal.returns-clause-versions
 returns-clause-versions g c =
-    let all : map deref_pair c.loop-key.yielded ≡ c.args.rows.now.entries = search (rules, iter_end) in
+    let start : c.into_iter-key-iterator.result ≡ c.args.rows.now = search rules in
+    let all = (iter_end deref_pair _ c.loop-key.yielded _ _ _ _ start c.loop-key.yielded_by c.in-None.is c.next.ensures.steps).0 in
     rw (← all) c.loop-key.invariant.3

@@ -10,6 +10,6 @@ returns c =
     let place = at_place (λ v. v.items) c.self.inside.places.entries in
     let all = c.self.inside.regulations.items in
     let plan = c.args.plan.now in
-    subst (λ rs. IfOk c.noted_along.result (λ found. found.entries ≡ crossed plan rs)) c.self.view_is
-    (IfOk-weaker c.noted_along.result _ (λ found. found.entries ≡ crossed plan all)
-    (λ found has. all_crossed plan all place found.entries c.self.invariant has) c.noted_along.ensures)
+    subst (λ rs. IfOk c.noted_along.result (λ found. found ≡ crossed plan rs)) c.self.view_is
+    (IfOk-weaker c.noted_along.result _ (λ found. found ≡ crossed plan all)
+    (λ found has. all_crossed plan all place found c.self.invariant has) c.noted_along.ensures)

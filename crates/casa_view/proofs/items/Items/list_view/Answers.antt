@@ -15,14 +15,14 @@ returns g c =
     let governs = governs_forced_at item_of vs id in
     let row : Text → Text → Bool = λ q k. same_text k q in
     let list : Text → Text → Bool = λ q k. is_of (governing_at item_of vs k) q in
-    let rows : Sees vs.rows (forced_at item_of vs id) c.see_forced.new.rows.entries =
+    let rows : Sees vs.rows (forced_at item_of vs id) c.see_forced.new.rows =
     sees_same vs.rows _ _ _ (λ q. ap (λ (l : Option Listing). has_forced (row q) l) c.list.ensures)
     (sees_last vs.rows _ _ (c.in_ok-see_forced.ensures.rows (λ q. false)
-    (sees_nothing vs.rows _ c.new-rows.ensures.empty))) in
-    let lists : Sees vs.lists governs c.see_forced.new.lists.entries =
+    (sees_nothing vs.rows _ c.new-rows.ensures))) in
+    let lists : Sees vs.lists governs c.see_forced.new.lists =
     sees_same vs.lists _ _ _ (λ q. ap (λ (l : Option Listing). has_forced (list q) l) c.list.ensures)
     (sees_last vs.lists _ _ (c.in_ok-see_forced.ensures.lists (λ q. false)
-    (sees_nothing vs.lists _ c.new-lists.ensures.empty))) in
+    (sees_nothing vs.lists _ c.new-lists.ensures))) in
     IfOk-weaker c.view_with.result _ _
     (λ v taken. taken (forced_at item_of vs id) (λ q. same_text id q || governs q) rows
     (c.in_ok-see_list.ensures governs lists))

@@ -11,4 +11,4 @@ returns g c =
     let regs = regulations_of (g.V.Version.item_of c.args.self.now.catalogue) in
     let new = meets_if regs (option_copied c.args.new) in
     c.in_ok-see_lists_of-2.ensures new
-    (sees_last lists new _ (c.in_ok-see_lists_of.ensures (λ q. false) (sees_nothing lists _ c.new-noted.ensures.empty)))
+    (sees_last lists new _ (c.in_ok-see_lists_of.ensures (λ q. false) (sees_nothing lists _ c.new-noted.ensures)))

@@ -7,4 +7,4 @@ pub returns : goal.returns
 returns g c =
     let lists = c.args.self.now.lists.entries in
     sees_last lists (is_of c.args.id) _
-    (c.in_ok-see_list_if.ensures (λ q. false) (sees_nothing lists _ c.new-noted.ensures.empty))
+    (c.in_ok-see_list_if.ensures (λ q. false) (sees_nothing lists _ c.new-noted.ensures))

@@ -11,11 +11,11 @@ abbrev pub invariant-loop-member : goal.invariant-loop-member
 invariant-loop-member g l =
     let past : List (Text × Stance) = take l.member-index l.member-items in
     let governing : Text → Option Text = governing_at g.V.Version.item_of (versions l.self) in
-    ((t : Text → Bool) → Sees l.self.rows.entries t l.initial.rows.entries →
+    ((t : Text → Bool) → Sees l.self.rows.entries t l.initial.rows →
     Sees l.self.rows.entries
     (λ q. list_any (λ (e : Text × Stance). is_forced e.1 && same_text e.0 q) past || t q)
-    l.rows.entries)
-    × ((t : Text → Bool) → Sees l.self.lists.entries t l.initial.lists.entries →
+    l.rows)
+    × ((t : Text → Bool) → Sees l.self.lists.entries t l.initial.lists →
     Sees l.self.lists.entries
     (λ q. list_any (λ (e : Text × Stance). is_forced e.1 && is_of (governing e.0) q) past || t q)
-    l.lists.entries)
+    l.lists)

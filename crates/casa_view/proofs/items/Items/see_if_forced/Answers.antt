@@ -11,7 +11,7 @@ returns-in-Forced-clause-rows g c =
     let key = c.args.key.now in
     subst (λ (s : Stance). OnOk c.see_flight.result
     (SeesAlso c.args.self.now.rows.entries (λ q. is_forced s && same_text key q)
-    c.args.rows.now.entries c.see_flight.new.rows.entries))
+    c.args.rows.now c.see_flight.new.rows))
     (sym c.in-Forced.is) c.see_flight.ensures.rows
 
 pub returns-in-Forced-clause-lists : goal.returns-in-Forced-clause-lists
@@ -19,5 +19,5 @@ returns-in-Forced-clause-lists g c =
     let governing = governing_at g.V.Version.item_of (versions c.args.self.now) c.args.key.now in
     subst (λ (s : Stance). OnOk c.see_flight.result
     (SeesAlso c.args.self.now.lists.entries (λ q. is_forced s && is_of governing q)
-    c.args.lists.now.entries c.see_flight.new.lists.entries))
+    c.args.lists.now c.see_flight.new.lists))
     (sym c.in-Forced.is) c.see_flight.ensures.lists

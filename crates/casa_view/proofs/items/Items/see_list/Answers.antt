@@ -1,8 +1,10 @@
 use Rattle.std.proofs.Common.{◌∙◌}
+use Rattle.std.proofs.lemmas.Result.{on_ok_weaker}
 use Rattle.casa_view.proofs.Noted.{see}
 use Rattle.casa_view.proofs.items.Items.see_list.Goals as goal
 
 pub returns : goal.returns
 returns g c =
-    see c.args.id.now c.args.self.now.lists.entries _ c.args.noted.now.entries _
-    (c.in_ok-version_again.ensures ∙ c.get.ensures.value) c.in_ok-insert.ensures.entries
+    on_ok_weaker c.put.result
+    (see c.args.id.now c.args.self.now.lists.entries _ c.args.noted.now c.put.new.self (c.in_ok-version_again.ensures ∙ c.get.ensures.value))
+    c.put.ensures.put

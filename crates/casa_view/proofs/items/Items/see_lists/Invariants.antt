@@ -7,5 +7,5 @@ use Rattle.casa_view.proofs.items.Items.see_lists.Given as goal
 abbrev pub invariant-loop-id : goal.invariant-loop-id
 invariant-loop-id g l =
     (goal.iterator-loop-id g).can_next l.id-iterator × (goal.iterator-loop-id g).is_finite l.id-iterator
-    × ((t : Text → Bool) → Sees l.self.lists.entries t l.initial.noted.entries →
-    Sees l.self.lists.entries (λ q. is_some (at_name (map deref_pair l.yielded) q) || t q) l.noted.entries)
+    × ((t : Text → Bool) → Sees l.self.lists.entries t l.initial.noted →
+    Sees l.self.lists.entries (λ q. is_some (at_name (map deref_pair l.yielded) q) || t q) l.noted)

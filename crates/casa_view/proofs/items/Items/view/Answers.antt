@@ -15,13 +15,11 @@ returns-in-File g c =
     let vs = versions c.args.self.now in
     let item_of = g.V.Version.item_of in
     let number = g.V.Version.number in
-    let regs = regulations_of (item_of vs.catalogue) in
     let plan = c.in-File.plan in
-    let test : Text → ItemName → Bool = λ k. named true true (same_text k) (meets_either regs None (Some plan)) in
     is_read item_of number vs _ _ c.in-File.is
-    (test c.key.result)
-    _ c.flight_view.ensures
-    (λ well i. ap (λ (k : Text). test k i) c.key.ensures ∙ file_reads item_of number vs c.requires.rows well plan i)
+    (named true true (same_text plan.key) (meets_either (regulations_of (item_of vs.catalogue)) None (Some plan)))
+    _ c.file_view.ensures
+    (λ well i. file_reads item_of number vs c.requires.rows well plan i)
 
 pub returns-in-Amend : goal.returns-in-Amend
 returns-in-Amend g c =
@@ -30,13 +28,12 @@ returns-in-Amend g c =
     let number = g.V.Version.number in
     let regs = regulations_of (item_of vs.catalogue) in
     let plan = c.in-Amend.plan in
-    let test : Text → Option FlightPlan → ItemName → Bool =
-    λ k old. named true true (same_text k) (meets_either regs old (Some plan)) in
+    let test : Text → ItemName → Bool =
+    λ k. named true true (same_text k) (meets_either regs (plan_at item_of vs k) (Some plan)) in
     is_read item_of number vs _ _ c.in-Amend.is
-    (test c.key-key.result (option_copied c.plan.result))
-    _ c.flight_view-in-Amend.ensures
-    (λ well i. ap (λ (old : Option FlightPlan). test c.key-key.result old i) c.plan.ensures
-    ∙ ap (λ (k : Text). test k (plan_at item_of vs k) i) c.key-key.ensures
+    (test c.key.result)
+    _ c.flight_view.ensures
+    (λ well i. ap (λ (k : Text). test k i) c.key.ensures
     ∙ amend_reads item_of number vs c.requires.rows well plan i)
 
 pub returns-in-Cancel : goal.returns-in-Cancel
@@ -44,45 +41,33 @@ returns-in-Cancel g c =
     let vs = versions c.args.self.now in
     let item_of = g.V.Version.item_of in
     let number = g.V.Version.number in
-    let regs = regulations_of (item_of vs.catalogue) in
     let key = c.in-Cancel.key in
-    let test : Option FlightPlan → ItemName → Bool =
-    λ old. named false true (same_text key) (meets_either regs old None) in
     is_read item_of number vs _ _ c.in-Cancel.is
-    (test (option_copied c.plan-in-Cancel.result))
+    (named false true (same_text key) (meets_either (regulations_of (item_of vs.catalogue)) (plan_at item_of vs key) None))
     _ c.flight_view-in-Cancel.ensures
-    (λ well i. ap (λ (old : Option FlightPlan). test old i) c.plan-in-Cancel.ensures
-    ∙ cancel_reads item_of number vs c.requires.rows well key i)
+    (λ well i. cancel_reads item_of number vs c.requires.rows well key i)
 
 pub returns-in-Revise : goal.returns-in-Revise
 returns-in-Revise g c =
     let vs = versions c.args.self.now in
     let item_of = g.V.Version.item_of in
     let number = g.V.Version.number in
-    let regs = regulations_of (item_of vs.catalogue) in
     let key = c.in-Revise.key in
-    let test : Option FlightPlan → ItemName → Bool =
-    λ old. named true true (same_text key) (meets_either regs old None) in
     is_read item_of number vs _ _ c.in-Revise.is
-    (test (option_copied c.plan-in-Revise.result))
+    (named true true (same_text key) (meets_either (regulations_of (item_of vs.catalogue)) (plan_at item_of vs key) None))
     _ c.flight_view-in-Revise.ensures
-    (λ well i. ap (λ (old : Option FlightPlan). test old i) c.plan-in-Revise.ensures
-    ∙ revise_reads item_of number vs c.requires.rows well key i)
+    (λ well i. revise_reads item_of number vs c.requires.rows well key i)
 
 pub returns-in-Exempt : goal.returns-in-Exempt
 returns-in-Exempt g c =
     let vs = versions c.args.self.now in
     let item_of = g.V.Version.item_of in
     let number = g.V.Version.number in
-    let regs = regulations_of (item_of vs.catalogue) in
     let key = c.in-Exempt.key in
-    let test : Option FlightPlan → ItemName → Bool =
-    λ old. named false true (same_text key) (meets_either regs old None) in
     is_read item_of number vs _ _ c.in-Exempt.is
-    (test (option_copied c.plan-in-Exempt.result))
+    (named false true (same_text key) (meets_either (regulations_of (item_of vs.catalogue)) (plan_at item_of vs key) None))
     _ c.flight_view-in-Exempt.ensures
-    (λ well i. ap (λ (old : Option FlightPlan). test old i) c.plan-in-Exempt.ensures
-    ∙ exempt_reads item_of number vs c.requires.rows well key i)
+    (λ well i. exempt_reads item_of number vs c.requires.rows well key i)
 
 pub returns-in-OpenReg : goal.returns-in-OpenReg
 returns-in-OpenReg g c =

@@ -1,3 +1,4 @@
+use Rattle.casa_view.specs.declared.view.Part.TheVariants.{Named}
 use Rattle.casa_view.specs.Board.{versions}
 use Rattle.casa_view.proofs.Taken.{view_taken}
 use Rattle.casa_view.proofs.items.Items.view_with.Goals as goal
@@ -8,7 +9,7 @@ returns g c = λ t u rows lists.
     (record {
       clock = c.in_ok-version_if.field-0;
       catalogue = c.in_ok-version_if-2.field-0;
-      rows = c.args.rows;
-      lists = c.args.lists;
+      rows = Named c.args.rows;
+      lists = Named c.args.lists;
     })
     c.args.clock c.args.catalogue c.in_ok-version_if.ensures c.in_ok-version_if-2.ensures t u rows lists

@@ -2,7 +2,6 @@ use Rattle.std.proofs.Common.{sym, subst}
 use Rattle.casa_flight.specs.Good.{AreInOrder}
 use Rattle.casa_view.specs.Shown.{IsInOrder}
 use Rattle.casa_table.proofs.Layers.{sorted-laid}
-use Rattle.casa_view.proofs.Alone.{alone-ordered}
 use Rattle.casa_view.proofs.view.Part.in_order.Goals as goal
 
 pub returns-in-All : goal.returns-in-All
@@ -11,6 +10,3 @@ returns-in-All g c =
     subst (λ part. IsInOrder part) (sym c.in-All.is)
     (subst (λ es. AreInOrder es) layers.ensures.laid
     (sorted-laid layers.result.1.now.entries layers.result.0.now.entries layers.ensures.ordered.0))
-
-pub returns-in-One : goal.returns-in-One
-returns-in-One g c = subst (λ part. IsInOrder part) (sym c.in-One.is) (alone-ordered c.in-One.field-0 c.in-One.field-1)

@@ -1,0 +1,3 @@
+pub mod Found
+pub mod Ahead
+pub mod Merging
