@@ -1,13 +1,18 @@
 //! Events whose calls are command lines, and what comes of them, in lines.
 
+ghost use Rattle.std.specs.Prelude.{◌≡◌};
+
 use crate::lines::call_of;
 use casa_flight::{Call, Reply};
 use casa_history::{Entry, History, Receipt};
-use casa_view::Copies;
+use casa_shelf::{Shelf, Shelving};
+use casa_view::{Copies, Item, Kept};
 use casa_wire::reply_line;
 use casa_world::{Event, play};
 use std::alloc::Global;
+use std::marker::Brand;
 use std::process::Abort;
+use std::sync::{Arc, Wait};
 
 /// The event whose call a command line is.
 fn called(rt: &impl Abort, alloc: Global, event: &Event<&str>) -> Event<Call> {
@@ -48,35 +53,63 @@ fn push_history(rt: &impl Abort, alloc: Global, told: &mut String, history: &His
     }
 }
 
-/// Plays the events up to a worker's commit, and writes the outcome.
-fn push_outcome(
+/// Plays the events up to a worker's commit, over this store, and writes the outcome.
+fn push_outcome<K: Kept>(
     rt: &impl Abort,
     alloc: Global,
     told: &mut String,
+    store: K,
     events: &[Event<Call>],
     worker: u32,
 ) {
-    let run = play(alloc, Copies::new(), events).expect(rt, "memory");
+    let run = play(alloc, store, events).expect(rt, "memory");
     writeln!(told, "{worker} {:?}", run.done_of(worker)).expect(rt, "memory");
 }
 
-/// Plays the events, and writes the clock and the history.
-fn push_end(rt: &impl Abort, alloc: Global, told: &mut String, events: &[Event<Call>]) {
-    let run = play(alloc, Copies::new(), events).expect(rt, "memory");
+/// Plays the events over this store, and writes the clock and the history.
+fn push_end<K: Kept>(
+    rt: &impl Abort,
+    alloc: Global,
+    told: &mut String,
+    store: K,
+    events: &[Event<Call>],
+) {
+    let run = play(alloc, store, events).expect(rt, "memory");
     writeln!(told, "clock {}", run.state().clock().secs()).expect(rt, "memory");
     push_history(rt, alloc, told, run.history());
 }
 
-/// These events come to this: after each commit the worker's outcome, and at the end the clock and the history.
-pub fn comes_to(rt: &impl Abort, alloc: Global, lines: &[Event<&str>], wanted: &str) {
-    let mut told = String::new(alloc);
+/// What the events come to over copies, and over the shelf that is this vector: after each commit the worker's outcome, and
+/// at the end the clock and the history.
+fn told<V: Shelving, R: Abort + Wait>(
+    rt: &R,
+    alloc: Global,
+    items: &boxcar::Vec<Arc<Item>>,
+    lines: &[Event<&str>],
+) -> (String, String)
+    requires { items.now ≡ V.shelves }
+{
+    let (mut copied, mut shelved) = (String::new(alloc), String::new(alloc));
     let mut events = Vec::new(alloc);
     for line in lines {
         events.push(called(rt, alloc, line)).expect(rt, "memory");
         if let Event::Commit(worker) = line {
-            push_outcome(rt, alloc, &mut told, events.as_slice(), *worker);
+            let shelf: Shelf<V, R> = Shelf::new(alloc, items, rt);
+            let events = events.as_slice();
+            push_outcome(rt, alloc, &mut copied, Copies::new(), events, *worker);
+            push_outcome(rt, alloc, &mut shelved, shelf, events, *worker);
         }
     }
-    push_end(rt, alloc, &mut told, events.as_slice());
-    assert_eq!(rt; told.as_str(), wanted);
+    let shelf: Shelf<V, R> = Shelf::new(alloc, items, rt);
+    push_end(rt, alloc, &mut copied, Copies::new(), events.as_slice());
+    push_end(rt, alloc, &mut shelved, shelf, events.as_slice());
+    (copied, shelved)
+}
+
+/// These events come to this over both stores.
+pub fn comes_to<R: Abort + Wait>(rt: &R, alloc: Global, lines: &[Event<&str>], wanted: &str) {
+    let items = boxcar::Vec::new(alloc).expect(rt, "memory");
+    let (copied, shelved) = told::<Brand, R>(rt, alloc, &items, lines);
+    assert_eq!(rt; copied.as_str(), wanted);
+    assert_eq!(rt; shelved.as_str(), wanted);
 }

@@ -1,9 +1,13 @@
 //! Versions of items.
 
+ghost use Rattle.std.specs.Prelude.{◌≡◌};
+
+use casa_shelf::{Shelf, Shelving};
 use casa_time::Moment;
 use casa_view::{Copied, Copies, Item, Kept, Version};
 use std::alloc::Global;
-use std::sync::Arc;
+use std::marker::Brand;
+use std::sync::{Arc, Wait};
 use std::test::Fail;
 
 /// The version that an entry with this number writes of the clock, at this second.
@@ -21,5 +25,29 @@ fn versions_are_the_same_by_number_and_contents(rt: HostRuntime) -> Result<(), F
     for (number, at, is_same) in [(5, 100, true), (6, 100, false), (5, 200, false)] {
         assert_eq!(rt; one.same(&version(alloc, number, at)?), is_same);
     }
+    Ok(())
+}
+
+/// On a shelf a version is the same as its copies alone: another of the same item has another position.
+fn positions_tell<V: Shelving, R: Wait>(
+    rt: &R,
+    alloc: Global,
+    items: &boxcar::Vec<Arc<Item>>,
+) -> Result<bool, Fail>
+    requires { items.now ≡ V.shelves }
+{
+    let mut shelf: Shelf<V, R> = Shelf::new(alloc, items, rt);
+    let clock = Arc::new(alloc, Item::Clock(Moment::new(100)?))?;
+    let one = shelf.put(5, Arc::try_clone(&clock)?)?;
+    let other = shelf.put(5, clock)?;
+    let told = *one.item() == Item::Clock(Moment::new(100)?);
+    Ok(told && one.same(&one.try_clone()?) && !one.same(&other))
+}
+
+#[test]
+fn versions_on_a_shelf_are_the_same_by_number_and_position(rt: HostRuntime) -> Result<(), Fail> {
+    let alloc = rt.alloc();
+    let items = boxcar::Vec::new(alloc)?;
+    assert!(&rt; positions_tell::<Brand, _>(&rt, alloc, &items)?);
     Ok(())
 }

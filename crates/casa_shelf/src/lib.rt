@@ -1,0 +1,6 @@
+//! A store of versions that only grows, for boards that many threads read.
+#![tactic(auto)]
+
+mod shelf;
+
+pub use shelf::{Shelf, Shelved, Shelving};

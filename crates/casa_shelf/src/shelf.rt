@@ -1,0 +1,152 @@
+//! Versions in a vector that only grows.
+
+ghost use Rattle.std.specs.Prelude.{◌≡◌, [], IsTrue};
+ghost use Rattle.boxcar.specs.Table.{Shelves};
+
+use casa_table::{Item, Kept, Version};
+use std::alloc::{AllocError, Global};
+use std::marker::{Brand, Model, PhantomData};
+use std::sync::{Arc, Wait};
+
+/// Names a vector of items. Each program picks what it stands for once, at the call to which it lends its vector.
+pub trait Shelving {
+    /// The vector, as contracts see it.
+    ghost shelves: { Shelves };
+}
+
+impl Shelving for Brand {
+    ghost shelves = { record { tag = []; buckets = [] } };
+}
+
+/// A version on a shelf: its stamp, and its position there, which copies of the version share.
+///
+/// Contracts see the stamp, the position and the item, which stays where it was put.
+#[derive(Drop)]
+pub struct Shelved<'a, V: Shelving> {
+    number: usize,
+    token: Arc<boxcar::Pushed<Arc<Item>>>,
+    items: &'a boxcar::Vec<Arc<Item>>,
+    name: PhantomData<V>,
+}
+
+impl<'a, V: Shelving> Model for Shelved<'a, V> {
+    ghost use Rattle.std.specs.Prelude.{◌≡◌, ℕ};
+    ghost use Rattle.std.specs.Arc.{arc_value};
+    ghost use Rattle.boxcar.specs.Table.{Shows};
+    ghost use Rattle.casa_table.specs.declared.item.Item.{Item};
+
+    ghost Value = { ℕ × ℕ × Item };
+
+    ghost view = { λ s. (s.number, (arc_value s.token).index, arc_value (arc_value s.token).value) };
+
+    ghost invariant = { λ s. Shows V.shelves (arc_value s.token) × (s.items.now ≡ V.shelves) };
+}
+
+impl<'a, V: Shelving> Shelved<'a, V> {
+    ghost use Rattle.casa_shelf.specs.Positions.{is_same_position};
+
+    /// The item, which stays where it was put.
+    fn item_there(&self) -> &Item
+        ensures { result.now ≡ self.now.2 }
+    {
+        self.items.value(&self.token)
+    }
+
+    /// Whether stamp and position are the same. A position has one item.
+    fn same_position(&self, other: &Shelved<'a, V>) -> bool
+        ensures same { result ≡ is_same_position self.now other.now }
+        ensures shows { IsTrue result → self.now.2 ≡ other.now.2 }
+    {
+        if self.number == other.number && self.token.index() == other.token.index() {
+            self.items.agrees(&self.token, &other.token);
+            true
+        } else {
+            false
+        }
+    }
+}
+
+impl<'a, V: Shelving> Version for Shelved<'a, V> {
+    ghost use Rattle.casa_shelf.specs.Positions.{is_same_position, same_position, same_position_number};
+
+    ghost item_of = { λ s. s.2 };
+
+    ghost number = { λ s. s.0 };
+
+    ghost is_same = { is_same_position };
+
+    fn item(&self) -> &Item {
+        self.item_there()
+    }
+
+    fn same(&self, other: &Shelved<'a, V>) -> bool {
+        self.same_position(other)
+    }
+
+    fn try_clone(&self) -> Result<Shelved<'a, V>, AllocError> {
+        Ok(Shelved {
+            number: self.number,
+            token: Arc::try_clone(&self.token)?,
+            items: self.items,
+            name: PhantomData,
+        })
+    }
+
+    ghost same_itself = { same_position };
+
+    ghost same_number = { same_position_number };
+}
+
+/// The store that puts each version on a shelf: a vector that others read meanwhile, and where it stays as long as the
+/// vector does.
+///
+/// The type V names the vector, so that versions of another one are of another type. To put one may wait for another
+/// thread that does the same, which is what the runtime R is for.
+pub struct Shelf<'a, V: Shelving, R> {
+    alloc: Global,
+    items: &'a boxcar::Vec<Arc<Item>>,
+    rt: &'a R,
+    name: PhantomData<V>,
+    ghost named: { items.now ≡ V.shelves },
+}
+
+impl<'a, V: Shelving, R> Shelf<'a, V, R> {
+    /// The store over this vector. It takes no memory.
+    pub fn new(alloc: Global, items: &'a boxcar::Vec<Arc<Item>>, rt: &'a R) -> Shelf<'a, V, R>
+        requires { items.now ≡ V.shelves }
+    {
+        Shelf {
+            alloc,
+            items,
+            rt,
+            name: PhantomData,
+        }
+    }
+}
+
+impl<'a, V: Shelving, R> Drop for Shelf<'a, V, R> {
+    fn drop(self) {
+        let Shelf {
+            alloc: _,
+            items: _,
+            rt: _,
+            name: _,
+        } = self;
+    }
+}
+
+impl<'a, V: Shelving, R: Wait> Kept for Shelf<'a, V, R> {
+    type Version = Shelved<'a, V>;
+
+    fn put(&mut self, number: usize, item: Arc<Item>) -> Result<Shelved<'a, V>, AllocError> {
+        let Ok(pushed) = self.items.push_shown(self.rt, item) else {
+            return Err(AllocError);
+        };
+        Ok(Shelved {
+            number,
+            token: Arc::new(self.alloc, pushed)?,
+            items: self.items,
+            name: PhantomData,
+        })
+    }
+}
