@@ -33,7 +33,7 @@ fn push_over(
     view: &View<Copied>,
 ) -> Option<()> {
     let found = view.flights_over(alloc, board.catalogue().first()?).ok()?;
-    for comp in found.iter() {
+    for (comp, _) in &found {
         let (key, eto) = (comp.key, comp.eto);
         out.push_str(format!(in alloc; " {key} {eto}").ok()?.as_str())
             .ok()?;

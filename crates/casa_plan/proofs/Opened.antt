@@ -1,5 +1,5 @@
 -- a regulation opens: from what the code has to what is defined
-use Rattle.std.proofs.Common.{◌≡◌, ℕ, List, [], map, true, false, sym, ap, ◌∙◌, Some}
+use Rattle.std.proofs.Common.{◌≡◌, ℕ, List, [], ◌∷◌, map, true, false, sym, ap, ◌∙◌, Some}
 use Rattle.std.specs.Option.{option_map_or}
 use Rattle.std.specs.List.{AllByRecursion, filter}
 use Rattle.casa_grid.specs.declared.period.Period.{Period}
@@ -18,6 +18,12 @@ use Rattle.casa_answer.specs.Opening.{with_regulation, new_list, all_forced, aft
 use Rattle.casa_answer.proofs.Entries.{entries_catalogue}
 use Rattle.casa_answer.proofs.Newcomers.{newcomers, all_forced_over}
 use Rattle.casa_answer.proofs.Opens.{values-by_id}
+use Rattle.casa_table.specs.declared.item.Item.{Item}
+use Rattle.casa_table.specs.Asking.{HaveRows}
+use Rattle.casa_view.specs.declared.view.View.{View}
+use Rattle.casa_view.specs.Shown.{rows_shown, HasRowsInOrder}
+use Rattle.casa_view.proofs.ViewRows.{rows-shown}
+use Rattle.casa_plan.specs.Seen.{ShowRows}
 
 -- regulations are what is put under identifiers
 pub with_as : (all rs : List Regulation) (r : Regulation) → by_id all ≡ put (by_id rs) r.id r → all ≡ with_regulation r rs
@@ -44,3 +50,10 @@ opening_as v r profile clock rs over list sorted rows clock_is rs_is over_is lis
 
     new_now : filter (λ (c : Comp). option_map_or (may_compete clock) (v.row c.key) false) over ≡ flights_over (may_compete (clock_in v)) r v.rows
     new_now = (λ i. filter (λ (c : Comp). option_map_or (may_compete (clock_is i)) (v.row c.key) false) (over_is i)) ∙ newcomers v.row (may_compete (clock_in v)) r v.rows found
+
+-- the versions of the rows that a view holds are of those that it shows
+pub shown_rows : {V : Type 0} (item_of : V → Item) (v : View V) (flights : List (Comp × V)) → HasRowsInOrder v
+    → HaveRows item_of (rows_shown item_of v) flights → ShowRows item_of v flights
+shown_rows item_of v [] ordered h = tt
+shown_rows item_of v (e ∷ flights) ordered h =
+    (sym (rows-shown item_of v.rows e.0.key ordered) ∙ h.0, shown_rows item_of v flights ordered h.1)

@@ -3,13 +3,14 @@
 ghost use Rattle.std.specs.Prelude.{◌≡◌, List, Bool, false, Option, IfOk, OnOk, Some, option_copied};
 ghost use Rattle.std.specs.Option.{option_map_or};
 ghost use Rattle.std.specs.List.{filter};
+ghost use Rattle.std.specs.Map.{keys_of};
 ghost use Rattle.casa_flight.specs.declared.comp.Comp.{Comp};
 ghost use Rattle.casa_flight.specs.State.{regulation};
 ghost use Rattle.casa_flight.specs.Steps.{may_compete, most_regulations};
 ghost use Rattle.casa_answer.specs.Sight.{regulations_in};
 ghost use Rattle.casa_answer.specs.Enter.{with_entries};
 ghost use Rattle.casa_answer.specs.Opening.{with_regulation, all_forced, after_opening, open_reg};
-ghost use Rattle.casa_plan.specs.Seen.{sight};
+ghost use Rattle.casa_plan.specs.Seen.{sight, ShowRows};
 
 use crate::entering::reenter;
 use crate::replies::{done, refused};
@@ -19,10 +20,11 @@ use casa_flight::{
 };
 use casa_grid::{Grid, Profile};
 use casa_list::{SharedList, SlotList};
+use casa_table::row_in;
 use casa_time::Moment;
 use casa_view::{Catalogue, Change, Version, View};
 use std::alloc::{AllocError, Global};
-use std::collections::{BTreeMap, BTreeSet};
+use std::collections::BTreeMap;
 
 /// A regulation as the catalogue has it.
 fn regulation(id: RegId, loc: Loc, profile: &Profile) -> Regulation
@@ -52,25 +54,31 @@ fn with_regulation<V: Version>(
 }
 
 /// Flights by keys, each forced.
-fn all_forced(alloc: Global, comps: &BTreeSet<Comp>) -> Result<BTreeMap<Key, Stance>, AllocError>
-    ensures { IfOk result (λ flights. flights.entries ≡ all_forced comps.now.keys) }
+fn all_forced<V: Version>(
+    alloc: Global,
+    flights: &BTreeMap<Comp, V>,
+) -> Result<BTreeMap<Key, Stance>, AllocError>
+    ensures { IfOk result (λ stances. stances.entries ≡ all_forced (keys_of flights.now.entries)) }
 {
-    let mut flights = BTreeMap::new(alloc);
-    for comp in comps {
-        flights.insert(comp.key, Stance::Forced { eto: comp.eto })?;
+    let mut stances = BTreeMap::new(alloc);
+    for (comp, _) in flights {
+        stances.insert(comp.key, Stance::Forced { eto: comp.eto })?;
     }
-    Ok(flights)
+    Ok(stances)
 }
 
 /// The list of a regulation that governs nobody yet, with these flights. `AllocError` where there is no memory for it.
-fn new_list(
+fn new_list<V: Version>(
     alloc: Global,
     profile: &Profile,
-    comps: &BTreeSet<Comp>,
+    flights: &BTreeMap<Comp, V>,
 ) -> Result<SharedList, AllocError>
-    ensures { IfOk result (λ list. list ≡ record { profile = profile.now; flights = all_forced comps.now.keys }) }
+    ensures { IfOk result (λ list. list ≡ record {
+      profile = profile.now;
+      flights = all_forced (keys_of flights.now.entries);
+    }) }
 {
-    let flights = all_forced(alloc, comps)?;
+    let flights = all_forced(alloc, flights)?;
     SharedList::new(
         alloc,
         SlotList::of(alloc, Grid::of(alloc, profile)?, flights)?,
@@ -87,22 +95,23 @@ fn may_compete(clock: Moment, row: Option<&Row>) -> bool
     }
 }
 
-/// Those of these flights that may compete enter one by one, where these regulations are open. `AllocError` where there is
-/// no memory for that.
+/// Those of these flights that may compete, which come with the versions of their rows, enter one by one, where these
+/// regulations are open. `AllocError` where there is no memory for that.
 fn enter_newcomers<V: Version>(
     alloc: Global,
     view: &View<V>,
     draft: &mut Change,
     clock: Moment,
     catalogue: &Catalogue,
-    comps: &BTreeSet<Comp>,
+    flights: &BTreeMap<Comp, V>,
 ) -> Result<(), AllocError>
+    requires { ShowRows V.item_of view.now flights.now.entries }
     ensures { OnOk result (draft.new ≡
         with_entries clock catalogue.now (sight V.item_of view.now) draft.old (filter (λ (c : Comp).
-        option_map_or (may_compete clock) ((sight V.item_of view.now).row c.key) false) comps.now.keys)) }
+        option_map_or (may_compete clock) ((sight V.item_of view.now).row c.key) false) (keys_of flights.now.entries))) }
 {
-    for comp in comps {
-        let row = view.row(&comp.key);
+    for (comp, version) in flights {
+        let row = row_in(version.item());
         if may_compete(clock, row) {
             reenter(alloc, view, draft, clock, catalogue, comp.key, row)?;
         }

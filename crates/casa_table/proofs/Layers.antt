@@ -11,7 +11,7 @@ use Rattle.std.specs.Map.{keys_of}
 use Rattle.std.proofs.lemmas.Cmp.{nat_list_cmp_total}
 use Rattle.casa_flight.specs.Text.{Text, same_text, at_name, put, without}
 use Rattle.casa_flight.specs.Good.{AreInOrder}
-use Rattle.casa_flight.proofs.Entries.{text_cmp, same_name, itself, named, apart, at-put, at-without_other, sorted-put}
+use Rattle.casa_flight.proofs.Entries.{text_cmp, same_name, itself, named, at-put, at-without_other, sorted-put}
 use Rattle.casa_flight.proofs.Entries.{sorted-remove}
 use Rattle.casa_laws.proofs.Kept.{at_above, at-without_same, same_entries}
 use Rattle.casa_named.proofs.Found.{same_test}
@@ -122,6 +122,22 @@ where-put {X} P k w es fs order is h =
     same q =
         ap (λ b. cond b w (at_name es q)) (sym (same_test k q)) ∙ sym (at-with_value q k w es order)
         ∙ ap (λ (gs : List (Text × X)). at_name gs q) (sym is)
+
+-- entries in order that have this value under the name, and under every other what stood there
+pub written-put : {X : Type 0} (k : Text) (v : X) (es ns : List (Text × X)) → AreInOrder es → AreInOrder ns
+    → ((q : Text) → at_name ns q ≡ cond (is_eq (text_cmp k q)) (Some v) (at_name es q)) → ns ≡ put es k v
+written-put {X} k v es ns order sorted found =
+    same_entries ns (put es k v) sorted (sorted-put k v es order) (λ q.
+    found q ∙ ap (λ b. cond b (Some v) (at_name es q)) (either q (is_eq (text_cmp k q)) (is_eq (text_cmp q k)) refl refl)
+    ∙ sym (at-put q k v es))
+  where
+    either : (q : Text) (a b : Bool) → is_eq (text_cmp k q) ≡ a → is_eq (text_cmp q k) ≡ b → a ≡ b
+    either q true true s t = refl
+    either q false false s t = refl
+    either q true false s t =
+        let no : true ≡ false = sym (ap (λ (x : Text). is_eq (text_cmp x k)) (sym (same_name k q s)) ∙ itself k) ∙ t in cc
+    either q false true s t =
+        let no : true ≡ false = sym (ap (λ (x : Text). is_eq (text_cmp k x)) (same_name q k t) ∙ itself k) ∙ s in cc
 
 -- a copy that has the first entries, once the next one is put in
 pub put-next : {X : Type 0} (copy es rest all : List (Text × X)) (k : Text) (v w : X) → AreInOrder all → w ≡ v

@@ -12,3 +12,5 @@ pub mod NotedFlights
 pub mod LaidFound
 pub mod Sequence
 pub mod Named
+pub mod Placed
+pub mod Answered

@@ -11,7 +11,7 @@ use Rattle.casa_table.specs.Flights.{IsIndexed, row_where, row_named, fewer_rows
 
 -- an index of the rows serves for their versions
 pub noted_indexed : {V : Type 0} (item_of : V → Item) (at : Text → Option V)
-    (ds : List Departure) (ps : List Passing) (name : Text) (v : V) (row : Row)
+    (ds : List Departure) (ps : Text → List Passing) (name : Text) (v : V) (row : Row)
     → row_of (item_of v) ≡ Some row → IsIndexed (where_put (row_where item_of at) name (Some row)) ds ps
     → IsIndexed (row_where item_of (where_put at name (Some v))) ds ps
 noted_indexed {V} item_of at ds ps name v row is h =

@@ -9,7 +9,6 @@ use Rattle.std.specs.Option.{option_and_then, option_map_or, option_cmp}
 use Rattle.std.specs.List.{list_any, filter, find, cons_option}
 use Rattle.std.specs.BTreeMap.{is_at}
 use Rattle.std.specs.BTreeMap.Range.{range_contains}
-use Rattle.std.proofs.lemmas.Cmp.{nat_list_cmp_total, tied_itself}
 use Rattle.casa_flight.specs.declared.plan.Crossing.{Crossing}
 use Rattle.casa_flight.specs.contracts.plan.CrossingPartialEq.TheImpl.{ghosts as crossing}
 use Rattle.casa_flight.specs.contracts.plan.CrossingEq.TheImpl.Laws.{laws-law as crossing_laws}
@@ -24,14 +23,14 @@ use Rattle.casa_flight.proofs.Entries.{text_cmp, same_name, itself, named}
 use Rattle.casa_table.specs.declared.flights.Passing.{Passing}
 use Rattle.casa_table.specs.contracts.flights.PassingOrd.TheImpl.{ghosts as passings}
 use Rattle.casa_table.specs.Laid.{where_put}
-use Rattle.casa_table.specs.Passing.{over_row, has_passing, passing, HaveVia, HavePassings, at_start, at_end, in_span}
-use Rattle.casa_table.specs.Passing.{names}
+use Rattle.casa_table.specs.Passing.{over_row, has_passing, passing, HaveMore, HaveVia, HavePassings, at_start, at_end}
+use Rattle.casa_table.specs.Passing.{in_span, names}
 use Rattle.casa_table.specs.Gathered.{is_named}
 use Rattle.casa_table.proofs.Exact.{IsExact}
 
 -- passings that compare Equal are the same
 pub exact : IsExact passings.cmp
-exact p q h = by (text_cmp p.loc q.loc) (nat_cmp p.eto q.eto) refl refl h
+exact p q h = by (nat_cmp p.eto q.eto) refl h
   where
     same_number : (a b : ℕ) → nat_cmp a b ≡ Equal → a ≡ b
     same_number a b t = grind (arith, t)
@@ -42,23 +41,18 @@ exact p q h = by (text_cmp p.loc q.loc) (nat_cmp p.eto q.eto) refl refl h
     same_key (Some a) None t = cc
     same_key (Some a) (Some b) t = ap (λ (x : Text). Some x) (same_name a b t)
 
-    by : (a b : Ordering) → text_cmp p.loc q.loc ≡ a → nat_cmp p.eto q.eto ≡ b
-        → is_eq (ordering_then a (ordering_then b (option_cmp text_cmp p.key q.key))) ≡ true → p ≡ q
-    by Less b s t g = cc
-    by Greater b s t g = cc
-    by Equal Less s t g = cc
-    by Equal Greater s t g = cc
-    by Equal Equal s t g =
-        let locs : p.loc ≡ q.loc = same_name p.loc q.loc (ap is_eq s) in
+    by : (b : Ordering) → nat_cmp p.eto q.eto ≡ b
+        → is_eq (ordering_then b (option_cmp text_cmp p.key q.key)) ≡ true → p ≡ q
+    by Less t g = cc
+    by Greater t g = cc
+    by Equal t g =
         let times : p.eto ≡ q.eto = same_number p.eto q.eto t in
         let keys : p.key ≡ q.key = same_key p.key q.key g in
-        λ i. record { loc = locs i; eto = times i; key = keys i }
+        λ i. record { eto = times i; key = keys i }
 
--- the ends of a range at one location
-pub forward : (r : Regulation) (t : ℕ) → r.start ≤ t → is_gt (passings.cmp (at_start r) (at_end r t)) ≡ false
-forward r t h =
-    ap (λ w. is_gt (ordering_then w (ordering_then (nat_cmp r.start t) Equal))) (tied_itself nat_list_cmp_total r.loc)
-    ∙ by (nat_cmp r.start t) refl
+-- the ends of a range
+pub forward : (r : Regulation) (t : ℕ) → r.start ≤ t → is_gt (passings.cmp (at_start r) (at_end t)) ≡ false
+forward r t h = by (nat_cmp r.start t) refl
   where
     by : (a : Ordering) → nat_cmp r.start t ≡ a → is_gt (ordering_then a Equal) ≡ false
     by Less e = refl
@@ -89,15 +83,10 @@ there r c eto at h =
         record { loc_is = named c.loc r.loc at; from = le r.start c.eto q; before = lt c.eto r.end s }
 
 in_range : (r : Regulation) (t : ℕ) (key : Text) (c : Crossing) → r.end ≤ t → IsThere r c
-    → range_contains passings.cmp (Included (at_start r)) (Excluded (at_end r t)) (passing key c) ≡ true
+    → range_contains passings.cmp (Included (at_start r)) (Excluded (at_end t)) (passing key c) ≡ true
 in_range r t key c late is =
-    let tied : text_cmp r.loc c.loc ≡ Equal = ap (text_cmp r.loc) is.loc_is ∙ tied_itself nat_list_cmp_total r.loc in
-    let first : is_le (passings.cmp (at_start r) (passing key c)) ≡ true =
-    ap (λ w. is_le (ordering_then w (ordering_then (nat_cmp r.start c.eto) Less))) tied
-    ∙ from_start (nat_cmp r.start c.eto) refl is.from in
-    let last : is_le (passings.cmp (at_end r t) (passing key c)) ≡ false =
-    ap (λ w. is_le (ordering_then w (ordering_then (nat_cmp t c.eto) Less))) tied
-    ∙ past (nat_cmp t c.eto) refl is.before in
+    let first : is_le (passings.cmp (at_start r) (passing key c)) ≡ true = from_start (nat_cmp r.start c.eto) refl is.from in
+    let last : is_le (passings.cmp (at_end t) (passing key c)) ≡ false = past (nat_cmp t c.eto) refl is.before in
     λ i. first i && not (last i)
   where
     from_start : (a : Ordering) → nat_cmp r.start c.eto ≡ a → r.start ≤ c.eto → is_le (ordering_then a Less) ≡ true
@@ -142,44 +131,46 @@ range_named test key e (p ∷ ps) whose passes h =
     later true k = behind p.key k
     later false k = k
 
-via_named : (r : Regulation) (t : ℕ) (key : Text) (ps : List Passing) → r.end ≤ t → (via : List Crossing) (eto : ℕ)
+via_named : (r : Regulation) (t : ℕ) (key : Text) (ps : Text → List Passing) → r.end ≤ t → (via : List Crossing) (eto : ℕ)
     → HaveVia ps key via
     → option_and_then (covered r) (find (is_there r.loc) via) ≡ Some eto
-    → is_named (names (in_span r t ps)) key ≡ true
+    → is_named (names (in_span r t (ps r.loc))) key ≡ true
 via_named r t key ps late [] eto have h = cc
 via_named r t key ps late (c ∷ via) eto have h =
     elim (is_there r.loc c) as (λ b. is_there r.loc c ≡ b
     → option_and_then (covered r) (cond b (Some c) (find (is_there r.loc) via)) ≡ Some eto
-    → is_named (names (in_span r t ps)) key ≡ true) [
+    → is_named (names (in_span r t (ps r.loc))) key ≡ true) [
       | true ↦ λ at over.
-          range_named (range_contains passings.cmp (Included (at_start r)) (Excluded (at_end r t))) key
-          (passing key c) ps refl (in_range r t key c late (there r c eto at over)) have.0
+          let is : IsThere r c = there r c eto at over in
+          range_named (range_contains passings.cmp (Included (at_start r)) (Excluded (at_end t)))
+          key (passing key c) (ps r.loc) refl (in_range r t key c late is)
+          (subst (λ (loc : Text). has_passing (ps loc) (passing key c) ≡ true) is.loc_is have.0)
       | false ↦ λ _ g. via_named r t key ps late via eto have.1 g
     ] refl h
 
-pub row_over : (r : Regulation) (t : ℕ) (row_at : Text → Option Row) (ps : List Passing) → r.end ≤ t
+pub row_over : (r : Regulation) (t : ℕ) (row_at : Text → Option Row) (ps : Text → List Passing) → r.end ≤ t
     → HavePassings row_at ps
-    → (q : Text) (y : ℕ) → option_and_then (over_row r) (row_at q) ≡ Some y → is_named (names (in_span r t ps)) q ≡ true
+    → (q : Text) (y : ℕ) → option_and_then (over_row r) (row_at q) ≡ Some y
+    → is_named (names (in_span r t (ps r.loc))) q ≡ true
 row_over r t row_at ps late have q y h = by (row_at q) refl h
   where
     by : (o : Option Row) → row_at q ≡ o → option_and_then (over_row r) o ≡ Some y
-        → is_named (names (in_span r t ps)) q ≡ true
+        → is_named (names (in_span r t (ps r.loc))) q ≡ true
     by None found h = cc
     by (Some row) found h = via_named r t q ps late row.plan.via y (have q row found) h
 
 -- with a flight's passings among more passings, these serve for it too
-have_more : (ps qs : List Passing) → ((p : Passing) → has_passing ps p ≡ true → has_passing qs p ≡ true)
+have_more : (ps qs : Text → List Passing) → HaveMore ps qs
     → (key : Text) (via : List Crossing) → HaveVia ps key via → HaveVia qs key via
 have_more ps qs more key [] h = tt
-have_more ps qs more key (c ∷ via) h = (more (passing key c) h.0, have_more ps qs more key via h.1)
+have_more ps qs more key (c ∷ via) h = (more c.loc (passing key c) h.0, have_more ps qs more key via h.1)
 
-pub more_passings : (at : Text → Option Row) (ps qs : List Passing)
-    → ((p : Passing) → has_passing ps p ≡ true → has_passing qs p ≡ true)
+pub more_passings : (at : Text → Option Row) (ps qs : Text → List Passing) → HaveMore ps qs
     → HavePassings at ps → HavePassings at qs
 more_passings at ps qs more have q row found = have_more ps qs more q row.plan.via (have q row found)
 
-pub added_passings : (key : Text) (row : Row) (at : Text → Option Row) (ps qs : List Passing)
-    → ((p : Passing) → has_passing ps p ≡ true → has_passing qs p ≡ true) → HaveVia qs key row.plan.via
+pub added_passings : (key : Text) (row : Row) (at : Text → Option Row) (ps qs : Text → List Passing)
+    → HaveMore ps qs → HaveVia qs key row.plan.via
     → HavePassings at ps → HavePassings (where_put at key (Some row)) qs
 added_passings key row at ps qs more new have q x found = by (same_text key q) refl found
   where
@@ -191,26 +182,27 @@ added_passings key row at ps qs more new have q x found = by (same_text key q) r
         (subst (λ (r : Row). HaveVia qs key r.plan.via) value new)
 
 -- where the flight stands with this plan, its passings are there
-pub kept_passings : (key : Text) (row : Row) (earlier : Option Row) (at : Text → Option Row) (ps : List Passing)
+pub kept_passings : (key : Text) (row : Row) (earlier : Option Row) (at : Text → Option Row) (ps : Text → List Passing)
     → at key ≡ earlier → option_map_or (λ (r : Row). plan_eq r.plan row.plan) earlier false ≡ true
     → HavePassings at ps → HavePassings (where_put at key (Some row)) ps
 kept_passings key row None at ps there is have = cc
 kept_passings key row (Some r) at ps there is have =
-    added_passings key row at ps ps (λ p h. h)
+    added_passings key row at ps ps (λ loc p h. h)
     (subst (λ (p : FlightPlan). HaveVia ps key p.via) (plan_same r.plan row.plan is) (have key r there)) have
 
 -- a passing where the flight does not cross now may go
-pub idle_goes : (key : Text) (c : Crossing) (present : List Crossing) (ps qs : List Passing)
+pub idle_goes : (key : Text) (c : Crossing) (present : List Crossing) (ps qs : Text → List Passing)
     → list_any (λ (x : Crossing). crossing.eq x c) present ≡ false
-    → ((p : Passing) → is_at (passings.cmp (passing key c)) p ≡ false → has_passing qs p ≡ has_passing ps p)
+    → ((loc : Text) (p : Passing) → (loc ≡ c.loc → is_at (passings.cmp (passing key c)) p ≡ false)
+    → has_passing (qs loc) p ≡ has_passing (ps loc) p)
     → (other : Text) (via : List Crossing) → (other ≡ key → via ≡ present) → HaveVia ps other via → HaveVia qs other via
 idle_goes key c present ps qs idle others other via same have =
     along via (λ e. ap (list_any (λ (x : Crossing). crossing.eq x c)) (same e) ∙ idle) have
   where
-    no_other : {A : Type 0} (x : Crossing) (xs : List Crossing) → passing key c ≡ passing other x
+    no_other : {A : Type 0} (x : Crossing) (xs : List Crossing) → x.loc ≡ c.loc → passing key c ≡ passing other x
         → (crossing.eq x c || list_any (λ (x : Crossing). crossing.eq x c) xs) ≡ false → A
-    no_other x xs is none =
-        let c_is : c ≡ x = (λ i. record { loc = (is i).loc; eto = (is i).eto }) in
+    no_other x xs at is none =
+        let c_is : c ≡ x = (λ i. record { loc = (sym at) i; eto = (is i).eto }) in
         let found : (crossing.eq x c || list_any (λ (x : Crossing). crossing.eq x c) xs) ≡ true =
         ap (λ (y : Crossing). crossing.eq x y || list_any (λ (x : Crossing). crossing.eq x c) xs) c_is
         ∙ ap (λ b. b || list_any (λ (x : Crossing). crossing.eq x c) xs) (crossing_laws.refl x) in
@@ -227,22 +219,22 @@ idle_goes key c present ps qs idle others other via same have =
         → HaveVia ps other xs → HaveVia qs other xs
     along [] none h = tt
     along (x ∷ xs) none h =
-        let first : has_passing qs (passing other x) ≡ true =
+        let apart : x.loc ≡ c.loc → is_eq (passings.cmp (passing key c) (passing other x)) ≡ false =
+        λ at.
         elim (is_eq (passings.cmp (passing key c) (passing other x))) as
-        (λ b. is_eq (passings.cmp (passing key c) (passing other x)) ≡ b → has_passing qs (passing other x)
-        ≡ true) [
+        (λ b. is_eq (passings.cmp (passing key c) (passing other x)) ≡ b → b ≡ false) [
           | true ↦ λ t.
               let is : passing key c ≡ passing other x = exact (passing key c) (passing other x) t in
-              no_other x xs is (none (whose x is))
-          | false ↦ λ t. others (passing other x) t ∙ h.0
+              no_other x xs at is (none (whose x is))
+          | false ↦ λ t. refl
         ] refl in (
-          first,
+          others x.loc (passing other x) apart ∙ h.0,
           along xs
               (λ e. rest_of (crossing.eq x c) (list_any (λ (x : Crossing). crossing.eq x c) xs) (none e)) h.1,
         )
 
 -- what a flight does not need now may go
-pub taken_passings : (key : Text) (now : List Crossing) (at : Text → Option Row) (ps qs : List Passing)
+pub taken_passings : (key : Text) (now : List Crossing) (at : Text → Option Row) (ps qs : Text → List Passing)
     → ((row : Row) → at key ≡ Some row → row.plan.via ≡ now)
     → ((other : Text) (via : List Crossing) → (other ≡ key → via ≡ now) → HaveVia ps other via → HaveVia qs other via)
     → HavePassings at ps → HavePassings at qs

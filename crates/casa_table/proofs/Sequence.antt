@@ -8,12 +8,13 @@ use Rattle.std.specs.Option.{option_map}
 use Rattle.std.specs.List.{AllByRecursion, fold, filter_map, cons_option}
 use Rattle.std.specs.List.Sorted.{IsStrictlySortedBy}
 use Rattle.std.specs.BTreeSet.{insert_key}
+use Rattle.std.specs.BTreeMap.{insert_entry}
 use Rattle.std.proofs.lemmas.Cmp.{nat_list_cmp_total}
 use Rattle.casa_flight.specs.declared.comp.Comp.{Comp}
 use Rattle.casa_flight.specs.contracts.comp.CompOrd.TheImpl.{ghosts as sequence}
 use Rattle.casa_flight.specs.declared.regulation.Regulation.{Regulation}
 use Rattle.casa_flight.specs.declared.row.Row.{Row}
-use Rattle.casa_flight.specs.Text.{Text}
+use Rattle.casa_flight.specs.Text.{Text, at_name}
 use Rattle.casa_flight.specs.Good.{AreInOrder}
 use Rattle.casa_flight.specs.State.{subject}
 use Rattle.casa_flight.specs.Steps.{flights_over}
@@ -22,7 +23,10 @@ use Rattle.casa_flight.proofs.Entries.{text_cmp, same_name}
 use Rattle.casa_laws.proofs.Competitors.{less_apart, before_one_way}
 use Rattle.casa_flight.proofs.PutBy.{put_later, put_first, all-put_by}
 use Rattle.std.specs.Map.{keys_of}
+use Rattle.casa_table.specs.declared.item.Item.{Item}
+use Rattle.casa_table.specs.Versions.{row_of}
 use Rattle.casa_table.specs.Passing.{over_row, comps}
+use Rattle.casa_table.specs.Asking.{times, HaveRows, with_flight}
 
 abbrev comp_of : Text × ℕ → Comp
 comp_of e = record { eto = e.1; key = e.0 }
@@ -131,3 +135,65 @@ set_in_order es sorted = inserted_is es [] sorted (none_there es)
 pub sequence_is : (r : Regulation) (rows : List (Text × Row))
     → in_order is_before (comps (kept (over_row r) rows)) ≡ flights_over (λ (row : Row). true) r rows
 sequence_is r rows = ap (in_order is_before) (comps_are r rows)
+
+-- times are in the order of what they are the times of
+above-times : {V : Type 0} (k : Text) (found : List (Text × (ℕ × V)))
+    → AllByRecursion (λ y. text_cmp k y ≡ Less) (keys_of found)
+    → AllByRecursion (λ y. text_cmp k y ≡ Less) (keys_of (times found))
+above-times k [] h = tt
+above-times k (e ∷ found) h = (h.0, above-times k found h.1)
+
+pub sorted-times : {V : Type 0} (found : List (Text × (ℕ × V))) → AreInOrder found → AreInOrder (times found)
+unfolding IsStrictlySortedBy
+sorted-times [] h = tt
+sorted-times (e ∷ found) h = (above-times e.0 found h.0, sorted-times found h.1)
+
+-- the keys of a map with one entry more
+keys-insert : {V : Type 0} (c : Comp) (v : V) (es : List (Comp × V))
+    → keys_of (insert_entry sequence.cmp es c v) ≡ insert_key sequence.cmp (keys_of es) c
+keys-insert c v [] = refl
+keys-insert {V} c v (e ∷ es) =
+    elim (sequence.cmp c e.0) as (λ o. keys_of (match_ordering o ((c, v) ∷ e ∷ es) ((e.0, v) ∷ es) (e ∷ insert_entry sequence.cmp es c v))
+    ≡ match_ordering o (c ∷ e.0 ∷ keys_of es) (e.0 ∷ keys_of es) (e.0 ∷ insert_key sequence.cmp (keys_of es) c)) [
+      | Less ↦ refl
+      | Equal ↦ refl
+      | Greater ↦ ap (λ (cs : List Comp). e.0 ∷ cs) (keys-insert c v es)
+    ]
+
+-- with one flight more, each has a version of its row still
+rows-insert : {V : Type 0} (item_of : V → Item) (rows : List (Text × Row)) (c : Comp) (v : V) (es : List (Comp × V))
+    → at_name rows c.key ≡ row_of (item_of v) → HaveRows item_of rows es
+    → HaveRows item_of rows (insert_entry sequence.cmp es c v)
+rows-insert item_of rows c v [] new h = (new, tt)
+rows-insert {V} item_of rows c v (e ∷ es) new h =
+    elim (sequence.cmp c e.0) as (λ o. sequence.cmp c e.0 ≡ o
+    → HaveRows item_of rows (match_ordering o ((c, v) ∷ e ∷ es) ((e.0, v) ∷ es) (e ∷ insert_entry sequence.cmp es c v))) [
+      | Less ↦ λ t. (new, h)
+      | Equal ↦ λ t. (
+        ap (at_name rows) (same_key (nat_cmp c.eto e.0.eto) (text_cmp c.key e.0.key) refl t) ∙ new,
+        h.1,
+      )
+      | Greater ↦ λ t. (h.0, rows-insert item_of rows c v es new h.1)
+    ] refl
+  where
+    same_key : (a b : Ordering) → text_cmp c.key e.0.key ≡ b → ordering_then a b ≡ Equal → e.0.key ≡ c.key
+    same_key Equal Equal q t = sym (same_name c.key e.0.key (ap is_eq q))
+    same_key Equal Less q t = cc
+    same_key Equal Greater q t = cc
+    same_key Less b q t = cc
+    same_key Greater b q t = cc
+
+-- what is left to put in once a flight is put in, if it answers
+pub one_put : {V : Type 0} (flights : List (Comp × V)) (key : Text) (answer : Option (ℕ × V)) (rest : List (Text × ℕ))
+    → inserted (keys_of (with_flight flights key answer)) rest
+    ≡ inserted (keys_of flights) (cons_option (option_map (λ (a : ℕ × V). (key, a.0)) answer) rest)
+one_put flights key None rest = refl
+one_put flights key (Some a) rest =
+    ap (λ (cs : List Comp). inserted cs rest) (keys-insert (record { eto = a.0; key = key }) a.1 flights)
+
+pub rows_put : {V : Type 0} (item_of : V → Item) (rows : List (Text × Row)) (flights : List (Comp × V)) (key : Text)
+    (answer : Option (ℕ × V)) → ((a : ℕ × V) → answer ≡ Some a → at_name rows key ≡ row_of (item_of a.1))
+    → HaveRows item_of rows flights → HaveRows item_of rows (with_flight flights key answer)
+rows_put item_of rows flights key None new h = h
+rows_put item_of rows flights key (Some a) new h =
+    rows-insert item_of rows (record { eto = a.0; key = key }) a.1 flights (new a refl) h

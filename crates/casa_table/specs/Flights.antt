@@ -27,12 +27,12 @@ abbrev pub row_where : {V : Type 0} → (V → Item) → (Text → Option V) →
 row_where item_of at name = row_named item_of (at name)
 
 -- an index of flights has the departures of all that wait, and all their passings
-pub record IsIndexed (row_at : Text → Option Row) (ds : List Departure) (ps : List Passing) : Type 0 where
+pub record IsIndexed (row_at : Text → Option Row) (ds : List Departure) (ps : Text → List Passing) : Type 0 where
   pub waiting : HaveWaiting row_at ds
   pub passings : HavePassings row_at ps
 
 -- where each row of these is one of those, an index of those serves
-pub fewer_rows : (at of : Text → Option Row) (ds : List Departure) (ps : List Passing) →
+pub fewer_rows : (at of : Text → Option Row) (ds : List Departure) (ps : Text → List Passing) →
     ((name : Text) (row : Row) → of name ≡ Some row → at name ≡ Some row) → IsIndexed at ds ps → IsIndexed of ds ps
 fewer_rows at of ds ps less h = record {
   waiting = λ key row found. h.waiting key row (less key row found);
@@ -40,7 +40,7 @@ fewer_rows at of ds ps less h = record {
 }
 
 pub fewer_indexed : {V : Type 0} (item_of : V → Item) (at : Text → Option V)
-    (ds : List Departure) (ps : List Passing) (name : Text)
+    (ds : List Departure) (ps : Text → List Passing) (name : Text)
     → IsIndexed (row_where item_of at) ds ps → IsIndexed (row_where item_of (where_put at name None)) ds ps
 fewer_indexed {V} item_of at ds ps name h =
     fewer_rows (row_where item_of at) (row_where item_of (where_put at name None)) ds ps

@@ -9,7 +9,7 @@ ghost use Rattle.casa_table.specs.Versions.{row_of};
 ghost use Rattle.casa_table.specs.Laid.{where_put};
 ghost use Rattle.casa_flight.specs.declared.plan.Crossing.{Crossing};
 ghost use Rattle.casa_table.specs.Waiting.{is_waiting, is_waiting_at, departure, has_departure, HaveWaiting};
-ghost use Rattle.casa_table.specs.Passing.{passing, has_passing, HaveVia};
+ghost use Rattle.casa_table.specs.Passing.{passing, has_passing, passings_at, HaveMore, HaveVia};
 ghost use Rattle.casa_table.specs.Flights.{IsIndexed, row_named};
 
 use crate::index::Index;
@@ -18,7 +18,7 @@ use crate::version::Version;
 use casa_flight::{Crossing, Key, Loc, Name, OfFlight, Plan, Row};
 use casa_time::Moment;
 use std::alloc::{AllocError, Global};
-use std::collections::BTreeSet;
+use std::collections::{BTreeMap, BTreeSet};
 
 /// A flight that waits for its issue, with its off-block time. The earliest comes first and, among equal times, by key.
 #[derive(Clone, Copy, PartialEq, Eq, PartialOrd, Ord, Debug)]
@@ -27,31 +27,37 @@ pub(crate) struct Departure {
     pub(crate) key: Key,
 }
 
-/// A flight over a location. They come by location, time over and key; `None` comes before all flights, as the ends of a
-/// range do.
+/// A flight over a location, of which the passings stand together. They come by time over and key; `None` comes before all
+/// flights, as the ends of a range do.
 #[derive(Clone, Copy, PartialEq, Eq, PartialOrd, Ord, Debug)]
 pub(crate) struct Passing {
-    pub(crate) loc: Loc,
     pub(crate) eto: Moment,
     pub(crate) key: Option<Key>,
 }
 
-/// An index of the flights: the departures of those that wait for their issue, and the passings of all.
+/// The passings at each location.
+pub(crate) type Passings = BTreeMap<Loc, BTreeSet<Passing>>;
+
+/// An index of the flights: the departures of those that wait for their issue, and the passings of all, by location.
 #[derive(Drop)]
 pub struct FlightIndex {
+    alloc: Global,
     pub(crate) departures: BTreeSet<Departure>,
-    pub(crate) passings: BTreeSet<Passing>,
+    pub(crate) passings: Passings,
 }
 
 impl<V: Version> Index<OfFlight, V> for FlightIndex {
+    ghost use Rattle.casa_table.specs.Passing.{passings_at};
     ghost use Rattle.casa_table.specs.Flights.{row_where, fewer_indexed};
 
-    ghost covers = { λ index at. IsIndexed (row_where V.item_of at) index.departures.keys index.passings.keys };
+    ghost covers = { λ index at.
+        IsIndexed (row_where V.item_of at) index.departures.keys (passings_at index.passings.entries) };
 
     fn new(alloc: Global) -> FlightIndex {
         FlightIndex {
+            alloc,
             departures: BTreeSet::new(alloc),
-            passings: BTreeSet::new(alloc),
+            passings: BTreeMap::new(alloc),
         }
     }
 
@@ -74,7 +80,7 @@ impl<V: Version> Index<OfFlight, V> for FlightIndex {
     }
 
     ghost fewer = { λ index at name covers.
-        fewer_indexed V.item_of at index.departures.keys index.passings.keys name covers };
+        fewer_indexed V.item_of at index.departures.keys (passings_at index.passings.entries) name covers };
 }
 
 /// The row that a version is of, if there is one.
@@ -99,15 +105,15 @@ impl FlightIndex {
     /// no memory for it; all others are then still there.
     fn add(&mut self, key: Key, row: &Row, earlier: Option<&Row>) -> Result<(), AllocError>
         ensures stays { (at : Text → Option Row) →
-            IsIndexed at self.old.departures.keys self.old.passings.keys →
-            IsIndexed at self.new.departures.keys self.new.passings.keys }
+            IsIndexed at self.old.departures.keys (passings_at self.old.passings.entries) →
+            IsIndexed at self.new.departures.keys (passings_at self.new.passings.entries) }
         ensures added { OnOk result ((at : Text → Option Row) → at key ≡ option_copied earlier.entry →
-            IsIndexed at self.old.departures.keys self.old.passings.keys →
-            IsIndexed (where_put at key (Some row.now)) self.new.departures.keys self.new.passings.keys) }
+            IsIndexed at self.old.departures.keys (passings_at self.old.passings.entries) →
+            IsIndexed (where_put at key (Some row.now)) self.new.departures.keys (passings_at self.new.passings.entries)) }
     {
         add_departure(&mut self.departures, key, row)?;
         if !stands_with(earlier, &row.plan) {
-            add_passings(&mut self.passings, key, row.plan.via())?;
+            add_passings(self.alloc, &mut self.passings, key, row.plan.via())?;
         }
         Ok(())
     }
@@ -115,8 +121,8 @@ impl FlightIndex {
     /// Takes out what a flight needed, and does not need as it stands now, if it is there.
     fn take_out(&mut self, key: Key, gone: &Row, present: Option<&Row>)
         ensures { (at : Text → Option Row) → at key ≡ option_copied present.entry →
-            IsIndexed at self.old.departures.keys self.old.passings.keys →
-            IsIndexed at self.new.departures.keys self.new.passings.keys }
+            IsIndexed at self.old.departures.keys (passings_at self.old.passings.entries) →
+            IsIndexed at self.new.departures.keys (passings_at self.new.passings.entries) }
     {
         take_departure(&mut self.departures, key, gone.plan.eobt(), present);
         match present {
@@ -185,53 +191,61 @@ fn take_departure(
     }
 }
 
-/// Puts a crossing of a flight among the passings.
+/// Puts a crossing of a flight among the passings at its location. `AllocError` where there is no memory for it.
 fn add_passing(
-    passings: &mut BTreeSet<Passing>,
+    alloc: Global,
+    passings: &mut Passings,
     key: Key,
     crossing: &Crossing,
 ) -> Result<(), AllocError>
-    ensures stays { (p : _) → has_passing passings.old.keys p ≡ true →
-        has_passing passings.new.keys p ≡ true }
-    ensures added { OnOk result (has_passing passings.new.keys (passing key crossing.now) ≡ true) }
+    ensures stays { HaveMore (passings_at passings.old.entries) (passings_at passings.new.entries) }
+    ensures added { OnOk result
+        (has_passing (passings_at passings.new.entries crossing.now.loc) (passing key crossing.now) ≡ true) }
 {
-    passings.insert(Passing {
-        loc: crossing.loc,
+    let passing = Passing {
         eto: crossing.eto,
         key: Some(key),
-    })?;
-    Ok(())
+    };
+    match passings.get_mut(&crossing.loc) {
+        Some(there) => {
+            there.insert(passing)?;
+            Ok(())
+        }
+        None => {
+            let mut first = BTreeSet::new(alloc);
+            first.insert(passing)?;
+            passings.insert(crossing.loc, first)?;
+            Ok(())
+        }
+    }
 }
 
 /// Puts the crossings of a flight among the passings.
 fn add_passings(
-    passings: &mut BTreeSet<Passing>,
+    alloc: Global,
+    passings: &mut Passings,
     key: Key,
     via: &[Crossing],
 ) -> Result<(), AllocError>
-    ensures stays { (p : _) → has_passing passings.old.keys p ≡ true →
-        has_passing passings.new.keys p ≡ true }
-    ensures added { OnOk result (HaveVia passings.new.keys key via.now) }
+    ensures stays { HaveMore (passings_at passings.old.entries) (passings_at passings.new.entries) }
+    ensures added { OnOk result (HaveVia (passings_at passings.new.entries) key via.now) }
 {
     for crossing in via {
-        add_passing(passings, key, crossing)?;
+        add_passing(alloc, passings, key, crossing)?;
     }
     Ok(())
 }
 
 /// Takes out the passing at a crossing of a flight, unless the flight crosses there and then now too.
-fn take_passing(
-    passings: &mut BTreeSet<Passing>,
-    key: Key,
-    crossing: &Crossing,
-    present: &[Crossing],
-)
+fn take_passing(passings: &mut Passings, key: Key, crossing: &Crossing, present: &[Crossing])
     ensures { (other : Text) (via : List Crossing) → (other ≡ key → via ≡ present.now) →
-        HaveVia passings.old.keys other via → HaveVia passings.new.keys other via }
+        HaveVia (passings_at passings.old.entries) other via → HaveVia (passings_at passings.new.entries) other via }
 {
-    if !present.contains(crossing) {
-        passings.remove(&Passing {
-            loc: crossing.loc,
+    if present.contains(crossing) {
+        return;
+    }
+    if let Some(there) = passings.get_mut(&crossing.loc) {
+        there.remove(&Passing {
             eto: crossing.eto,
             key: Some(key),
         });
@@ -239,14 +253,9 @@ fn take_passing(
 }
 
 /// Takes out the passings at these crossings of a flight, unless the flight has them now too.
-fn take_passings(
-    passings: &mut BTreeSet<Passing>,
-    key: Key,
-    gone: &[Crossing],
-    present: &[Crossing],
-)
+fn take_passings(passings: &mut Passings, key: Key, gone: &[Crossing], present: &[Crossing])
     ensures { (other : Text) (via : List Crossing) → (other ≡ key → via ≡ present.now) →
-        HaveVia passings.old.keys other via → HaveVia passings.new.keys other via }
+        HaveVia (passings_at passings.old.entries) other via → HaveVia (passings_at passings.new.entries) other via }
 {
     for crossing in gone {
         take_passing(passings, key, crossing, present);

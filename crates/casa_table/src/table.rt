@@ -70,11 +70,19 @@ impl<Kind: Copy, V: Drop, I: Index<Kind, V>> Base<Kind, V, I> {
         ensures written { OnOk result (self.new ≡ put self.old name value) }
         ensures unchanged { OnErr result (self.new ≡ self.old) }
     {
-        self.index.note(&name, &value, self.values.get(&name))?;
-        if let Some(gone) = self.values.insert(name, value)? {
-            self.index.forget(&name, &gone, self.values.get(&name));
+        match self.values.get_mut(&name) {
+            Some(place) => {
+                self.index.note(&name, &value, Some(&*place))?;
+                self.index.forget(&name, &*place, Some(&value));
+                *place = value;
+                Ok(())
+            }
+            None => {
+                self.index.note(&name, &value, self.values.get(&name))?;
+                self.values.insert(name, value)?;
+                Ok(())
+            }
         }
-        Ok(())
     }
 
     /// Takes out the value under a name.

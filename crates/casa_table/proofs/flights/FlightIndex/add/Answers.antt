@@ -1,5 +1,5 @@
 use Rattle.std.proofs.Common.{subst, sym}
-use Rattle.casa_table.specs.Passing.{HaveVia}
+use Rattle.casa_table.specs.Passing.{passings_at, HaveVia}
 use Rattle.casa_table.proofs.Due.{more_departures, added_departure}
 use Rattle.casa_table.proofs.Over.{more_passings, added_passings, kept_passings}
 use Rattle.casa_table.proofs.flights.FlightIndex.add.Goals as goal
@@ -34,7 +34,7 @@ returns-in_ok-add_passings-clause-added c = λ at there h. record {
       added_departure c.args.key c.args.row.now at _ _ c.add_departure.ensures.stays
       c.in_ok-add_departure.ensures.added h.waiting;
   passings = added_passings c.args.key c.args.row.now at _ _ c.add_passings.ensures.stays
-      (subst (HaveVia c.add_passings.new.passings.keys c.args.key) c.via.ensures c.in_ok-add_passings.ensures.added)
+      (subst (HaveVia (passings_at c.add_passings.new.passings.entries) c.args.key) c.via.ensures c.in_ok-add_passings.ensures.added)
       h.passings;
 }
 

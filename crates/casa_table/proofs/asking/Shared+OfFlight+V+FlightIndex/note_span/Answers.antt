@@ -2,7 +2,7 @@ use Rattle.std.proofs.Common.{rules, ◌≡◌, []}
 use Rattle.casa_table.specs.Passing.{names}
 use Rattle.casa_table.proofs.Gathered.{all_noted}
 use Rattle.casa_table.proofs.Over.{forward}
-use Rattle.casa_table.proofs.asking.Shared+OfFlight+V+FlightIndex.note_passing.Goals as goal
+use Rattle.casa_table.proofs.asking.Shared+OfFlight+V+FlightIndex.note_span.Goals as goal
 
 pub range-passing-items-requires : goal.range-passing-items-requires
 range-passing-items-requires g c = forward c.args.regulation.now c.args.end c.requires
