@@ -39,10 +39,8 @@ fn shown(alloc: Global, all: &Catalogue, plan: &Plan) -> Result<String, AllocErr
 fn two(rt: &impl Abort, alloc: Global) -> Catalogue {
     let early = regulation(b"R3", b"LA", 36_600).expect(rt, "R3");
     let second = regulation(b"R2", b"LB", 37_200).expect(rt, "R2");
-    let one = Catalogue::new(alloc)
-        .with(alloc, early)
-        .expect(rt, "memory");
-    one.with(alloc, second).expect(rt, "memory")
+    let one = with(rt, alloc, &Catalogue::new(alloc), early);
+    with(rt, alloc, &one, second)
 }
 
 /// What these regulations show of the flight.
@@ -54,21 +52,29 @@ fn told(rt: &impl Abort, alloc: Global, all: &Catalogue) -> String {
     }
 }
 
+/// They show this of it.
+fn tells(rt: &impl Abort, alloc: Global, all: &Catalogue, wanted: &str) {
+    let text = told(rt, alloc, all);
+    assert_eq!(rt; text.as_str(), wanted);
+}
+
+/// These regulations with one more, or with another of its name.
+fn with(rt: &impl Abort, alloc: Global, all: &Catalogue, regulation: Regulation) -> Catalogue {
+    all.with(alloc, regulation).expect(rt, "memory")
+}
+
 #[test]
 fn regulations_come_and_go(rt: HostRuntime) {
     let alloc = rt.alloc();
     let first = regulation(b"R1", b"LA", 37_200).expect(&rt, "R1");
     let late = regulation(b"R3", b"LA", 37_200).expect(&rt, "R3");
-    let three = two(&rt, alloc).with(alloc, first).expect(&rt, "memory");
-    assert_eq!(&rt; told(&rt, alloc, &three).as_str(), " R1 36700 R2 36100 R3");
-    let three = three.with(alloc, late).expect(&rt, "memory");
-    assert_eq!(&rt;
-        told(&rt, alloc, &three).as_str(),
-        " R1 36700 R2 36100 R3 36700"
-    );
+    let two = two(&rt, alloc);
+    let three = with(&rt, alloc, &two, first);
+    tells(&rt, alloc, &three, " R1 36700 R2 36100 R3");
+    let three = with(&rt, alloc, &three, late);
+    tells(&rt, alloc, &three, " R1 36700 R2 36100 R3 36700");
     let fewer = three.without(alloc, &first.id).expect(&rt, "memory");
-    assert_eq!(&rt; told(&rt, alloc, &fewer).as_str(), " R2 36100 R3 36700");
+    tells(&rt, alloc, &fewer, " R2 36100 R3 36700");
     assert!(&rt; fewer.get(&first.id).is_none() && fewer.get(&late.id) == Some(&late));
-    assert!(&rt; fewer == two(&rt, alloc).with(alloc, late).expect(&rt, "memory"));
-    assert!(&rt; fewer != three);
+    assert!(&rt; fewer == with(&rt, alloc, &two, late) && fewer != three);
 }

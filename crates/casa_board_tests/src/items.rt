@@ -13,26 +13,42 @@ fn catalogue(alloc: Global, board: &Board<Copies>) -> Option<Catalogue> {
     Some(all)
 }
 
+/// Writes the list of a regulation again; `None` where it is not open, or memory is refused.
+fn set_list(board: &Board<Copies>, change: &mut Change, id: &str) -> Option<()> {
+    let id = RegId::new(id.as_bytes())?;
+    let list = board.shared_list(&id)?.share().ok()?;
+    change.set_list(id, Some(list)).ok()
+}
+
+/// Writes the row of a flight again; `None` where there is none, or memory is refused.
+fn set_row(board: &Board<Copies>, change: &mut Change, key: &str) -> Option<()> {
+    let key = Key::new(key.as_bytes())?;
+    let row = board.row(&key)?.clone().ok()?;
+    change.set_row(key, Some(row)).ok()
+}
+
+/// Writes what has this name again.
+fn set(alloc: Global, board: &Board<Copies>, change: &mut Change, name: &str) -> Option<()> {
+    if name == "clock" {
+        change.set_clock(board.clock());
+        return Some(());
+    }
+    if name == "catalogue" {
+        return change.set_catalogue(catalogue(alloc, board)?).ok();
+    }
+    match name.strip_prefix('-') {
+        Some(key) => change.set_row(Key::new(key.as_bytes())?, None).ok(),
+        None if name.starts_with('R') => set_list(board, change, name),
+        None => set_row(board, change, name),
+    }
+}
+
 /// A change that writes again what has these names, as it stands: `clock`, `catalogue`, a regulation's list or a flight's
 /// row; after a `-` the absence of that row. `None` where there is none, or memory is refused.
 pub fn change(alloc: Global, board: &Board<Copies>, names: &str) -> Option<Change> {
     let mut change = Change::new(alloc);
     for name in names.split_whitespace() {
-        if name == "clock" {
-            change.set_clock(board.clock());
-        } else if name == "catalogue" {
-            change.set_catalogue(catalogue(alloc, board)?).ok()?;
-        } else if let Some(name) = name.strip_prefix('-') {
-            change.set_row(Key::new(name.as_bytes())?, None).ok()?;
-        } else if name.starts_with('R') {
-            let id = RegId::new(name.as_bytes())?;
-            let list = board.shared_list(&id)?.share().ok()?;
-            change.set_list(id, Some(list)).ok()?;
-        } else {
-            let key = Key::new(name.as_bytes())?;
-            let row = board.row(&key)?.clone().ok()?;
-            change.set_row(key, Some(row)).ok()?;
-        }
+        set(alloc, board, &mut change, name)?;
     }
     Some(change)
 }

@@ -24,6 +24,8 @@ mod lines;
 #[cfg(test)]
 mod named;
 #[cfg(test)]
+mod outdated;
+#[cfg(test)]
 mod plan_scripts;
 #[cfg(test)]
 mod played;

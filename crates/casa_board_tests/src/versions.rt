@@ -7,6 +7,7 @@ use casa_time::Moment;
 use casa_view::{Copied, Copies, Item, Kept, Version};
 use std::alloc::Global;
 use std::marker::Brand;
+use std::process::Abort;
 use std::sync::{Arc, Wait};
 use std::test::Fail;
 
@@ -29,25 +30,27 @@ fn versions_are_the_same_by_number_and_contents(rt: HostRuntime) -> Result<(), F
 }
 
 /// On a shelf a version is the same as its copies alone: another of the same item has another position.
-fn positions_tell<V: Shelving, R: Wait>(
+fn positions_tell<V: Shelving, R: Abort + Wait>(
     rt: &R,
     alloc: Global,
     items: &boxcar::Vec<Arc<Item>>,
-) -> Result<bool, Fail>
+)
     requires { items.now ≡ V.shelves }
 {
+    let at = Moment::new(100).expect(rt, "a moment");
     let mut shelf: Shelf<V, R> = Shelf::new(alloc, items, rt);
-    let clock = Arc::new(alloc, Item::Clock(Moment::new(100)?))?;
-    let one = shelf.put(5, Arc::try_clone(&clock)?)?;
-    let other = shelf.put(5, clock)?;
-    let told = *one.item() == Item::Clock(Moment::new(100)?);
-    Ok(told && one.same(&one.try_clone()?) && !one.same(&other))
+    let clock = Arc::new(alloc, Item::Clock(at)).expect(rt, "memory");
+    let again = Arc::try_clone(&clock).expect(rt, "memory");
+    let one = shelf.put(5, clock).expect(rt, "memory");
+    let other = shelf.put(5, again).expect(rt, "memory");
+    let copy = one.try_clone().expect(rt, "memory");
+    assert!(rt; *one.item() == Item::Clock(at));
+    assert!(rt; one.same(&copy) && !one.same(&other));
 }
 
 #[test]
-fn versions_on_a_shelf_are_the_same_by_number_and_position(rt: HostRuntime) -> Result<(), Fail> {
+fn versions_on_a_shelf_are_the_same_by_number_and_position(rt: HostRuntime) {
     let alloc = rt.alloc();
-    let items = boxcar::Vec::new(alloc)?;
-    assert!(&rt; positions_tell::<Brand, _>(&rt, alloc, &items)?);
-    Ok(())
+    let items = boxcar::Vec::new(alloc).expect(&rt, "memory");
+    positions_tell::<Brand, _>(&rt, alloc, &items);
 }
