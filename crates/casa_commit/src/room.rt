@@ -20,7 +20,6 @@ const MAX_DESKS: usize = 1024;
 ///
 /// Its type keeps that the history is legal, that the world is its replay, and that the tally of each open desk is that
 /// of the history, in which no other desk has an entry.
-#[derive(Drop)]
 #[derive_where(Debug; W, W::Call, W::Reply)]
 pub struct Room<W: World> {
     world: W,
@@ -31,6 +30,17 @@ pub struct Room<W: World> {
     ghost replayed: { W.state world ≡ replay W.after W.opening (entries history) } by { W.state_set (W.state world) (replay W.after W.opening (entries history)) },
     ghost legal: { IsLegal W.after W.reply W.opening (entries history) },
     ghost tallied: { AreTallies desks.items (entries history) },
+}
+
+impl<W: World + Drop> Drop for Room<W> {
+    fn drop(self) {
+        let Room {
+            world: _,
+            history: _,
+            number: _,
+            desks: _,
+        } = self;
+    }
 }
 
 impl<W: World> Room<W> {
@@ -225,7 +235,13 @@ impl<W: World + Drop> Room<W> {
         ensures same { result ≡ history_of self }
         ensures legal { IsLegal W.after W.reply W.opening (entries result) }
     {
-        self.history
+        let Room {
+            world: _,
+            history,
+            number: _,
+            desks: _,
+        } = self;
+        history
     }
 }
 

@@ -34,12 +34,22 @@ pub trait Shareable: World<Call: PartialEq, Reply: PartialEq> {
 }
 
 /// A room behind a lock, for the desks of many threads.
-#[derive(Drop)]
 pub struct SharedRoom<W: Shareable, L: Ledger, G> {
     pub(crate) room: Mutex<CountedRoom<W, L>>,
     gate: G,
     pub(crate) alloc: Global,
     parts: AllParts<L>,
+}
+
+impl<W: Shareable + Drop, L: Ledger, G: Drop> Drop for SharedRoom<W, L, G> {
+    fn drop(self) {
+        let SharedRoom {
+            room: _,
+            gate: _,
+            alloc: _,
+            parts: _,
+        } = self;
+    }
 }
 
 impl<W: Shareable, L: Ledger, G: Gate<W>> SharedRoom<W, L, G>

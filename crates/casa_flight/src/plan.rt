@@ -48,7 +48,7 @@ pub struct Crossing {
 /// A flight plan: its key, off-block time, taxi time in seconds, crossings and status.
 ///
 /// Contracts see a plan as the record of these, with the crossings as a list, which copies share.
-#[derive(Drop, Debug)]
+#[derive(Debug)]
 pub struct Plan {
     key: Key,
     eobt: Moment,
@@ -66,6 +66,18 @@ impl Model for Plan {
     ghost view = { λ p. record { key = p.key; eobt = p.eobt; taxi = p.taxi; via = arc_slice_items p.via; sts = p.sts } };
 
     ghost invariant = { λ p. IsValid p.eobt p.taxi (arc_slice_items p.via) };
+}
+
+impl Drop for Plan {
+    fn drop(self) {
+        let Plan {
+            key: _,
+            eobt: _,
+            taxi: _,
+            via: _,
+            sts: _,
+        } = self;
+    }
 }
 
 /// Why there is no such plan, in the order of the checks.

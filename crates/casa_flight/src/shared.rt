@@ -7,7 +7,7 @@ use std::sync::ArcSlice;
 /// Values in their order, which copies share by reference count; no values take no memory.
 ///
 /// Contracts see them as their list.
-#[derive(Drop, Debug)]
+#[derive(Debug)]
 pub struct SharedSlice<T> {
     items: Option<ArcSlice<T>>,
 }
@@ -20,6 +20,12 @@ impl<T> Model for SharedSlice<T> {
     ghost Value = { List T };
 
     ghost view = { λ s. option_map_or arc_slice_items s.items [] };
+}
+
+impl<T: Drop> Drop for SharedSlice<T> {
+    fn drop(self) {
+        let SharedSlice { items: _ } = self;
+    }
 }
 
 impl<T> SharedSlice<T> {

@@ -8,11 +8,21 @@ use std::alloc::{AllocError, Global};
 /// What a desk has in hand: its engine's number, its own, and the receipts of its calls, oldest first.
 ///
 /// A pass can't be cloned, so a desk has one.
-#[derive(Debug, Drop)]
+#[derive(Debug)]
 pub struct Pass<C, R> {
     number: u32,
     desk: u32,
     receipts: Vec<Receipt<C, R>>,
+}
+
+impl<C: Drop, R: Drop> Drop for Pass<C, R> {
+    fn drop(self) {
+        let Pass {
+            number: _,
+            desk: _,
+            receipts: _,
+        } = self;
+    }
 }
 
 impl<C, R> Pass<C, R> {

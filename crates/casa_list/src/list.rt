@@ -38,7 +38,6 @@ use std::marker::Model;
 /// It keeps the competitors in their order with their places and the issued flights in theirs, in one row, the forced
 /// flights in theirs, and which slots issued flights block. Its flights are in the order of their keys: `grid`,
 /// `stance_of`, `governed` and `nth` say so, since the law `standings_name_each_flight_once` asks for it.
-#[derive(Drop)]
 pub struct SlotList {
     grid: SharedGrid,
     flights: Stances,
@@ -66,6 +65,18 @@ impl Model for SlotList {
           blocked = l.blocked.counts;
           room = l.blocked.room;
         }) };
+}
+
+impl Drop for SlotList {
+    fn drop(self) {
+        let SlotList {
+            grid: _,
+            flights: _,
+            governed: _,
+            forced: _,
+            blocked: _,
+        } = self;
+    }
 }
 
 impl PartialEq for SlotList {

@@ -17,7 +17,6 @@ use std::marker::Model;
 /// regulations that a flight crosses, what a call on it reads, and what it writes.
 ///
 /// Contracts see the entries.
-#[derive(Drop)]
 pub struct Few<Kind, X> {
     first: Option<(Name<Kind>, X)>,
     others: BTreeMap<Name<Kind>, X>,
@@ -33,6 +32,15 @@ impl<Kind, X> Model for Few<Kind, X> {
     ghost view = { λ f. ahead f.first f.others.entries };
 
     ghost invariant = { λ f. IsFew f.first f.others.entries };
+}
+
+impl<Kind, X: Drop> Drop for Few<Kind, X> {
+    fn drop(self) {
+        let Few {
+            first: _,
+            others: _,
+        } = self;
+    }
 }
 
 impl<Kind, X> Few<Kind, X> {

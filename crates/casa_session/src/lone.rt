@@ -23,7 +23,6 @@ const ROOM: u32 = 0;
 /// before it.
 ///
 /// Contracts see it as the calls that it has answered.
-#[derive(Drop)]
 pub struct Lone {
     room: Room<Board<Copies>>,
     pass: Pass<Call, Reply>,
@@ -41,6 +40,12 @@ impl Model for Lone {
     ghost view = { λ l. calls_in (entries_of l.room) };
 
     ghost invariant = { λ l. IsAlone l.room l.pass };
+}
+
+impl Drop for Lone {
+    fn drop(self) {
+        let Lone { room: _, pass: _ } = self;
+    }
 }
 
 impl Lone {

@@ -22,7 +22,6 @@ pub type Crossings = Few<OfRegulation, Moment>;
 /// The open regulations in the order of their identifiers, with an index by location.
 ///
 /// Contracts see them as a list.
-#[derive(Drop)]
 pub struct Catalogue {
     regulations: Vec<Regulation>,
     places: BTreeMap<Loc, Vec<Regulation>>,
@@ -38,6 +37,15 @@ impl Model for Catalogue {
     ghost view = { λ c. c.regulations.items };
 
     ghost invariant = { λ c. IsCatalogue c.regulations.items (at_place (λ v. v.items) c.places.entries) };
+}
+
+impl Drop for Catalogue {
+    fn drop(self) {
+        let Catalogue {
+            regulations: _,
+            places: _,
+        } = self;
+    }
 }
 
 impl Catalogue {

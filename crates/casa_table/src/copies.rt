@@ -7,7 +7,6 @@ use std::marker::Model;
 use std::sync::Arc;
 
 /// A version in memory: its stamp with the item, which copies of the version share.
-#[derive(Drop)]
 pub struct Copied {
     number: usize,
     item: Arc<Item>,
@@ -21,6 +20,12 @@ impl Model for Copied {
     ghost Value = { ℕ × Item };
 
     ghost view = { λ c. (c.number, arc_value c.item) };
+}
+
+impl Drop for Copied {
+    fn drop(self) {
+        let Copied { number: _, item: _ } = self;
+    }
 }
 
 impl Version for Copied {

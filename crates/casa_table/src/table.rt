@@ -182,7 +182,6 @@ const MOST_BESIDE: usize = 4096;
 /// they are moved in when no view has them any more.
 ///
 /// Contracts see the entries, and those that it will have once it is turned.
-#[derive(Drop)]
 pub struct Table<Kind, V, I: Index<Kind, V>> {
     alloc: Global,
     base: Arc<Base<Kind, V, I>>,
@@ -204,6 +203,17 @@ impl<Kind, V, I: Index<Kind, V>> Model for Table<Kind, V, I> {
 
     ghost invariant = { λ t.
         AreInOrder (arc_value t.base) × AreInOrder (arc_value t.recent).entries × AreInOrder (arc_value t.coming).entries };
+}
+
+impl<Kind, V: Drop, I: Index<Kind, V>> Drop for Table<Kind, V, I> {
+    fn drop(self) {
+        let Table {
+            alloc: _,
+            base: _,
+            recent: _,
+            coming: _,
+        } = self;
+    }
 }
 
 impl<Kind: Copy, V: Version, I: Index<Kind, V>> Table<Kind, V, I> {
@@ -371,7 +381,6 @@ fn keep_others<Kind: Copy, V: Version>(
 /// All values of a table, as they stood when they were shared.
 ///
 /// Contracts see the entries.
-#[derive(Drop)]
 pub struct Shared<Kind, V, I: Index<Kind, V>> {
     pub(crate) base: Arc<Base<Kind, V, I>>,
     pub(crate) recent: Arc<Changes<Kind, V>>,
@@ -389,6 +398,12 @@ impl<Kind, V, I: Index<Kind, V>> Model for Shared<Kind, V, I> {
     ghost view = { λ s. laid (arc_value s.recent).entries (arc_value s.base) };
 
     ghost invariant = { λ s. AreInOrder (arc_value s.base) × AreInOrder (arc_value s.recent).entries };
+}
+
+impl<Kind, V: Drop, I: Index<Kind, V>> Drop for Shared<Kind, V, I> {
+    fn drop(self) {
+        let Shared { base: _, recent: _ } = self;
+    }
 }
 
 impl<Kind, V, I: Index<Kind, V>> Shared<Kind, V, I> {

@@ -18,12 +18,21 @@ use std::alloc::{AllocError, Global};
 use std::sync::Arc;
 
 /// All items of the allocator's state, each with its version.
-#[derive(Drop)]
 pub struct Board<K: Kept> {
     pub(crate) alloc: Global,
     pub(crate) store: K,
     pub(crate) items: Items<K::Version>,
     ghost orderly: { IsOrderly K.Version.item_of (versions items) } by { Prim.hlevel props },
+}
+
+impl<K: Kept> Drop for Board<K> {
+    fn drop(self) {
+        let Board {
+            alloc: _,
+            store: _,
+            items: _,
+        } = self;
+    }
 }
 
 impl<K: Kept> Board<K> {

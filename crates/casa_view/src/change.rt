@@ -21,7 +21,6 @@ use std::sync::Arc;
 /// their names, or that there is none. Planners write it, and the board makes the versions of it.
 ///
 /// Contracts see what is written.
-#[derive(Drop)]
 pub struct Change {
     alloc: Global,
     clock: Option<Moment>,
@@ -42,6 +41,18 @@ impl Model for Change {
       rows = d.rows;
       lists = d.lists;
     } };
+}
+
+impl Drop for Change {
+    fn drop(self) {
+        let Change {
+            alloc: _,
+            clock: _,
+            catalogue: _,
+            rows: _,
+            lists: _,
+        } = self;
+    }
 }
 
 impl Change {
@@ -135,7 +146,6 @@ impl Change {
 /// not made twice.
 ///
 /// Contracts see the row.
-#[derive(Drop)]
 pub struct WrittenRow {
     item: Option<Arc<Item>>,
 }
@@ -152,6 +162,12 @@ impl Model for WrittenRow {
     ghost view = { λ w. option_and_then (λ item. row_of (arc_value item)) w.item };
 
     ghost invariant = { λ w. IfSome w.item (λ item. IsSome (row_of (arc_value item))) };
+}
+
+impl Drop for WrittenRow {
+    fn drop(self) {
+        let WrittenRow { item: _ } = self;
+    }
 }
 
 impl WrittenRow {

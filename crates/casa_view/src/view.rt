@@ -15,12 +15,22 @@ pub enum Part<Kind, V, I: Index<Kind, V>> {
 }
 
 /// What a call reads: items with their versions, and which items were not there.
-#[derive(Drop)]
 pub struct View<V: Version> {
     pub(crate) clock: Option<V>,
     pub(crate) catalogue: Option<V>,
     pub(crate) rows: Part<OfFlight, V, FlightIndex>,
     pub(crate) lists: Part<OfRegulation, V, NoIndex>,
+}
+
+impl<V: Version> Drop for View<V> {
+    fn drop(self) {
+        let View {
+            clock: _,
+            catalogue: _,
+            rows: _,
+            lists: _,
+        } = self;
+    }
 }
 
 impl<Kind, V, I: Index<Kind, V>> Part<Kind, V, I> {

@@ -11,5 +11,5 @@ returns-in-Some g c =
 
 pub returns-in-None : goal.returns-in-None
 returns-in-None g c =
-    IfOk-weaker c.with-in-None-2.result _ _
-    (λ all h. with_as all c.new.result c.args.regulation h ∙ ap (with_regulation c.args.regulation) (c.new.ensures ∙ ap (λ o. unwrap_or o []) c.in-None.ensures)) c.with-in-None-2.ensures
+    IfOk-weaker c.with-in-None.result _ _
+    (λ all h. with_as all c.new.result c.args.regulation h ∙ ap (with_regulation c.args.regulation) (c.new.ensures ∙ ap (λ o. unwrap_or o []) c.in-None.ensures)) c.with-in-None.ensures
