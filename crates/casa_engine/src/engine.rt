@@ -22,22 +22,23 @@ use casa_commit::{CallFault, Gate, World};
 use casa_desk::Desk;
 use casa_flight::{Call, Reply};
 use casa_history::Receipt;
-use casa_view::{Board, Copies};
+use casa_view::{Board, Kept};
 use std::alloc::{AllocError, Global};
 use std::sync::Wait;
 use std::sync::ledger::{Blank, Ledger};
 use std::thread::Threads;
 
-/// A room of a board, shared by the desks of many threads. L names its ledger, and G is its gate.
-pub type Engine<L, G> = SharedRoom<Board<Copies>, L, G>;
+/// A room of a board, shared by the desks of many threads. K is the store of its versions, L names its ledger, and G is its
+/// gate.
+pub type Engine<K, L, G> = SharedRoom<Board<K>, L, G>;
 
 /// The pass of an engine's desk.
-pub type DeskPass<L> = CountedPass<Board<Copies>, L>;
+pub type DeskPass<K, L> = CountedPass<Board<K>, L>;
 
 /// A desk of an engine, which answers by its pass.
-pub type EngineDesk<'a, L, G, R> = SharedDesk<'a, Board<Copies>, L, G, R>;
+pub type EngineDesk<'a, K, L, G, R> = SharedDesk<'a, Board<K>, L, G, R>;
 
-impl Shareable for Board<Copies> {
+impl<K: Kept> Shareable for Board<K> {
     ghost one_world = { λ v w. tt };
 
     ghost equal_calls = { call_equality };
@@ -45,17 +46,19 @@ impl Shareable for Board<Copies> {
     ghost equal_replies = { reply_equality };
 }
 
-impl<L: Ledger, G: Gate<Board<Copies>> + Drop> SharedRoom<Board<Copies>, L, G> {
-    /// The engine with this number over an empty board; no desk is open. `AllocError` where there is no memory for it.
+impl<K: Kept, L: Ledger, G: Gate<Board<K>> + Drop> SharedRoom<Board<K>, L, G> {
+    /// The engine with this number over an empty board, whose versions this store keeps; no desk is open. `AllocError` where
+    /// there is no memory for it.
     pub fn new(
         alloc: Global,
+        store: K,
         blank: Blank,
         number: u32,
         gate: G,
-    ) -> Result<Engine<L, G>, AllocError>
+    ) -> Result<Engine<K, L, G>, AllocError>
         requires { IsBlankOf L.name L.parts blank.name blank.parts }
     {
-        let board = Board::new(alloc, Copies::new())?;
+        let board = Board::new(alloc, store)?;
         Ok(SharedRoom::over(alloc, board, blank, number, gate))
     }
 
@@ -76,10 +79,10 @@ impl<L: Ledger, G: Gate<Board<Copies>> + Drop> SharedRoom<Board<Copies>, L, G> {
 
 /// A desk of an engine has answered what its pass has receipts of: all of one desk, and each next after those before it
 /// in a legal history. Memory comes from the engine's allocator.
-impl<'a, L: Ledger, G: Gate<Board<Copies>>, R: Wait> Desk for EngineDesk<'a, L, G, R> {
+impl<'a, K: Kept, L: Ledger, G: Gate<Board<K>>, R: Wait> Desk for EngineDesk<'a, K, L, G, R> {
     ghost answered = { λ desk. receipts (pass_of desk.pass) };
 
-    ghost lawful = { λ given. ∥ ((desk : ℕ) × AllStand ⟦<Board<Copies> as World>⟧ desk given) ∥₁ };
+    ghost lawful = { λ given. ∥ ((desk : ℕ) × AllStand ⟦<Board<K> as World>⟧ desk given) ∥₁ };
 
     ghost may_be_foreign = { ⊤ };
 
