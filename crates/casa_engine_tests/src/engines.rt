@@ -30,13 +30,14 @@ fn receipts_are_accounted_for(rt: HostRuntime) {
             texts: TWO_FLIGHTS,
             passes,
         };
-        let told = played(&rt, rt.alloc(), &script);
-        let audit = Audit {
-            lists: 1,
-            delay: 110,
-        };
-        assert_eq!(&rt; told.replies.as_str(), TWO_FLIGHTS_REPLIES);
-        assert_eq!(&rt; (told.audit, told.end.as_str()), (audit, end));
+        for told in &played(&rt, rt.alloc(), &script) {
+            let audit = Audit {
+                lists: 1,
+                delay: 110,
+            };
+            assert_eq!(&rt; told.replies.as_str(), TWO_FLIGHTS_REPLIES);
+            assert_eq!(&rt; (told.audit, told.end.as_str()), (audit, end));
+        }
     }
 }
 
@@ -49,9 +50,10 @@ fn a_pass_has_the_number_of_its_engine(rt: HostRuntime) {
         texts: &[],
         passes: 1,
     };
-    let told = played(&rt, rt.alloc(), &script);
-    let audit = Audit { lists: 0, delay: 0 };
-    assert_eq!(&rt; (told.number, told.audit), (Some(ENGINE), audit));
+    for told in &played(&rt, rt.alloc(), &script) {
+        let audit = Audit { lists: 0, delay: 0 };
+        assert_eq!(&rt; (told.number, told.audit), (Some(ENGINE), audit));
+    }
 }
 
 #[test]
@@ -62,12 +64,13 @@ fn the_desk_after_1024_is_too_many(rt: HostRuntime) {
         texts: &[],
         passes: 1025,
     };
-    let told = played(&rt, rt.alloc(), &script);
-    assert_eq!(&rt; told.replies.as_str(), "TooManyDesks\n0 0 0\n");
-    assert_eq!(&rt;
-        told.end.as_str(),
-        "1024 Ok(Settled { desks: 1024, entries: 0 }) true"
-    );
+    for told in &played(&rt, rt.alloc(), &script) {
+        assert_eq!(&rt; told.replies.as_str(), "TooManyDesks\n0 0 0\n");
+        assert_eq!(&rt;
+            told.end.as_str(),
+            "1024 Ok(Settled { desks: 1024, entries: 0 }) true"
+        );
+    }
 }
 
 /// Another desk's filing elsewhere is answered while a filing is worked out, and hinders it in nothing.
@@ -90,12 +93,13 @@ fn gate_two_desks(rt: HostRuntime) {
 1 {"flight":{"ctot":30600,"delay":0,"eobt":30000,"etot":30600,"exempt":false,"issued":false,"key":"B","reg":"R2"},"msgs":[],"n":3}
 4 0 0
 "#;
-    let told = played(&rt, rt.alloc(), &script);
-    assert_eq!(&rt; told.replies.as_str(), replies);
-    assert_eq!(&rt;
-        told.end.as_str(),
-        "2 Ok(Settled { desks: 2, entries: 4 }) true"
-    );
+    for told in &played(&rt, rt.alloc(), &script) {
+        assert_eq!(&rt; told.replies.as_str(), replies);
+        assert_eq!(&rt;
+            told.end.as_str(),
+            "2 Ok(Settled { desks: 2, entries: 4 }) true"
+        );
+    }
 }
 
 /// A filing that is stale three times is answered in one section, for which the gate is not asked.
@@ -120,12 +124,13 @@ fn three_stale_tries(rt: HostRuntime) {
 1 {"flight":{"ctot":30820,"delay":220,"eobt":30000,"etot":30600,"exempt":false,"issued":false,"key":"F2","reg":"R1"},"msgs":[],"n":4}
 7 2 0
 "#;
-    let told = played(&rt, rt.alloc(), &script);
-    assert_eq!(&rt; told.replies.as_str(), replies);
-    assert_eq!(&rt;
-        told.end.as_str(),
-        "2 Ok(Settled { desks: 2, entries: 5 }) true"
-    );
+    for told in &played(&rt, rt.alloc(), &script) {
+        assert_eq!(&rt; told.replies.as_str(), replies);
+        assert_eq!(&rt;
+            told.end.as_str(),
+            "2 Ok(Settled { desks: 2, entries: 5 }) true"
+        );
+    }
 }
 
 /// The lines of two desks that file 50 flights each over LA and show each of them.
@@ -156,12 +161,13 @@ fn two_threads(rt: HostRuntime) {
         ],
         passes: 2,
     };
-    let told = played(&rt, rt.alloc(), &script);
-    assert_eq!(&rt; (told.audit.lists, told.audit.delay), (1, 110_950));
-    assert_eq!(&rt;
-        told.end.as_str(),
-        "2 Ok(Settled { desks: 2, entries: 201 }) true"
-    );
+    for told in &played(&rt, rt.alloc(), &script) {
+        assert_eq!(&rt; (told.audit.lists, told.audit.delay), (1, 110_950));
+        assert_eq!(&rt;
+            told.end.as_str(),
+            "2 Ok(Settled { desks: 2, entries: 201 }) true"
+        );
+    }
 }
 
 /// The commands that calls like chance have, by a number.
@@ -198,9 +204,10 @@ fn eight_threads(rt: HostRuntime) {
         texts: &[chance.as_str()],
         passes: 8,
     };
-    let told = played(&rt, rt.alloc(), &script);
-    assert_eq!(&rt;
-        told.end.as_str(),
-        "8 Ok(Settled { desks: 8, entries: 1600 }) true"
-    );
+    for told in &played(&rt, rt.alloc(), &script) {
+        assert_eq!(&rt;
+            told.end.as_str(),
+            "8 Ok(Settled { desks: 8, entries: 1600 }) true"
+        );
+    }
 }

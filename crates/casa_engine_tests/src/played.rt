@@ -1,18 +1,22 @@
 //! Scripts of calls that desks make in threads, and what the desks and the engine tell.
 
+ghost use Rattle.std.specs.Prelude.{◌≡◌};
 ghost use Rattle.casa_engine.specs.Ledgers.{IsBlankOf};
 
 use crate::watched::{Signals, Watched};
+use casa_desk::Desk;
 use casa_engine::{Audit, DeskPass, Engine, EngineDesk, blank};
 use casa_flight::{Call, Reply};
 use casa_history::{History, Holds};
 use casa_plain::Plain;
+use casa_shelf::{Shelf, Shelving};
+use casa_view::{Copies, Item, Kept};
 use casa_wire::{read_call, reply_line};
 use std::alloc::Global;
 use std::marker::Brand;
 use std::process::Abort;
-use std::sync::Wait;
 use std::sync::ledger::{Blank, Ledger};
+use std::sync::{Arc, Wait};
 use std::thread;
 use std::thread::Threads;
 
@@ -56,33 +60,28 @@ fn command_of(desk: usize, line: &str) -> Option<&str> {
 
 /// A desk, and the replies that it was given.
 #[derive(Drop)]
-struct Seat<'a, L: Ledger, R> {
-    desk: EngineDesk<'a, L, Watched<'a>, R>,
+struct Seat<D> {
+    desk: D,
     replies: String,
 }
 
 /// Makes a call, and writes its reply.
-fn answer<L: Ledger, R: Wait + Abort>(
-    rt: &R,
-    alloc: Global,
-    seat: &mut Seat<'_, L, R>,
-    command: &str,
-) {
+fn answer<D: Desk>(rt: &impl Abort, alloc: Global, seat: &mut Seat<D>, command: &str) {
     let call = read_call(alloc, command.as_bytes()).expect(rt, "a command");
-    let receipt = seat.desk.answer(&call).expect(rt, "a receipt");
+    let receipt = seat.desk.answer(alloc, &call).expect(rt, "a receipt");
     let line = reply_line(alloc, &receipt).expect(rt, "memory");
     let text = str::from_utf8(&line).expect(rt, "a text");
     write!(seat.replies, "{} {text}", receipt.entry.desk).expect(rt, "memory");
 }
 
 /// Makes a desk's calls of a text.
-fn make_calls<L: Ledger, R: Wait + Abort>(
-    rt: &R,
+fn make_calls<D: Desk>(
+    rt: &impl Abort,
     alloc: Global,
     signals: &Signals,
     text: &str,
     number: usize,
-    seat: &mut Seat<'_, L, R>,
+    seat: &mut Seat<D>,
 ) {
     let mut calls = 0u64;
     for line in text.lines() {
@@ -96,13 +95,13 @@ fn make_calls<L: Ledger, R: Wait + Abort>(
 }
 
 /// Opens desks, and writes why one is refused.
-fn open_desks<'a, L: Ledger, R: Wait + Abort>(
+fn open_desks<'a, K: Kept, L: Ledger, R: Wait + Abort>(
     rt: &'a R,
     alloc: Global,
-    engine: &'a Engine<L, Watched<'a>>,
+    engine: &'a Engine<K, L, Watched<'a>>,
     desks: u32,
     replies: &mut String,
-) -> Vec<Seat<'a, L, R>> {
+) -> Vec<Seat<EngineDesk<'a, K, L, Watched<'a>, R>>> {
     let mut seats = Vec::new(alloc);
     for _ in 0..desks {
         match engine.desk(rt) {
@@ -118,14 +117,19 @@ fn open_desks<'a, L: Ledger, R: Wait + Abort>(
 }
 
 /// Opens the desks of a script, and lets them make its calls, each in a thread of its own. The passes that are handed in.
-fn all_calls<'a, L: Ledger + Send + Sync, R: Threads + Wait + Sync + Abort>(
+fn all_calls<
+    'a,
+    K: Kept<Version: Send + Sync> + Send,
+    L: Ledger + Send + Sync,
+    R: Threads + Wait + Sync + Abort,
+>(
     rt: &'a R,
     alloc: Global,
-    engine: &'a Engine<L, Watched<'a>>,
+    engine: &'a Engine<K, L, Watched<'a>>,
     signals: &Signals,
     script: &Script<'_>,
     replies: &mut String,
-) -> Vec<DeskPass<L>> {
+) -> Vec<DeskPass<K, L>> {
     let mut seats = open_desks(rt, alloc, engine, script.desks, replies);
     for text in script.texts {
         let threads = seats.len().max(1);
@@ -158,26 +162,28 @@ fn is_sequential(rt: &impl Abort, alloc: Global, history: &History<Call, Reply>)
     true
 }
 
-/// What comes of a script on an engine with this ledger.
-fn played_on<L: Ledger + Send + Sync, R: Threads + Wait + Sync + Abort>(
-    rt: &R,
-    alloc: Global,
-    blank: Blank,
-    signals: &Signals,
-    script: &Script<'_>,
-) -> Told
+/// What comes of a script on an engine over this store, with this ledger.
+fn played_over<
+    K: Kept<Version: Send + Sync> + Send,
+    L: Ledger + Send + Sync,
+    R: Threads + Wait + Sync + Abort,
+>(rt: &R, alloc: Global, store: K, blank: Blank, script: &Script<'_>) -> Told
     requires { IsBlankOf L.name L.parts blank.name blank.parts }
 {
-    let engine = Engine::<L, Watched<'_>>::new(alloc, blank, ENGINE, Watched { signals }).expect(
+    let signals = Signals::new(script.meet);
+    let gate = Watched { signals: &signals };
+    let engine = Engine::<K, L, Watched<'_>>::new(alloc, store, blank, ENGINE, gate).expect(
         rt, "memory",
     );
     let mut replies = String::new(alloc);
-    let passes = all_calls(rt, alloc, &engine, signals, script, &mut replies);
+    let passes = all_calls(rt, alloc, &engine, &signals, script, &mut replies);
     let audit = engine.audit(rt).expect(rt, "memory");
     let number = passes.first().map(|pass| pass.pass().number());
     let (history, desks, settled) = engine.close(passes);
     let is_sequential = is_sequential(rt, alloc, &history);
     let end = format!(in alloc; "{desks} {settled:?} {is_sequential}").expect(rt, "memory");
+    let (asked, again, late) = signals.counts();
+    writeln!(replies, "{asked} {again} {late}").expect(rt, "memory");
     Told {
         replies,
         audit,
@@ -186,15 +192,30 @@ fn played_on<L: Ledger + Send + Sync, R: Threads + Wait + Sync + Abort>(
     }
 }
 
-/// What comes of a script on a new engine.
+/// The same over the shelf that is this vector.
+fn played_on<V: Shelving + Send + Sync, L: Ledger + Send + Sync, R: Threads + Wait + Sync + Abort>(
+    rt: &R,
+    alloc: Global,
+    items: &boxcar::Vec<Arc<Item>>,
+    blank: Blank,
+    script: &Script<'_>,
+) -> Told
+    requires vector { items.now ≡ V.shelves }
+    requires ledger { IsBlankOf L.name L.parts blank.name blank.parts }
+{
+    let shelf: Shelf<V, R> = Shelf::new(alloc, items, rt);
+    played_over::<Shelf<V, R>, L, R>(rt, alloc, shelf, blank, script)
+}
+
+/// What comes of a script on a new engine over copies, and on one over a shelf.
 pub fn played<R: Threads + Wait + Sync + Abort>(
     rt: &R,
     alloc: Global,
     script: &Script<'_>,
-) -> Told {
-    let signals = Signals::new(script.meet);
-    let mut told = played_on::<Brand, R>(rt, alloc, blank(), &signals, script);
-    let (asked, again, late) = signals.counts();
-    writeln!(told.replies, "{asked} {again} {late}").expect(rt, "memory");
-    told
+) -> [Told; 2] {
+    let items = boxcar::Vec::new(alloc).expect(rt, "memory");
+    [
+        played_over::<Copies, Brand, R>(rt, alloc, Copies::new(), blank(), script),
+        played_on::<Brand, Brand, R>(rt, alloc, &items, blank(), script),
+    ]
 }

@@ -2,7 +2,7 @@
 
 use casa_engine::{Direct, Gate};
 use casa_flight::{Call, Reply};
-use casa_view::{Board, Change, Copied, Copies, View};
+use casa_view::{Board, Change, Kept, View};
 use std::alloc::{AllocError, Global};
 use std::sync::atomic::{AtomicU64, Ordering};
 use std::thread;
@@ -80,13 +80,13 @@ pub struct Watched<'a> {
     pub signals: &'a Signals,
 }
 
-impl Gate<Board<Copies>> for Watched<'_> {
+impl<K: Kept> Gate<Board<K>> for Watched<'_> {
     fn plan(
         &self,
         alloc: Global,
         desk: u32,
         turn: u32,
-        view: &View<Copied>,
+        view: &View<K::Version>,
         call: &Call,
     ) -> Result<(Reply, Change), AllocError> {
         let signals = self.signals;
@@ -98,6 +98,6 @@ impl Gate<Board<Copies>> for Watched<'_> {
             signals.begun.fetch_add(1, Ordering::SeqCst);
             signals.wait(&signals.answered, turn as u64);
         }
-        Gate::<Board<Copies>>::plan(&Direct, alloc, desk, turn, view, call)
+        Gate::<Board<K>>::plan(&Direct, alloc, desk, turn, view, call)
     }
 }
