@@ -7,7 +7,7 @@ use casa_engine::{Engine, EngineDesk, Gate};
 use casa_flight::{Call, Reply};
 use casa_session::Desk;
 use casa_time::Moment;
-use casa_view::{Board, Copies};
+use casa_view::{Board, Kept};
 use std::alloc::Global;
 use std::sync::Wait;
 use std::sync::ledger::Ledger;
@@ -27,15 +27,15 @@ pub trait DayClock {
 ///
 /// `NoDesk` where 1,024 desks are open, or the engine does not know its desk; `NoMemory` where there is none for the desk or
 /// a tick. The ticks that were accepted before a fault stand.
-pub fn timer<L: Ledger, G: Gate<Board<Copies>>, C: DayClock, R: Wait>(
+pub fn timer<K: Kept, L: Ledger, G: Gate<Board<K>>, C: DayClock, R: Wait>(
     rt: &R,
     alloc: Global,
     clock: &mut C,
-    engine: &Engine<L, G>,
+    engine: &Engine<K, L, G>,
     turns: u32,
 ) -> Result<u32, TimerFault>
     ensures { IfOk result (λ accepted.
-        IsTicked L ⟦<Board<Copies> as World>⟧ (C.coming clock.old) turns accepted) }
+        IsTicked L ⟦<Board<K> as World>⟧ (C.coming clock.old) turns accepted) }
 {
     let pass = engine.desk(rt)?;
     let mut desk = EngineDesk::new(engine, rt, pass);

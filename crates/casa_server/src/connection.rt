@@ -6,8 +6,10 @@ ghost use Rattle.casa_server.specs.Serving.{IsSession};
 
 use casa_commit::World;
 use casa_engine::{DeskPass, Engine, EngineDesk, Gate};
+use casa_flight::{Call, Reply};
+use casa_history::Holds;
 use casa_session::{SessionFault, run};
-use casa_view::{Board, Copies};
+use casa_view::{Board, Kept};
 use std::alloc::Global;
 use std::io::{Read, Write};
 use std::sync::Wait;
@@ -18,40 +20,45 @@ use std::sync::ledger::Ledger;
 /// Its type says that the pass has no receipt: nobody has made a call by it. Since a pass can't be cloned, nobody else
 /// will.
 #[derive(Drop)]
-pub(crate) struct Connection<I, O, L: Ledger> {
+pub(crate) struct Connection<I, O, P: Holds<Call, Reply>> {
     pub(crate) ends: (I, O),
-    pub(crate) pass: DeskPass<L>,
-    ghost unused: { receipts (pass_of pass) ≡ [] },
+    pub(crate) pass: P,
+    ghost unused: { receipts (P.held pass) ≡ [] },
 }
 
-impl<I: Read + Drop, O: Write + Drop, L: Ledger> Connection<I, O, L> {
-    /// Answers the lines of the connection until it ends, says how many there were, and closes it.
-    pub(crate) fn answer<G: Gate<Board<Copies>>, R: Wait>(
-        self,
-        rt: &R,
-        alloc: Global,
-        engine: &Engine<L, G>,
-    ) -> Result<u64, SessionFault>
-        ensures { IsSession L ⟦<Board<Copies> as World>⟧ I.remaining O.contents self.ends result }
-    {
-        let Connection {
-            ends: (mut reader, mut writer),
-            pass,
-        } = self;
-        let (ended, _pass) = session(rt, alloc, engine, pass, &mut reader, &mut writer);
-        ended
-    }
+/// Answers the lines of a connection until it ends, says how many there were, and closes it.
+pub(crate) fn answer<
+    I: Read + Drop,
+    O: Write + Drop,
+    K: Kept,
+    L: Ledger,
+    G: Gate<Board<K>>,
+    R: Wait,
+>(
+    rt: &R,
+    alloc: Global,
+    engine: &Engine<K, L, G>,
+    connection: Connection<I, O, DeskPass<K, L>>,
+) -> Result<u64, SessionFault>
+    ensures { IsSession L ⟦<Board<K> as World>⟧ I.remaining O.contents connection.ends result }
+{
+    let Connection {
+        ends: (mut reader, mut writer),
+        pass,
+    } = connection;
+    let (ended, _pass) = session(rt, alloc, engine, pass, &mut reader, &mut writer);
+    ended
 }
 
 /// Answers the lines of a reader at a writer by the desk of this pass, as every session does. Gives the pass back.
-fn session<L: Ledger, G: Gate<Board<Copies>>, R: Wait, I: Read, O: Write>(
+fn session<K: Kept, L: Ledger, G: Gate<Board<K>>, R: Wait, I: Read, O: Write>(
     rt: &R,
     alloc: Global,
-    engine: &Engine<L, G>,
-    pass: DeskPass<L>,
+    engine: &Engine<K, L, G>,
+    pass: DeskPass<K, L>,
     reader: &mut I,
     writer: &mut O,
-) -> (Result<u64, SessionFault>, DeskPass<L>)
+) -> (Result<u64, SessionFault>, DeskPass<K, L>)
     ensures { Ends ⊤ result.0 (I.remaining reader.old) (I.remaining reader.new)
         (receipts (pass_of pass)) (receipts (pass_of result.1)) (O.contents writer.old) (O.contents writer.new) }
 {

@@ -3,12 +3,12 @@ ghost use Rattle.casa_server.specs.Begun.{connection_of};
 ghost use Rattle.casa_server.specs.Serving.{Serves};
 
 use crate::begun::{Begun, SessionOf, end_all};
-use crate::connection::Connection;
+use crate::connection::{Connection, answer};
 use crate::fault::ServeFault;
 use crate::source::Connections;
 use casa_commit::World;
 use casa_engine::{Engine, Gate};
-use casa_view::{Board, Copies};
+use casa_view::{Board, Kept};
 use std::alloc::Global;
 use std::io::{Read, Write};
 use std::marker::PhantomData;
@@ -37,18 +37,19 @@ pub struct Served {
 /// there is none to keep one connection more; each after the sessions that were begun have ended.
 pub fn serve<
     S: Connections + Drop,
+    K: Kept<Version: Send + Sync> + Send,
     L: Ledger + Send + Sync,
-    G: Gate<Board<Copies>> + Sync,
+    G: Gate<Board<K>> + Sync,
     R: Threads + Wait + Sync,
 >(
     rt: &R,
     alloc: Global,
     source: S,
-    engine: &Engine<L, G>,
+    engine: &Engine<K, L, G>,
     connections: u32,
 ) -> Result<Served, ServeFault>
     ensures sessions { IfOk result (λ served. served.sessions ≡ connections) }
-    ensures served { IfOk result (λ served. Serves L ⟦<Board<Copies> as World>⟧
+    ensures served { IfOk result (λ served. Serves L ⟦<Board<K> as World>⟧
         S.Reader.remaining S.Writer.contents (S.coming source) served) }
 {
     thread::scope(
@@ -63,22 +64,23 @@ fn serve_all<
     's,
     E,
     S: Connections + Drop,
+    K: Kept<Version: Send + Sync> + Send,
     L: Ledger + Send + Sync,
-    G: Gate<Board<Copies>> + Sync,
+    G: Gate<Board<K>> + Sync,
     R: Threads + Wait + Sync,
 >(
     scope: &'s Scope<'s, E>,
     rt: &'s R,
     alloc: Global,
     source: S,
-    engine: &'s Engine<L, G>,
+    engine: &'s Engine<K, L, G>,
     connections: u32,
 ) -> Result<Served, ServeFault>
 where
     S::Reader: 's,
     S::Writer: 's,
     ensures sessions { IfOk result (λ served. served.sessions ≡ connections) }
-    ensures served { IfOk result (λ served. Serves L ⟦<Board<Copies> as World>⟧
+    ensures served { IfOk result (λ served. Serves L ⟦<Board<K> as World>⟧
         S.Reader.remaining S.Writer.contents (S.coming source) served) }
 {
     let begun = begin_all(scope, rt, alloc, source, engine, connections)?;
@@ -94,17 +96,18 @@ fn begin_all<
     's,
     E,
     S: Connections + Drop,
+    K: Kept<Version: Send + Sync> + Send,
     L: Ledger + Send + Sync,
-    G: Gate<Board<Copies>> + Sync,
+    G: Gate<Board<K>> + Sync,
     R: Threads + Wait + Sync,
 >(
     scope: &'s Scope<'s, E>,
     rt: &'s R,
     alloc: Global,
     mut source: S,
-    engine: &'s Engine<L, G>,
+    engine: &'s Engine<K, L, G>,
     connections: u32,
-) -> Result<Vec<Begun<S::Reader, S::Writer, Board<Copies>, L>>, ServeFault>
+) -> Result<Vec<Begun<S::Reader, S::Writer, Board<K>, L>>, ServeFault>
 where
     S::Reader: 's,
     S::Writer: 's,
@@ -129,16 +132,17 @@ fn begin<
     E,
     I: Read + Send + Drop + 's,
     O: Write + Send + Drop + 's,
+    K: Kept<Version: Send + Sync> + Send,
     L: Ledger + Send + Sync,
-    G: Gate<Board<Copies>> + Sync,
+    G: Gate<Board<K>> + Sync,
     R: Threads + Wait + Sync,
 >(
     scope: &'s Scope<'s, E>,
     rt: &'s R,
     alloc: Global,
     ends: (I, O),
-    engine: &'s Engine<L, G>,
-) -> Result<Begun<I, O, Board<Copies>, L>, ServeFault>
+    engine: &'s Engine<K, L, G>,
+) -> Result<Begun<I, O, Board<K>, L>, ServeFault>
     ensures { IfOk result (λ begun. connection_of begun ≡ ends) }
 {
     let connection = Snapshot::of(&ends);
@@ -150,7 +154,7 @@ fn begin<
         answered_by: PhantomData,
     };
     let connection = Connection { ends, pass };
-    let Ok(thread) = scope.spawn_with(promise, move || connection.answer(rt, alloc, engine)) else {
+    let Ok(thread) = scope.spawn_with(promise, move || answer(rt, alloc, engine, connection)) else {
         return Err(ServeFault::SpawnFailed);
     };
     Ok(Begun::Session(thread))

@@ -1,8 +1,0 @@
-use Rattle.casa_server.proofs.Serving.{is_session}
-use Rattle.casa_server.proofs.connection.Connection.answer.Goals as goal
-
-pub returns : goal.returns
-returns g c =
-    let session = c.session-ended in
-    is_session _ _ _ _ c.args.self.ends (session.new.reader, session.new.writer) c.args.self.pass session.result.1 session.result.0
-    c.args.self.unused session.ensures
