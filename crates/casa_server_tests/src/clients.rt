@@ -12,7 +12,7 @@ use std::time::Duration;
 pub struct Talk<'a> {
     pub client: usize,
     pub sent: &'a str,
-    pub reply: &'static str,
+    pub reply: &'a str,
 }
 
 /// The opening of a regulation with ten slots, as the first call.

@@ -1,18 +1,20 @@
 //! A server whose connections are in memory.
 
-ghost use Rattle.std.specs.Prelude.{None};
+ghost use Rattle.std.specs.Prelude.{◌≡◌, None};
 ghost use Rattle.casa_engine.specs.Ledgers.{IsBlankOf};
 
 use crate::clients::OPENING;
 use casa_engine::{Audit, Direct, Engine, blank};
 use casa_server::{Connections, ServeFault, Served, serve};
+use casa_shelf::{Shelf, Shelving};
+use casa_view::{Copies, Item, Kept};
 use std::alloc::Global;
 use std::io;
 use std::io::Sink;
 use std::marker::Brand;
 use std::process::Abort;
-use std::sync::Wait;
 use std::sync::ledger::{Blank, Ledger};
+use std::sync::{Arc, Wait};
 use std::test::Fail;
 use std::thread::Threads;
 
@@ -37,19 +39,50 @@ impl<'a> Connections for Sent<'a> {
     }
 }
 
-/// What is seen of so many of these connections: what became of them, and what the engine has then.
-fn seen<L: Ledger + Send + Sync, R: Threads + Wait + Abort + Sync>(
+/// What became of connections, and what the engine has then.
+type Seen = (Result<Served, ServeFault>, Audit);
+
+/// What is seen of so many of these connections on a new engine over this store.
+fn seen_over<
+    K: Kept<Version: Send + Sync> + Send,
+    L: Ledger + Send + Sync,
+    R: Threads + Wait + Abort + Sync,
+>(rt: &R, alloc: Global, store: K, blank: Blank, sent: Sent, connections: u32) -> Seen
+    requires { IsBlankOf L.name L.parts blank.name blank.parts }
+{
+    let engine = Engine::<K, L, Direct>::new(alloc, store, blank, 7, Direct).expect(rt, "memory");
+    let served = serve(rt, alloc, sent, &engine, connections);
+    (served, engine.audit(rt).expect(rt, "memory"))
+}
+
+/// The same over the shelf that is this vector.
+fn seen_on<V: Shelving + Send + Sync, L: Ledger + Send + Sync, R: Threads + Wait + Abort + Sync>(
     rt: &R,
     alloc: Global,
+    items: &boxcar::Vec<Arc<Item>>,
     blank: Blank,
     sent: Sent,
     connections: u32,
-) -> (Result<Served, ServeFault>, Audit)
-    requires { IsBlankOf L.name L.parts blank.name blank.parts }
+) -> Seen
+    requires vector { items.now ≡ V.shelves }
+    requires ledger { IsBlankOf L.name L.parts blank.name blank.parts }
 {
-    let engine = Engine::<L, Direct>::new(alloc, blank, 7, Direct).expect(rt, "memory");
-    let served = serve(rt, alloc, sent, &engine, connections);
-    (served, engine.audit(rt).expect(rt, "memory"))
+    let shelf: Shelf<V, R> = Shelf::new(alloc, items, rt);
+    seen_over::<Shelf<V, R>, L, R>(rt, alloc, shelf, blank, sent, connections)
+}
+
+/// What is seen of so many of these connections over copies, and over a shelf.
+fn seen<R: Threads + Wait + Abort + Sync>(
+    rt: &R,
+    alloc: Global,
+    sent: Sent,
+    connections: u32,
+) -> [Seen; 2] {
+    let items = boxcar::Vec::new(alloc).expect(rt, "memory");
+    [
+        seen_over::<Copies, Brand, R>(rt, alloc, Copies::new(), blank(), sent, connections),
+        seen_on::<Brand, Brand, R>(rt, alloc, &items, blank(), sent, connections),
+    ]
 }
 
 /// The lines of each connection are answered; one that sends a line that is too long is counted, and those that are not
@@ -67,10 +100,8 @@ fn connections_in_memory(rt: HostRuntime) -> Result<(), Fail> {
         faulted: 1,
     };
     let none_open = Audit { lists: 0, delay: 0 };
-    assert_eq!(&rt;
-        seen::<Brand, _>(&rt, alloc, blank(), sent, 2),
-        (Ok(two), none_open)
-    );
+    let wanted = (Ok(two), none_open);
+    assert_eq!(&rt; seen(&rt, alloc, sent, 2), [wanted, wanted]);
     Ok(())
 }
 
@@ -84,9 +115,7 @@ fn connections_that_run_out(rt: HostRuntime) -> Result<(), Fail> {
     };
     let open = Audit { lists: 1, delay: 0 };
     let fault = ServeFault::AcceptFailed;
-    assert_eq!(&rt;
-        seen::<Brand, _>(&rt, alloc, blank(), sent, 3),
-        (Err(fault), open)
-    );
+    let wanted = (Err(fault), open);
+    assert_eq!(&rt; seen(&rt, alloc, sent, 3), [wanted, wanted]);
     Ok(())
 }

@@ -1,6 +1,6 @@
 //! A server, its clients and a timer on one engine.
 
-ghost use Rattle.std.specs.Prelude.{Some};
+ghost use Rattle.std.specs.Prelude.{◌≡◌, Some};
 ghost use Rattle.casa_engine.specs.Ledgers.{IsBlankOf};
 
 use crate::clients::{
@@ -8,13 +8,15 @@ use crate::clients::{
 };
 use casa_engine::{Direct, Engine, blank};
 use casa_server::{DayClock, ServeFault, Served, TimerFault, serve, timer};
+use casa_shelf::{Shelf, Shelving};
 use casa_time::Moment;
+use casa_view::{Item, Kept};
 use std::alloc::Global;
 use std::marker::Brand;
 use std::net::{Net, TcpListener, TcpStream};
 use std::process::Abort;
-use std::sync::Wait;
 use std::sync::ledger::{Blank, Ledger};
+use std::sync::{Arc, Wait};
 use std::test::Fail;
 use std::thread;
 use std::thread::Threads;
@@ -58,28 +60,20 @@ struct Seen {
     ticked: Result<u32, TimerFault>,
 }
 
-/// Plays a scene on a new engine.
-fn play<
+/// Plays a scene with an engine.
+fn play_with<
+    K: Kept<Version: Send + Sync> + Send,
     L: Ledger + Send + Sync,
     R: Net<Listener = TcpListener, Stream = TcpStream> + Threads + Wait + Abort + Sync,
->(rt: &R, alloc: Global, blank: Blank, scene: Scene) -> Result<Seen, Fail>
-    requires { IsBlankOf L.name L.parts blank.name blank.parts }
-{
-    let engine = Engine::<L, Direct>::new(alloc, blank, 7, Direct)?;
-    play_on(rt, alloc, &engine, scene)
-}
-
-/// Plays a scene on an engine.
-fn play_on<
-    L: Ledger + Send + Sync,
-    R: Net<Listener = TcpListener, Stream = TcpStream> + Threads + Wait + Abort + Sync,
->(rt: &R, alloc: Global, engine: &Engine<L, Direct>, scene: Scene) -> Result<Seen, Fail> {
+>(rt: &R, alloc: Global, engine: &Engine<K, L, Direct>, scene: Scene) -> Seen {
     for _ in 0..scene.desks {
-        engine.desk(rt)?;
+        engine.desk(rt).expect(rt, "a desk");
     }
-    let listener = TcpListener::bind(rt, "127.0.0.1:0")?;
-    listener.set_nonblocking(!scene.waits)?;
-    let server = listener.local_addr()?;
+    let listener = TcpListener::bind(rt, "127.0.0.1:0").expect(rt, "a port");
+    listener
+        .set_nonblocking(!scene.waits)
+        .expect(rt, "a listener");
+    let server = listener.local_addr().expect(rt, "an address");
     let (served, (replied, ticked)) = thread::join(
         rt,
         || serve(rt, alloc, &listener, engine, scene.connections),
@@ -94,11 +88,37 @@ fn play_on<
             )
         },
     );
-    Ok(Seen {
+    Seen {
         served,
         replied,
         ticked,
-    })
+    }
+}
+
+/// Plays a scene on a new engine with this ledger, over the shelf that is this vector.
+fn play_on<
+    V: Shelving + Send + Sync,
+    L: Ledger + Send + Sync,
+    R: Net<Listener = TcpListener, Stream = TcpStream> + Threads + Wait + Abort + Sync,
+>(rt: &R, alloc: Global, items: &boxcar::Vec<Arc<Item>>, blank: Blank, scene: Scene) -> Seen
+    requires vector { items.now ≡ V.shelves }
+    requires ledger { IsBlankOf L.name L.parts blank.name blank.parts }
+{
+    let shelf: Shelf<V, R> = Shelf::new(alloc, items, rt);
+    let engine = Engine::<Shelf<V, R>, L, Direct>::new(alloc, shelf, blank, 7, Direct).expect(
+        rt, "memory",
+    );
+    play_with(rt, alloc, &engine, scene)
+}
+
+/// Plays a scene on a new engine over a shelf.
+fn play<R: Net<Listener = TcpListener, Stream = TcpStream> + Threads + Wait + Abort + Sync>(
+    rt: &R,
+    alloc: Global,
+    scene: Scene,
+) -> Seen {
+    let items = boxcar::Vec::new(alloc).expect(rt, "memory");
+    play_on::<Brand, Brand, R>(rt, alloc, &items, blank(), scene)
 }
 
 const SERVED: Served = Served {
@@ -124,7 +144,7 @@ fn two_connections(rt: HostRuntime) -> Result<(), Fail> {
         replied: true,
         ticked: Ok(1),
     };
-    assert_eq!(&rt; play::<Brand, _>(&rt, rt.alloc(), blank(), scene)?, seen);
+    assert_eq!(&rt; play(&rt, rt.alloc(), scene), seen);
     Ok(())
 }
 
@@ -159,7 +179,7 @@ fn a_line_that_is_too_long(rt: HostRuntime) -> Result<(), Fail> {
         replied: true,
         ticked: Ok(0),
     };
-    assert_eq!(&rt; play::<Brand, _>(&rt, rt.alloc(), blank(), scene)?, seen);
+    assert_eq!(&rt; play(&rt, rt.alloc(), scene), seen);
     Ok(())
 }
 
@@ -181,13 +201,13 @@ fn a_clock_that_goes_back(rt: HostRuntime) -> Result<(), Fail> {
         replied: true,
         ticked: Ok(2),
     };
-    assert_eq!(&rt; play::<Brand, _>(&rt, rt.alloc(), blank(), scene)?, seen);
+    assert_eq!(&rt; play(&rt, rt.alloc(), scene), seen);
     Ok(())
 }
 
 /// Where all desks are open, a connection is closed, and the timer has no desk either.
 #[test]
-fn a_connection_that_is_refused(rt: HostRuntime) -> Result<(), Fail> {
+fn a_connection_that_is_refused(rt: HostRuntime) {
     let scene = Scene {
         desks: 1_024,
         waits: true,
@@ -206,13 +226,12 @@ fn a_connection_that_is_refused(rt: HostRuntime) -> Result<(), Fail> {
         replied: true,
         ticked: Err(TimerFault::NoDesk),
     };
-    assert_eq!(&rt; play::<Brand, _>(&rt, rt.alloc(), blank(), scene)?, seen);
-    Ok(())
+    assert_eq!(&rt; play(&rt, rt.alloc(), scene), seen);
 }
 
 /// What a client sent of a line before it ended is answered as a line, and is no fault of the session.
 #[test]
-fn a_line_that_breaks_off(rt: HostRuntime) -> Result<(), Fail> {
+fn a_line_that_breaks_off(rt: HostRuntime) {
     let scene = Scene {
         desks: 0,
         waits: true,
@@ -231,13 +250,12 @@ fn a_line_that_breaks_off(rt: HostRuntime) -> Result<(), Fail> {
         replied: true,
         ticked: Ok(0),
     };
-    assert_eq!(&rt; play::<Brand, _>(&rt, rt.alloc(), blank(), scene)?, seen);
-    Ok(())
+    assert_eq!(&rt; play(&rt, rt.alloc(), scene), seen);
 }
 
 /// A server whose listener gives no connection ends by that fault.
 #[test]
-fn a_listener_that_fails(rt: HostRuntime) -> Result<(), Fail> {
+fn a_listener_that_fails(rt: HostRuntime) {
     let scene = Scene {
         desks: 0,
         waits: false,
@@ -252,6 +270,5 @@ fn a_listener_that_fails(rt: HostRuntime) -> Result<(), Fail> {
         replied: true,
         ticked: Ok(0),
     };
-    assert_eq!(&rt; play::<Brand, _>(&rt, rt.alloc(), blank(), scene)?, seen);
-    Ok(())
+    assert_eq!(&rt; play(&rt, rt.alloc(), scene), seen);
 }
