@@ -5,15 +5,17 @@ ghost use Rattle.casa_engine.specs.Ledgers.{IsBlankOf};
 
 use crate::fault::ProgramFault;
 use casa_engine::{Direct, Engine, blank};
-use casa_server::{DayClock, Served, moment_at, serve, timer};
+use casa_server::{DayClock, ServeFault, Served, moment_at, serve, timer};
+use casa_shelf::{Shelf, Shelving};
 use casa_time::Moment;
+use casa_view::{Item, Kept};
 use jiff::Timestamp;
 use jiff::civil::Date;
 use std::alloc::Global;
 use std::marker::Brand;
 use std::net::{Ipv4Addr, Net, TcpListener, TcpStream};
-use std::sync::Wait;
 use std::sync::ledger::{Blank, Ledger};
+use std::sync::{Arc, Wait};
 use std::thread;
 use std::thread::Threads;
 use std::time::{Clock, Duration};
@@ -62,38 +64,62 @@ pub fn serve_desks<
     let Ok(listener) = TcpListener::bind(rt, (Ipv4Addr::LOCALHOST, port)) else {
         return Err(ProgramFault::BindFailed);
     };
-    serve_on::<Brand, R>(rt, alloc, &listener, blank(), connections, timing)
+    let items = boxcar::Vec::new(alloc)?;
+    serve_on::<Brand, Brand, R>(rt, alloc, &listener, &items, blank(), connections, timing)
 }
 
-/// Serves the connections of this listener on a new engine, whose ledger is this one.
+/// Serves the connections of this listener on a new engine, whose ledger is this one, and whose versions lie on the shelf
+/// that is this vector.
 fn serve_on<
+    V: Shelving + Send + Sync,
     L: Ledger + Send + Sync,
     R: Net<Listener = TcpListener, Stream = TcpStream> + Threads + Wait + Clock + Sync,
 >(
     rt: &R,
     alloc: Global,
     listener: &TcpListener,
+    items: &boxcar::Vec<Arc<Item>>,
     blank: Blank,
     connections: u32,
     timing: Option<Timing>,
 ) -> Result<Served, ProgramFault>
-    requires { IsBlankOf L.name L.parts blank.name blank.parts }
+    requires vector { items.now ≡ V.shelves }
+    requires ledger { IsBlankOf L.name L.parts blank.name blank.parts }
     ensures { IfOk result (λ served. served.sessions ≡ connections) }
 {
-    let engine = Engine::<L, Direct>::new(alloc, blank, ENGINE, Direct)?;
+    let shelf: Shelf<V, R> = Shelf::new(alloc, items, rt);
+    let engine = Engine::<Shelf<V, R>, L, Direct>::new(alloc, shelf, blank, ENGINE, Direct)?;
+    Ok(serve_by(rt, alloc, listener, &engine, connections, timing)?)
+}
+
+/// Serves the connections of this listener by the desks of this engine, while the timer moves its clock.
+fn serve_by<
+    K: Kept<Version: Send + Sync> + Send,
+    L: Ledger + Send + Sync,
+    R: Threads + Wait + Clock + Sync,
+>(
+    rt: &R,
+    alloc: Global,
+    listener: &TcpListener,
+    engine: &Engine<K, L, Direct>,
+    connections: u32,
+    timing: Option<Timing>,
+) -> Result<Served, ServeFault>
+    ensures { IfOk result (λ served. served.sessions ≡ connections) }
+{
     let (served, ()) = thread::join(
         rt,
-        || serve(rt, alloc, listener, &engine, connections),
-        || keep_time(rt, alloc, &engine, timing),
+        || serve(rt, alloc, listener, engine, connections),
+        || keep_time(rt, alloc, engine, timing),
     );
-    Ok(served?)
+    served
 }
 
 /// Moves the clock of the engine, if it is to be moved.
-fn keep_time<L: Ledger + Send + Sync, R: Threads + Wait + Clock + Sync>(
+fn keep_time<K: Kept, L: Ledger + Send + Sync, R: Threads + Wait + Clock + Sync>(
     rt: &R,
     alloc: Global,
-    engine: &Engine<L, Direct>,
+    engine: &Engine<K, L, Direct>,
     timing: Option<Timing>,
 ) {
     let Some(Timing { day, turns }) = timing else {
