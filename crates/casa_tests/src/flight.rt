@@ -20,17 +20,25 @@ fn fault_of(
     Plan::new(alloc, key, moment(rt, eobt), taxi, via, Sts::Plain).err()
 }
 
+/// Whether a flight, a location and a regulation have this text as their name.
+fn is_name(rt: &impl Abort, text: &[u8]) -> bool {
+    key(rt, text).as_bytes() == text
+        && loc(rt, text).as_bytes() == text
+        && reg(rt, text).as_bytes() == text
+}
+
+/// Whether no flight, no location and no regulation can have this text as its name.
+fn is_no_name(text: &[u8]) -> bool {
+    Key::new(text).is_none() && Loc::new(text).is_none() && RegId::new(text).is_none()
+}
+
 #[test]
 fn names_have_1_to_10_letters_and_digits(rt: HostRuntime) {
     for text in [b"A".as_slice(), b"Z09", b"ABCDEFGHIJ"] {
-        assert!(&rt; Key::new(text).is_some_and(|key| key.as_bytes() == text));
-        assert!(&rt; Loc::new(text).is_some_and(|loc| loc.as_bytes() == text));
-        assert!(&rt; RegId::new(text).is_some_and(|id| id.as_bytes() == text));
+        assert!(&rt; is_name(&rt, text));
     }
     for text in [b"".as_slice(), b"a1", b"A B", b"ABCDEFGHIJK", b"A/"] {
-        assert!(&rt; Key::new(text).is_none());
-        assert!(&rt; Loc::new(text).is_none());
-        assert!(&rt; RegId::new(text).is_none());
+        assert!(&rt; is_no_name(text));
     }
 }
 
@@ -58,15 +66,17 @@ fn plan(rt: &impl Abort, alloc: Global, name: &[u8], eto: u32) -> Plan {
     Plan::new(alloc, b"A", moment(rt, 30000), 600, &via, Sts::Head).expect(rt, "a plan")
 }
 
+/// The off-block time of a plan, its taxi time and its take-off time, in seconds.
+fn times(plan: &Plan) -> (u32, u32, u32) {
+    (plan.eobt().secs(), plan.taxi(), plan.etot())
+}
+
 #[test]
 fn a_plan_has_its_parts(rt: HostRuntime) {
     let plan = plan(&rt, rt.alloc(), b"LA", 36000);
-    assert_eq!(&rt;
-        (plan.eobt().secs(), plan.taxi(), plan.etot()),
-        (30000, 600, 30600)
-    );
-    assert_eq!(&rt; (plan.key(), plan.sts()), (key(&rt, b"A"), Sts::Head));
-    assert_eq!(&rt; plan.via(), [over(&rt, b"LA", 36000)].as_slice());
+    assert_eq!(&rt; times(&plan), (30000, 600, 30600));
+    assert!(&rt; plan.key() == key(&rt, b"A") && plan.sts() == Sts::Head);
+    assert!(&rt; plan.via() == [over(&rt, b"LA", 36000)].as_slice());
 }
 
 /// The second at which flight A, which crosses a location at this second, is subject to R1 at LA from 36000 to 37200.
@@ -101,14 +111,12 @@ fn a_flight_is_subject_by_its_planned_time(rt: HostRuntime) {
 
 #[test]
 fn refusals_have_a_code_and_a_name(rt: HostRuntime) {
-    assert_eq!(&rt;
-        (Refusal::Duplicate.code(), Refusal::Duplicate.name()),
-        (1, "Duplicate")
-    );
-    assert_eq!(&rt;
-        (Refusal::BackInTime.code(), Refusal::BackInTime.name()),
-        (9, "BackInTime")
-    );
+    for (refusal, code, name) in [
+        (Refusal::Duplicate, 1, "Duplicate"),
+        (Refusal::BackInTime, 9, "BackInTime"),
+    ] {
+        assert_eq!(&rt; (refusal.code(), refusal.name()), (code, name));
+    }
 }
 
 /// A plan, made again where memory was refused and nothing else.
@@ -169,16 +177,36 @@ fn list_reply(rt: &impl Abort, alloc: Global) -> ListReply {
     }
 }
 
+/// One message.
+fn messages(rt: &impl Abort, alloc: Global) -> Messages {
+    let all = vec![in alloc; Message::Slc(key(rt, b"A"))].expect(rt, "memory");
+    Messages::from_vec(all).expect(rt, "memory")
+}
+
+/// The reply with that list and that message.
+fn listed(rt: &impl Abort, alloc: Global) -> Reply {
+    Reply::Answered(Answer::List(list_reply(rt, alloc)), messages(rt, alloc))
+}
+
+/// A copy of a reply equals it.
+fn is_copied(rt: &impl Abort, reply: &Reply) {
+    assert!(rt; reply.try_clone().expect(rt, "memory") == *reply);
+}
+
+/// How many rows and messages a reply has, which tells a list.
+fn counts(reply: &Reply) -> Option<(usize, usize)> {
+    match reply {
+        Reply::Answered(Answer::List(list), messages) => {
+            Some((list.rows.as_slice().len(), messages.as_slice().len()))
+        }
+        _ => None,
+    }
+}
+
 #[test]
 fn a_copied_reply_equals_its_source(rt: HostRuntime) {
-    let list = list_reply(&rt, rt.alloc());
-    assert_eq!(&rt; list.rows.as_slice().len(), 1);
-    let messages = Messages::from_vec(vec![in rt.alloc(); Message::Slc(key(&rt, b"A"))].expect(
-        &rt, "memory",
-    )).expect(&rt, "memory");
-    assert_eq!(&rt; messages.as_slice().len(), 1);
-    let reply = Reply::Answered(Answer::List(list), messages);
-    assert!(&rt;
-        reply.try_clone().expect(&rt, "memory") == reply && reply != Reply::Refused(Refusal::Late)
-    );
+    let reply = listed(&rt, rt.alloc());
+    assert!(&rt; counts(&reply) == Some((1, 1)));
+    is_copied(&rt, &reply);
+    assert!(&rt; reply != Reply::Refused(Refusal::Late));
 }

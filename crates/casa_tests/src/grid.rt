@@ -1,6 +1,6 @@
 //! Profiles and slots.
 
-use crate::parts::{moment, period};
+use crate::parts::{moment, period, shows};
 use casa_grid::{Grid, Period, Place, Profile, ProfileFault};
 use std::alloc::{AllocError, Global};
 use std::process::Abort;
@@ -25,9 +25,23 @@ const TIMES_OVER: [(u32, Place, u32); 4] = [
     (36100, Place::Over, 43200),
 ];
 
+/// Periods, each with its begin, its end and its rate, and the fault that they have.
+const FAULTS: &[(&[(u32, u32, u32)], ProfileFault)] = &[
+    (&[], ProfileFault::NoPeriods),
+    (&[(0, 1, 1); 25], ProfileFault::TooManyPeriods),
+    (&[(0, 10, 1), (20, 30, 1)], ProfileFault::Gap),
+    (&[(0, 10, 601)], ProfileFault::BadRate),
+    (&[(0, 86401, 1)], ProfileFault::TooLong),
+];
+
 /// The fault of these periods, if they have one.
-fn fault_of(alloc: Global, periods: &[Period]) -> Option<ProfileFault> {
-    Profile::new(alloc, periods).err()
+fn fault_of(rt: &impl Abort, alloc: Global, periods: &[(u32, u32, u32)]) -> Option<ProfileFault> {
+    let mut all = Vec::new(alloc);
+    for (begin, until, rate) in periods {
+        all.push(period(rt, *begin, *until, *rate))
+            .expect(rt, "memory");
+    }
+    Profile::new(alloc, all.as_slice()).err()
 }
 
 /// The slots of two hours from 36000 on, with 28 flights per hour.
@@ -36,13 +50,18 @@ fn two_hours(rt: &impl Abort, alloc: Global) -> Grid {
     Grid::of(alloc, &profile).expect(rt, "memory")
 }
 
+/// The second at which slot `k` begins.
+fn begin(rt: &impl Abort, grid: &Grid, k: usize) -> u32 {
+    assert!(rt; k < grid.len());
+    grid.begin(k).secs()
+}
+
 #[test]
 fn rate_28_gives_56_slots_in_two_hours(rt: HostRuntime) {
     let grid = two_hours(&rt, rt.alloc());
-    assert_eq!(&rt; grid.len(), 56);
-    for (k, begin) in BEGINS {
-        assert!(&rt; k < grid.len());
-        assert_eq!(&rt; grid.begin(k).secs(), begin, "slot {k}");
+    assert!(&rt; grid.len() == 56);
+    for (k, at) in BEGINS {
+        assert_eq!(&rt; begin(&rt, &grid, k), at, "slot {k}");
     }
 }
 
@@ -61,48 +80,45 @@ fn slots_are_asked_for_and_held(rt: HostRuntime) {
     }
 }
 
+/// The calculated time over that a place gives, in seconds.
+fn cto(rt: &impl Abort, grid: &Grid, eto: u32, place: Place) -> u32 {
+    grid.cto(moment(rt, eto), place).secs()
+}
+
 #[test]
 fn a_place_gives_the_later_time(rt: HostRuntime) {
     let grid = two_hours(&rt, rt.alloc());
-    for (eto, place, cto) in TIMES_OVER {
-        let given = grid.cto(moment(&rt, eto), place);
-        assert_eq!(&rt; given.secs(), cto, "from {eto}");
+    for (eto, place, later) in TIMES_OVER {
+        assert_eq!(&rt; cto(&rt, &grid, eto, place), later, "from {eto}");
     }
+}
+
+/// A copy of the profile and that of its slots equal it.
+fn is_copied(rt: &impl Abort, alloc: Global, profile: &Profile) {
+    assert!(rt; copy(rt, profile) == *profile);
+    assert!(rt; *slots_of(rt, alloc, profile).profile() == *profile);
 }
 
 #[test]
 fn a_profile_is_its_periods(rt: HostRuntime) {
-    let alloc = rt.alloc();
     let periods = [period(&rt, 36000, 43200, 28)];
-    let profile = Profile::new(alloc, &periods).expect(&rt, "a profile");
-    assert_eq!(&rt; profile.periods(), periods.as_slice());
-    let (start, end) = profile.span();
-    assert_eq!(&rt; (start.secs(), end.secs()), (36000, 43200));
-    assert!(&rt; profile.clone().expect(&rt, "memory") == profile);
-    assert!(&rt; *Grid::of(alloc, &profile).expect(&rt, "memory").profile() == profile);
+    let profile = made(&rt, rt.alloc(), &periods);
+    assert!(&rt; profile.periods() == periods.as_slice());
+    assert_eq!(&rt; profile.span(), (moment(&rt, 36000), moment(&rt, 43200)));
+    is_copied(&rt, rt.alloc(), &profile);
 }
 
 #[test]
 fn each_fault_has_its_name(rt: HostRuntime) {
-    let alloc = rt.alloc();
-    assert_eq!(&rt; fault_of(alloc, &[]), Some(ProfileFault::NoPeriods));
-    let many = [period(&rt, 0, 1, 1); 25];
-    assert_eq!(&rt; fault_of(alloc, &many), Some(ProfileFault::TooManyPeriods));
-    let apart = [period(&rt, 0, 10, 1), period(&rt, 20, 30, 1)];
-    assert_eq!(&rt; fault_of(alloc, &apart), Some(ProfileFault::Gap));
-    let fast = [period(&rt, 0, 10, 601)];
-    assert_eq!(&rt; fault_of(alloc, &fast), Some(ProfileFault::BadRate));
-    let long = [period(&rt, 0, 86401, 1)];
-    assert_eq!(&rt; fault_of(alloc, &long), Some(ProfileFault::TooLong));
-    let shown = format!(in alloc;
-        "{}: {}",
-        ProfileFault::BadRate.name(),
-        ProfileFault::BadRate
-    )
-    .expect(&rt, "memory");
-    assert_eq!(&rt;
-        shown.as_str(),
-        "BadRate: a rate is above 600 flights per hour"
+    for (periods, fault) in FAULTS {
+        assert_eq!(&rt; fault_of(&rt, rt.alloc(), periods), Some(*fault));
+    }
+    let fast = ProfileFault::BadRate;
+    shows(
+        &rt,
+        rt.alloc(),
+        &format_args!("{}: {fast}", fast.name()),
+        "BadRate: a rate is above 600 flights per hour",
     );
 }
 
@@ -111,7 +127,7 @@ fn made(rt: &impl Abort, alloc: Global, periods: &[Period]) -> Profile {
     match Profile::new(alloc, periods) {
         Ok(profile) => profile,
         Err(fault) => {
-            assert_eq!(rt; fault, ProfileFault::NoMemory);
+            assert!(rt; fault == ProfileFault::NoMemory);
             Profile::new(alloc, periods).expect(rt, "a profile")
         }
     }
@@ -139,6 +155,6 @@ fn copy(rt: &impl Abort, profile: &Profile) -> Profile {
 fn a_refused_growth_is_answered(rt: HostRuntime) {
     let periods = [period(&rt, 0, 60, 600), period(&rt, 60, 120, 0)];
     let profile = made(&rt, rt.alloc(), &periods);
-    assert_eq!(&rt; slots_of(&rt, rt.alloc(), &profile).len(), 10);
+    assert!(&rt; slots_of(&rt, rt.alloc(), &profile).len() == 10);
     assert!(&rt; copy(&rt, &profile) == profile);
 }

@@ -21,6 +21,18 @@ fn receive(rt: &impl Abort, pass: &mut Pass<u32, u32>, position: usize, entry: E
     pass.push(Receipt { position, entry });
 }
 
+/// The desk, the call and the reply of the entry at a position, where there is one.
+fn entry_at(history: &History<u32, u32>, position: usize) -> Option<(u32, u32, u32)> {
+    let entry = history.entry(position)?;
+    Some((entry.desk, entry.call, entry.reply))
+}
+
+/// The position and the call of the last receipt of a pass, where it has one.
+fn last_receipt(pass: &Pass<u32, u32>) -> Option<(usize, u32)> {
+    let last = pass.pass().last()?;
+    Some((last.position, last.entry.call))
+}
+
 /// A history in which desk 0 made the calls 1 and 3 and desk 2 made the call 2.
 fn three_calls(rt: &impl Abort, alloc: Global) -> History<u32, u32> {
     let mut history = History::new(alloc);
@@ -45,18 +57,28 @@ fn second_pass(rt: &impl Abort, alloc: Global, position: usize, reply: u32) -> P
     pass
 }
 
+/// The history of `three_calls` has an entry at 3, and none at 0 and at 4.
+fn has_three_calls(rt: &impl Abort, history: &History<u32, u32>) {
+    assert_eq!(rt;
+        (history.len(), entry_at(history, 3)),
+        (3, Some((0, 3, 30)))
+    );
+    assert!(rt; history.entry(0).is_none() && history.entry(4).is_none());
+}
+
 #[test]
 fn a_history_and_a_pass_grow(rt: HostRuntime) {
-    let history = three_calls(&rt, rt.alloc());
-    assert_eq!(&rt; history.len(), 3);
-    assert!(&rt; history.entry(0).is_none());
-    assert!(&rt; history.entry(4).is_none());
-    let last = history.entry(3).expect(&rt, "the last entry");
-    assert_eq!(&rt; (last.desk, last.call, last.reply), (0, 3, 30));
+    has_three_calls(&rt, &three_calls(&rt, rt.alloc()));
     let pass = first_pass(&rt, rt.alloc());
-    assert_eq!(&rt; (pass.number(), pass.desk(), pass.calls()), (7, 0, 2));
-    let last = pass.pass().last().expect(&rt, "the last receipt");
-    assert_eq!(&rt; (last.position, last.entry.call), (3, 3));
+    assert_eq!(&rt;
+        (
+            pass.number(),
+            pass.desk(),
+            pass.calls(),
+            last_receipt(&pass)
+        ),
+        (7, 0, 2, Some((3, 3)))
+    );
 }
 
 /// What is settled of the history of `three_calls` with these passes.
@@ -82,43 +104,68 @@ fn passes(rt: &impl Abort, alloc: Global, idle_desk: u32) -> Vec<Pass<u32, u32>>
     vec![in alloc; first, second, Pass::new(alloc, 7, idle_desk)].expect(rt, "memory")
 }
 
+/// What is settled with three passes, with the first of them alone, and without the first.
+fn settled_in_part(
+    rt: &impl Abort,
+    alloc: Global,
+    all: &[Pass<u32, u32>],
+) -> [Result<Settled, Torn>; 3] {
+    assert!(rt; all.len() == 3);
+    [
+        settled(rt, alloc, all),
+        settled(rt, alloc, &all[..1]),
+        settled(rt, alloc, &all[1..]),
+    ]
+}
+
 #[test]
 fn desks_are_settled_or_torn(rt: HostRuntime) {
-    let alloc = rt.alloc();
     let (desks, entries) = (3, 3);
-    let all = passes(&rt, alloc, 1);
-    let all = all.as_slice();
-    assert_eq!(&rt; all.len(), 3);
-    assert_eq!(&rt; settled(&rt, alloc, all), Ok(Settled { desks, entries }));
-    assert_eq!(&rt; settled(&rt, alloc, &all[..1]), Err(Torn(2)));
-    assert_eq!(&rt; settled(&rt, alloc, &all[1..]), Err(Torn(0)));
+    let all = passes(&rt, rt.alloc(), 1);
+    assert_eq!(&rt;
+        settled_in_part(&rt, rt.alloc(), all.as_slice()),
+        [Ok(Settled { desks, entries }), Err(Torn(2)), Err(Torn(0))]
+    );
 }
 
 #[test]
 fn desks_with_other_receipts_are_torn(rt: HostRuntime) {
     let alloc = rt.alloc();
-    assert_eq!(&rt; settled_with(&rt, alloc, 2, 21), Err(Torn(2)));
-    assert_eq!(&rt; settled_with(&rt, alloc, 1, 20), Err(Torn(2)));
     let twice = passes(&rt, alloc, 0);
-    assert_eq!(&rt; settled(&rt, alloc, twice.as_slice()), Err(Torn(0)));
+    assert_eq!(&rt;
+        [
+            settled_with(&rt, alloc, 2, 21),
+            settled_with(&rt, alloc, 1, 20),
+            settled(&rt, alloc, twice.as_slice()),
+        ],
+        [Err(Torn(2)), Err(Torn(2)), Err(Torn(0))]
+    );
+}
+
+/// Appends the first entry of a history, again where memory was refused, which has changed nothing.
+fn append_first(rt: &impl Abort, history: &mut History<u32, u32>) {
+    if history.reserve().is_err() {
+        assert!(rt; history.len() == 0);
+        history.reserve().expect(rt, "memory");
+    }
+    history.push(entry(0, 1, 10));
+}
+
+/// Appends the first receipt of a pass likewise.
+fn receive_first(rt: &impl Abort, pass: &mut Pass<u32, u32>) {
+    if pass.reserve().is_err() {
+        assert!(rt; pass.calls() == 0);
+        pass.reserve().expect(rt, "memory");
+    }
+    let entry = entry(0, 1, 10);
+    pass.push(Receipt { position: 1, entry });
 }
 
 #[test]
 fn a_refused_growth_changes_nothing(rt: HostRuntime) {
     let mut history = History::new(rt.alloc());
+    append_first(&rt, &mut history);
     let mut pass = Pass::new(rt.alloc(), 7, 0);
-    if history.reserve().is_err() {
-        assert_eq!(&rt; history.len(), 0);
-        history.reserve().expect(&rt, "memory");
-    }
-    history.push(entry(0, 1, 10));
-    if pass.reserve().is_err() {
-        assert_eq!(&rt; pass.calls(), 0);
-        pass.reserve().expect(&rt, "memory");
-    }
-    pass.push(Receipt {
-        position: 1,
-        entry: entry(0, 1, 10),
-    });
+    receive_first(&rt, &mut pass);
     assert_eq!(&rt; (history.len(), pass.calls()), (1, 1));
 }

@@ -4,6 +4,7 @@ use casa_flight::{Crossing, Key, Loc, RegId};
 use casa_grid::{Period, Profile};
 use casa_time::Moment;
 use std::alloc::Global;
+use std::fmt::Display;
 use std::process::Abort;
 
 /// The key with this text.
@@ -49,4 +50,10 @@ pub fn profile(rt: &impl Abort, alloc: Global, periods: &[Period]) -> Profile {
         Ok(profile) => profile,
         Err(_) => Profile::new(alloc, periods).expect(rt, "a profile"),
     }
+}
+
+/// Ends the test where the value is not shown as this text.
+pub fn shows<T: Display>(rt: &impl Abort, alloc: Global, value: &T, text: &str) {
+    let shown = format!(in alloc; "{value}").expect(rt, "memory");
+    assert_eq!(rt; shown.as_str(), text);
 }

@@ -121,32 +121,39 @@ fn reply_to(rt: &impl Abort, alloc: Global, number: usize) -> Reply {
     }
 }
 
+/// The reply to the call with this number, which is made again where memory was refused the first time.
+fn reply(rt: &impl Abort, alloc: Global, plain: &mut Plain, number: usize) -> Reply {
+    let call = call(rt, alloc, number);
+    match plain.step(alloc, &call) {
+        Ok(reply) => reply,
+        Err(AllocError) => plain.step(alloc, &call).expect(rt, "memory"),
+    }
+}
+
+/// Makes the call with this number, which is answered as it is to be.
+fn is_answered(rt: &impl Abort, alloc: Global, plain: &mut Plain, number: usize) {
+    let reply = reply(rt, alloc, plain, number);
+    assert_eq!(rt;
+        reply,
+        reply_to(rt, alloc, number),
+        "the reply to call {number}"
+    );
+}
+
 /// B is planned before A and displaces it; they are issued two hours ahead; the clock does not go
 /// back; and closing takes issued slots back.
 #[test]
 fn a_day_of_one_regulation(rt: HostRuntime) {
-    let alloc = rt.alloc();
-    let mut plain = Plain::new(alloc);
+    let mut plain = Plain::new(rt.alloc());
     for number in 0..8 {
-        let reply = plain
-            .step(alloc, &call(&rt, alloc, number))
-            .expect(&rt, "memory");
-        assert_eq!(&rt;
-            reply,
-            reply_to(&rt, alloc, number),
-            "the reply to call {number}"
-        );
+        is_answered(&rt, rt.alloc(), &mut plain, number);
     }
 }
 
-/// The refusal that the allocator answers, if it does; the call is made again where memory was refused the first time.
-fn refusal(rt: &impl Abort, alloc: Global, plain: &mut Plain, call: &Call) -> Option<Refusal> {
-    let reply = match plain.step(alloc, call) {
-        Ok(reply) => reply,
-        Err(AllocError) => plain.step(alloc, call).expect(rt, "memory"),
-    };
+/// The refusal that a reply is, if it is one.
+fn refusal(reply: &Reply) -> Option<Refusal> {
     match reply {
-        Reply::Refused(refusal) => Some(refusal),
+        Reply::Refused(refusal) => Some(*refusal),
         Reply::Answered(..) => None,
     }
 }
@@ -158,7 +165,7 @@ fn a_refused_growth_leaves_the_call_unmade(rt: HostRuntime) {
     let alloc = rt.alloc();
     let mut plain = Plain::new(alloc);
     for (number, wanted) in [(0, None), (1, None), (1, Some(Refusal::Duplicate))] {
-        let call = call(&rt, alloc, number);
-        assert_eq!(&rt; refusal(&rt, alloc, &mut plain, &call), wanted);
+        let reply = reply(&rt, alloc, &mut plain, number);
+        assert_eq!(&rt; refusal(&reply), wanted);
     }
 }

@@ -2,10 +2,11 @@
 
 use crate::parts::{key, loc, moment, over, period, profile, reg};
 use casa_flight::{
-    FlightReply, Kind, MAX_REGULATIONS, Measure, Message, Offer, Plan, Regulation, Row, Stance,
-    Sts, has_span, is_issued, more_penalising, most_penalising, slot_number,
+    FlightReply, Kind, MAX_REGULATIONS, Measure, Message, Offer, Plan, RegId, Regulation, Row,
+    Stance, Sts, has_span, is_issued, more_penalising, most_penalising, slot_number,
 };
-use casa_grid::Place;
+use casa_grid::{Period, Place};
+use casa_time::Moment;
 use std::alloc::Global;
 use std::process::Abort;
 
@@ -28,8 +29,15 @@ fn measure(rt: &impl Abort, alloc: Global, name: &[u8]) -> Measure {
     }
 }
 
+/// Whether a plan is due and whether it is gone at this second.
+fn due_and_gone(rt: &impl Abort, plan: &Plan, clock: u32) -> (bool, bool) {
+    let clock = moment(rt, clock);
+    (plan.is_due(clock), plan.is_gone(clock))
+}
+
 #[test]
 fn a_plan_is_due_two_hours_before_and_gone_after_the_take_off(rt: HostRuntime) {
+    assert!(&rt; Sts::Head.is_exempting() && !Sts::Plain.is_exempting());
     let plan = plan(&rt, rt.alloc(), Sts::Plain);
     for (clock, is_due, is_gone) in [
         (22_799, false, false),
@@ -37,30 +45,34 @@ fn a_plan_is_due_two_hours_before_and_gone_after_the_take_off(rt: HostRuntime) {
         (30_600, true, false),
         (30_601, true, true),
     ] {
-        let clock_at = moment(&rt, clock);
-        assert_eq!(&rt;
-            (plan.is_due(clock_at), plan.is_gone(clock_at)),
-            (is_due, is_gone),
-            "at {clock}"
-        );
+        let found = due_and_gone(&rt, &plan, clock);
+        assert_eq!(&rt; found, (is_due, is_gone), "at {clock}");
     }
-    assert!(&rt; Sts::Head.is_exempting() && !Sts::Plain.is_exempting());
+}
+
+/// Flight A as it is filed is not exempt, and may compete until its take-off.
+fn is_filed(rt: &impl Abort, filed: &Row) {
+    let at = moment(rt, 22_800);
+    assert!(rt; !filed.is_exempt() && filed.may_compete(at) && !filed.is_to_issue(at));
+    assert!(rt; !filed.may_compete(moment(rt, 30_601)));
+}
+
+/// A row stays marked when its plan is amended to one that is exempt as it is filed.
+fn is_amended(rt: &impl Abort, alloc: Global, exempted: &Row) {
+    let amended = exempted
+        .amended(&plan(rt, alloc, Sts::Head))
+        .expect(rt, "memory");
+    assert!(rt; amended.marked && amended.plan.sts() == Sts::Head);
+    assert!(rt; Row::filed(&amended.plan).expect(rt, "memory").is_exempt());
 }
 
 #[test]
 fn a_row_is_filed_exempted_and_amended(rt: HostRuntime) {
-    let alloc = rt.alloc();
-    let at = moment(&rt, 22_800);
-    let filed = filed(&rt, alloc);
-    assert!(&rt; !filed.is_exempt() && filed.may_compete(at) && !filed.is_to_issue(at));
-    assert!(&rt; !filed.may_compete(moment(&rt, 30_601)));
+    let filed = filed(&rt, rt.alloc());
+    is_filed(&rt, &filed);
     let exempted = filed.exempted().expect(&rt, "memory");
-    assert!(&rt; exempted.is_exempt() && !exempted.may_compete(at));
-    let amended = exempted
-        .amended(&plan(&rt, alloc, Sts::Head))
-        .expect(&rt, "memory");
-    assert!(&rt; amended.marked && amended.plan.sts() == Sts::Head);
-    assert!(&rt; Row::filed(&amended.plan).expect(&rt, "memory").is_exempt());
+    assert!(&rt; exempted.is_exempt() && !exempted.may_compete(moment(&rt, 22_800)));
+    is_amended(&rt, rt.alloc(), &exempted);
 }
 
 /// Flight A as it is filed.
@@ -73,26 +85,33 @@ fn governed(rt: &impl Abort, alloc: Global, clock: u32) -> Row {
     filed(rt, alloc).governed(moment(rt, clock), offer(rt, b"R1", 36_120))
 }
 
-/// Whether a row is to be issued a second before flight A is due, whether then, whether it may compete before, and
-/// whether it is issued.
-fn states(rt: &impl Abort, row: &Row) -> [bool; 4] {
+/// Of flight A, governed since the clock was at this second: whether it is to be issued a second before it is due,
+/// whether then, whether it may compete before, whether it is issued, and for which moment.
+fn states(rt: &impl Abort, alloc: Global, clock: u32) -> ([bool; 4], Option<Moment>) {
+    let row = governed(rt, alloc, clock);
     let (early, due) = (moment(rt, 22_799), moment(rt, 22_800));
-    [
+    let states = [
         row.is_to_issue(early),
         row.is_to_issue(due),
         row.may_compete(early),
-        is_issued(Some(row)),
-    ]
+        is_issued(Some(&row)),
+    ];
+    (states, row.issued)
 }
 
 #[test]
 fn a_governed_row_is_issued_once_it_is_due(rt: HostRuntime) {
-    let alloc = rt.alloc();
-    let waiting = governed(&rt, alloc, 22_799);
-    assert_eq!(&rt; states(&rt, &waiting), [false, true, false, false]);
-    let issued = governed(&rt, alloc, 22_800);
-    assert_eq!(&rt; states(&rt, &issued), [false, false, false, true]);
-    assert_eq!(&rt; issued.issued, Some(moment(&rt, 36_120)));
+    let time = Some(moment(&rt, 36_120));
+    assert_eq!(&rt;
+        [
+            states(&rt, rt.alloc(), 22_799),
+            states(&rt, rt.alloc(), 22_800)
+        ],
+        [
+            ([false, true, false, false], None),
+            ([false, false, false, true], time)
+        ]
+    );
     assert!(&rt; !is_issued(None));
 }
 
@@ -122,8 +141,10 @@ fn stances(rt: &impl Abort, alloc: Global, row: &Row) -> [Option<Stance>; 3] {
 
 /// A row stands so over R1, and is shown as this kind.
 fn stands(rt: &impl Abort, alloc: Global, row: &Row, stance: Stance, kind: Kind) {
-    assert_eq!(rt; stances(rt, alloc, row), [Some(stance), Some(stance), None]);
-    assert_eq!(rt; (stance.eto().secs(), stance.kind()), (36_010, kind));
+    assert_eq!(rt;
+        (stances(rt, alloc, row), stance.eto().secs(), stance.kind()),
+        ([Some(stance), Some(stance), None], 36_010, kind)
+    );
 }
 
 #[test]
@@ -154,7 +175,7 @@ fn only_a_governed_flight_stands_issued(rt: HostRuntime) {
         let cto = if issued { Some(cto) } else { None };
         let stance = Stance::of(governs, cto, eto);
         assert_eq!(&rt; stance.issued_cto(), if is_issued { cto } else { None });
-        assert_eq!(&rt; stance == Stance::Forced { eto }, !governs);
+        assert!(&rt; (stance == Stance::Forced { eto }) != governs);
     }
 }
 
@@ -170,6 +191,16 @@ fn a_regulation_has_the_span_of_its_profile(rt: HostRuntime) {
     assert_eq!(&rt; regulation, wanted);
 }
 
+/// The regulation of an offer, if there is one.
+fn offering(offer: Option<Offer>) -> Option<RegId> {
+    Some(offer?.id())
+}
+
+/// The regulation of an offer, its calculated time over in seconds and its delay.
+fn parts(offer: &Offer) -> (RegId, u32, u32) {
+    (offer.id(), offer.cto().secs(), offer.delay())
+}
+
 #[test]
 fn the_first_of_the_greatest_delays_is_most_penalising(rt: HostRuntime) {
     let (one, two, three) = (
@@ -177,32 +208,36 @@ fn the_first_of_the_greatest_delays_is_most_penalising(rt: HostRuntime) {
         offer(&rt, b"R2", 36_240),
         offer(&rt, b"R3", 36_240),
     );
-    assert!(&rt; one.id() == reg(&rt, b"R1"));
-    assert_eq!(&rt; (one.cto().secs(), one.delay()), (36_120, 110));
-    assert_eq!(&rt; offer(&rt, b"R1", 36_000).delay(), 0);
-    assert!(&rt; more_penalising(None, one).id() == one.id());
-    assert!(&rt; more_penalising(Some(two), three).id() == two.id());
-    let best = most_penalising(&[one, two, three]);
-    assert!(&rt; best.is_some_and(|best| best.id() == two.id()));
+    let (r1, r2) = (reg(&rt, b"R1"), reg(&rt, b"R2"));
+    assert_eq!(&rt; parts(&one), (r1, 36_120, 110));
+    assert!(&rt; offer(&rt, b"R1", 36_000).delay() == 0);
+    assert!(&rt; more_penalising(None, one).id() == r1);
+    assert!(&rt; more_penalising(Some(two), three).id() == r2);
+    assert!(&rt; offering(most_penalising(&[one, two, three])) == Some(r2));
     assert!(&rt; most_penalising(&[]).is_none());
 }
 
-#[test]
-fn a_flight_is_answered_with_its_delay(rt: HostRuntime) {
-    let row = governed(&rt, rt.alloc(), 0);
-    let reply = FlightReply {
-        key: key(&rt, b"A"),
-        eobt: moment(&rt, 30_000),
+/// What is answered of flight A, which R1 delays.
+fn flight_reply(rt: &impl Abort) -> FlightReply {
+    FlightReply {
+        key: key(rt, b"A"),
+        eobt: moment(rt, 30_000),
         etot: 30_600,
         ctot: 30_710,
         delay: 110,
         exempt: false,
         issued: false,
-        reg: Some(reg(&rt, b"R1")),
-    };
-    assert_eq!(&rt; FlightReply::of(key(&rt, b"A"), &row, 110), reply);
-    assert_eq!(&rt; slot_number(Place::Slot(3)), Some(3));
-    assert_eq!(&rt; slot_number(Place::Over), None);
+        reg: Some(reg(rt, b"R1")),
+    }
+}
+
+#[test]
+fn a_flight_is_answered_with_its_delay(rt: HostRuntime) {
+    assert!(&rt; slot_number(Place::Slot(3)) == Some(3));
+    assert!(&rt; slot_number(Place::Over).is_none());
+    let row = governed(&rt, rt.alloc(), 0);
+    let reply = FlightReply::of(key(&rt, b"A"), &row, 110);
+    assert_eq!(&rt; reply, flight_reply(&rt));
 }
 
 #[test]
@@ -233,17 +268,22 @@ fn a_message_tells_what_changed(rt: HostRuntime) {
     }
 }
 
+/// Whether these periods have the span from 36000 to 37200.
+fn has_whole_span(rt: &impl Abort, alloc: Global, periods: &[Period]) -> bool {
+    let whole = profile(rt, alloc, &[period(rt, 36_000, 37_200, 30)]);
+    has_span(&profile(rt, alloc, periods), &whole)
+}
+
 #[test]
 fn spans_are_compared_at_both_ends(rt: HostRuntime) {
-    let alloc = rt.alloc();
-    let whole = profile(&rt, alloc, &[period(&rt, 36_000, 37_200, 30)]);
     let halves = [
         period(&rt, 36_000, 36_600, 20),
         period(&rt, 36_600, 37_200, 10),
     ];
-    let shorter = profile(&rt, alloc, &[period(&rt, 36_000, 36_600, 30)]);
-    let later = profile(&rt, alloc, &[period(&rt, 36_600, 37_200, 30)]);
-    assert!(&rt; has_span(&profile(&rt, alloc, &halves), &whole));
-    assert!(&rt; !has_span(&shorter, &whole) && !has_span(&later, &whole));
-    assert_eq!(&rt; MAX_REGULATIONS, 256);
+    let shorter = [period(&rt, 36_000, 36_600, 30)];
+    let later = [period(&rt, 36_600, 37_200, 30)];
+    assert!(&rt; has_whole_span(&rt, rt.alloc(), &halves));
+    assert!(&rt; !has_whole_span(&rt, rt.alloc(), &shorter));
+    assert!(&rt; !has_whole_span(&rt, rt.alloc(), &later));
+    assert!(&rt; MAX_REGULATIONS == 256);
 }

@@ -1,13 +1,15 @@
 //! Moments of the day.
 
-use crate::parts::moment;
+use crate::parts::{moment, shows};
 use casa_time::{Moment, TimeFault, due, hhmm};
 
 #[test]
 fn two_days_have_moments(rt: HostRuntime) {
-    assert_eq!(&rt; moment(&rt, 0).secs(), 0);
-    assert_eq!(&rt; moment(&rt, 172_799).secs(), 172_799);
-    assert_eq!(&rt; Moment::new(172_800), Err(TimeFault::OutOfRange));
+    let (first, last) = (moment(&rt, 0), moment(&rt, 172_799));
+    assert_eq!(&rt;
+        (first.secs(), last.secs(), Moment::new(172_800)),
+        (0, 172_799, Err(TimeFault::OutOfRange))
+    );
 }
 
 #[test]
@@ -33,13 +35,12 @@ fn times_show_as_hour_and_minute(rt: HostRuntime) {
 
 #[test]
 fn moments_and_faults_show_in_words(rt: HostRuntime) {
-    let alloc = rt.alloc();
-    let shown = format!(in alloc; "{}", moment(&rt, 86_405)).expect(&rt, "memory");
-    assert_eq!(&rt; shown.as_str(), "86405");
+    shows(&rt, rt.alloc(), &moment(&rt, 86_405), "86405");
     let fault = TimeFault::OutOfRange;
-    let shown = format!(in alloc; "{}: {}", fault.name(), fault).expect(&rt, "memory");
-    assert_eq!(&rt;
-        shown.as_str(),
-        "OutOfRange: a moment is at most 172799 seconds after midnight UTC"
+    shows(
+        &rt,
+        rt.alloc(),
+        &format_args!("{}: {fault}", fault.name()),
+        "OutOfRange: a moment is at most 172799 seconds after midnight UTC",
     );
 }
