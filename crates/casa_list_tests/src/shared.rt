@@ -35,7 +35,7 @@ fn a_refused_growth_copies_no_shared_list(rt: HostRuntime) {
     let mut own = changeable(&rt, other, &list);
     own.leave(&key(&rt, b"C"));
     assert!(&rt; *list.list() != own);
-    assert_eq!(&rt; (list.list().governed(), own.governed()), (2, 1));
+    assert!(&rt; list.list().governed() == 2 && own.governed() == 1);
 }
 
 /// Nobody else has it, so nothing is copied.
