@@ -103,19 +103,11 @@ fn a_list_is_a_line(rt: HostRuntime) {
 
 #[test]
 fn faults_are_texts(rt: HostRuntime) {
-    assert_eq!(&rt;
-        (
-            fault_text(&WireFault::NotJson),
-            fault_text(&WireFault::NoCommand)
-        ),
-        ("{\"fault\":\"NotJson\"}", "{\"fault\":\"NoCommand\"}")
-    );
-    let field = field_text(rt.alloc(), Field::Periods).expect(&rt, "memory");
-    assert_eq!(&rt;
-        field.as_str(),
-        "{\"fault\":\"BadField\",\"field\":\"periods\"}"
-    );
+    assert!(&rt; fault_text(&WireFault::NotJson) == "{\"fault\":\"NotJson\"}");
+    assert!(&rt; fault_text(&WireFault::NoCommand) == "{\"fault\":\"NoCommand\"}");
     assert!(&rt; too_long_line() == b"{\"fault\":\"LineTooLong\"}\n".as_slice());
+    let field = field_text(rt.alloc(), Field::Periods).expect(&rt, "memory");
+    assert!(&rt; field.as_str() == "{\"fault\":\"BadField\",\"field\":\"periods\"}");
 }
 
 /// The value of what a call of these messages is answered, as text.
@@ -134,9 +126,9 @@ fn a_reply_is_a_value_too(rt: HostRuntime) {
     ];
     let messages = messages(&rt, rt.alloc(), all);
     let text = value_text(&rt, rt.alloc(), messages, 5);
-    assert_eq!(&rt;
-        text.as_str(),
-        "{\"done\":true,\"msgs\":[{\"ctot\":30710,\"key\":\"A\",\"kind\":\"SAM\",\"reg\":\"R1\"},{\"ctot\":30600,\"key\":\"B\",\"kind\":\"SRM\",\"reg\":\"R1\"},{\"key\":\"C\",\"kind\":\"SLC\"}],\"n\":5}"
+    assert!(&rt;
+        text.as_str()
+            == "{\"done\":true,\"msgs\":[{\"ctot\":30710,\"key\":\"A\",\"kind\":\"SAM\",\"reg\":\"R1\"},{\"ctot\":30600,\"key\":\"B\",\"kind\":\"SRM\",\"reg\":\"R1\"},{\"key\":\"C\",\"kind\":\"SLC\"}],\"n\":5}"
     );
 }
 
@@ -144,7 +136,7 @@ fn a_reply_is_a_value_too(rt: HostRuntime) {
 fn write_fault(rt: &impl Abort, out: &mut Vec<u8>, fault: WireFault) {
     let before = out.len();
     if push_fault(out, fault).is_err() {
-        assert_eq!(rt; out.len(), before);
+        assert!(rt; out.len() == before);
         push_fault(out, fault).expect(rt, "memory");
     }
 }
@@ -153,7 +145,7 @@ fn write_fault(rt: &impl Abort, out: &mut Vec<u8>, fault: WireFault) {
 fn write_reply(rt: &impl Abort, out: &mut Vec<u8>, receipt: &Receipt<Call, Reply>) {
     let before = out.len();
     if push_reply(out, receipt).is_err() {
-        assert_eq!(rt; out.len(), before);
+        assert!(rt; out.len() == before);
         push_reply(out, receipt).expect(rt, "memory");
     }
 }
