@@ -1,6 +1,6 @@
 //! Names, plans, subjects, refusals and copies.
 
-use crate::parts::{key, loc, moment, over, period, profile, reg};
+use crate::parts::{equal, equal_at, key, loc, moment, over, period, profile, reg};
 use casa_flight::{
     Answer, Call, Crossing, Key, Kind, ListReply, ListRow, Loc, Measure, Message, Messages, Plan,
     PlanFault, Refusal, RegId, Regulation, Reply, Row, Rows, Sts, subject,
@@ -8,16 +8,53 @@ use casa_flight::{
 use std::alloc::{AllocError, Global};
 use std::process::Abort;
 
+/// What a plan is of: its key, its off-block time and its taxi time, and the locations that it crosses, each with its
+/// estimated time over.
+type Parts = (&'static str, u32, u32, &'static [(&'static str, u32)]);
+
+/// More crossings than a plan may have.
+const MANY: &[(&str, u32)] = &[("LA", 36000); 33];
+
+/// Plans, each with its first fault.
+const FAULTS: &[(Parts, PlanFault)] = &[
+    (("a1", 30000, 3601, MANY), PlanFault::BadKey),
+    (("A1", 30000, 3601, MANY), PlanFault::TaxiTooLong),
+    (("A1", 30000, 600, MANY), PlanFault::TooManyCrossings),
+    (
+        ("A1", 30000, 600, &[("LA", 36000), ("LA", 36600)]),
+        PlanFault::SameLocation,
+    ),
+    (
+        ("A1", 30000, 600, &[("LA", 30599)]),
+        PlanFault::EtoBeforeTakeOff,
+    ),
+    (("A1", 172_799, 1, &[]), PlanFault::OutOfRange),
+];
+
+/// The crossings of these locations at these seconds.
+fn crossings(rt: &impl Abort, alloc: Global, places: &[(&str, u32)]) -> Vec<Crossing> {
+    let mut all = Vec::new(alloc);
+    for (name, eto) in places {
+        all.push(over(rt, name.as_bytes(), *eto))
+            .expect(rt, "memory");
+    }
+    all
+}
+
 /// The fault of a plan of these, if it has one.
-fn fault_of(
-    rt: &impl Abort,
-    alloc: Global,
-    key: &[u8],
-    eobt: u32,
-    taxi: u32,
-    via: &[Crossing],
-) -> Option<PlanFault> {
-    Plan::new(alloc, key, moment(rt, eobt), taxi, via, Sts::Plain).err()
+fn fault_of(rt: &impl Abort, alloc: Global, parts: &Parts) -> Option<PlanFault> {
+    let (key, eobt, taxi, places) = *parts;
+    let via = crossings(rt, alloc, places);
+    let eobt = moment(rt, eobt);
+    Plan::new(
+        alloc,
+        key.as_bytes(),
+        eobt,
+        taxi,
+        via.as_slice(),
+        Sts::Plain,
+    )
+    .err()
 }
 
 /// Whether a flight, a location and a regulation have this text as their name.
@@ -44,19 +81,8 @@ fn names_have_1_to_10_letters_and_digits(rt: HostRuntime) {
 
 #[test]
 fn each_fault_of_a_plan_has_its_name(rt: HostRuntime) {
-    let many = [over(&rt, b"LA", 36000); 33];
-    let twice = [over(&rt, b"LA", 36000), over(&rt, b"LA", 36600)];
-    let early = [over(&rt, b"LA", 30599)];
-    for (key, eobt, taxi, via, fault) in [
-        ("a1", 30000, 3601, many.as_slice(), PlanFault::BadKey),
-        ("A1", 30000, 3601, &many, PlanFault::TaxiTooLong),
-        ("A1", 30000, 600, &many, PlanFault::TooManyCrossings),
-        ("A1", 30000, 600, &twice, PlanFault::SameLocation),
-        ("A1", 30000, 600, &early, PlanFault::EtoBeforeTakeOff),
-        ("A1", 172_799, 1, &[], PlanFault::OutOfRange),
-    ] {
-        let found = fault_of(&rt, rt.alloc(), key.as_bytes(), eobt, taxi, via);
-        assert_eq!(&rt; found, Some(fault));
+    for (parts, fault) in FAULTS {
+        equal(&rt, &fault_of(&rt, rt.alloc(), parts), &Some(*fault));
     }
 }
 
@@ -74,7 +100,7 @@ fn times(plan: &Plan) -> (u32, u32, u32) {
 #[test]
 fn a_plan_has_its_parts(rt: HostRuntime) {
     let plan = plan(&rt, rt.alloc(), b"LA", 36000);
-    assert_eq!(&rt; times(&plan), (30000, 600, 30600));
+    equal(&rt, &times(&plan), &(30000, 600, 30600));
     assert!(&rt; plan.key() == key(&rt, b"A") && plan.sts() == Sts::Head);
     assert!(&rt; plan.via() == [over(&rt, b"LA", 36000)].as_slice());
 }
@@ -105,7 +131,7 @@ fn a_flight_is_subject_by_its_planned_time(rt: HostRuntime) {
         (b"LA", 37200, None),
         (b"LB", 36000, None),
     ] {
-        assert_eq!(&rt; subject_at(&rt, rt.alloc(), name, eto), at, "at {eto}");
+        equal_at(&rt, &eto, &subject_at(&rt, rt.alloc(), name, eto), &at);
     }
 }
 
@@ -115,7 +141,7 @@ fn refusals_have_a_code_and_a_name(rt: HostRuntime) {
         (Refusal::Duplicate, 1, "Duplicate"),
         (Refusal::BackInTime, 9, "BackInTime"),
     ] {
-        assert_eq!(&rt; (refusal.code(), refusal.name()), (code, name));
+        equal(&rt, &(refusal.code(), refusal.name()), &(code, name));
     }
 }
 
@@ -126,7 +152,7 @@ fn made(rt: &impl Abort, alloc: Global) -> Plan {
     match Plan::new(alloc, b"A", eobt, 600, &via, Sts::Plain) {
         Ok(plan) => plan,
         Err(fault) => {
-            assert_eq!(rt; fault, PlanFault::NoMemory);
+            assert!(rt; fault == PlanFault::NoMemory);
             Plan::new(alloc, b"A", eobt, 600, &via, Sts::Plain).expect(rt, "a plan")
         }
     }

@@ -1,6 +1,6 @@
 //! Profiles and slots.
 
-use crate::parts::{moment, period, shows};
+use crate::parts::{equal, equal_at, moment, period, shows};
 use casa_grid::{Grid, Period, Place, Profile, ProfileFault};
 use std::alloc::{AllocError, Global};
 use std::process::Abort;
@@ -61,7 +61,7 @@ fn rate_28_gives_56_slots_in_two_hours(rt: HostRuntime) {
     let grid = two_hours(&rt, rt.alloc());
     assert!(&rt; grid.len() == 56);
     for (k, at) in BEGINS {
-        assert_eq!(&rt; begin(&rt, &grid, k), at, "slot {k}");
+        equal_at(&rt, &k, &begin(&rt, &grid, k), &at);
     }
 }
 
@@ -76,7 +76,7 @@ fn slots_at(rt: &impl Abort, grid: &Grid, at: u32) -> (Option<usize>, Option<usi
 fn slots_are_asked_for_and_held(rt: HostRuntime) {
     let grid = two_hours(&rt, rt.alloc());
     for (at, asked, held) in SLOTS {
-        assert_eq!(&rt; slots_at(&rt, &grid, at), (asked, held), "at {at}");
+        equal_at(&rt, &at, &slots_at(&rt, &grid, at), &(asked, held));
     }
 }
 
@@ -89,7 +89,7 @@ fn cto(rt: &impl Abort, grid: &Grid, eto: u32, place: Place) -> u32 {
 fn a_place_gives_the_later_time(rt: HostRuntime) {
     let grid = two_hours(&rt, rt.alloc());
     for (eto, place, later) in TIMES_OVER {
-        assert_eq!(&rt; cto(&rt, &grid, eto, place), later, "from {eto}");
+        equal_at(&rt, &eto, &cto(&rt, &grid, eto, place), &later);
     }
 }
 
@@ -104,14 +104,18 @@ fn a_profile_is_its_periods(rt: HostRuntime) {
     let periods = [period(&rt, 36000, 43200, 28)];
     let profile = made(&rt, rt.alloc(), &periods);
     assert!(&rt; profile.periods() == periods.as_slice());
-    assert_eq!(&rt; profile.span(), (moment(&rt, 36000), moment(&rt, 43200)));
+    equal(
+        &rt,
+        &profile.span(),
+        &(moment(&rt, 36000), moment(&rt, 43200)),
+    );
     is_copied(&rt, rt.alloc(), &profile);
 }
 
 #[test]
 fn each_fault_has_its_name(rt: HostRuntime) {
     for (periods, fault) in FAULTS {
-        assert_eq!(&rt; fault_of(&rt, rt.alloc(), periods), Some(*fault));
+        equal(&rt, &fault_of(&rt, rt.alloc(), periods), &Some(*fault));
     }
     let fast = ProfileFault::BadRate;
     shows(

@@ -1,5 +1,6 @@
 //! Histories and passes.
 
+use crate::parts::equal;
 use casa_history::{Entry, History, Holds, Pass, Receipt, Settled, Torn, settle};
 use std::alloc::Global;
 use std::process::Abort;
@@ -59,9 +60,10 @@ fn second_pass(rt: &impl Abort, alloc: Global, position: usize, reply: u32) -> P
 
 /// The history of `three_calls` has an entry at 3, and none at 0 and at 4.
 fn has_three_calls(rt: &impl Abort, history: &History<u32, u32>) {
-    assert_eq!(rt;
-        (history.len(), entry_at(history, 3)),
-        (3, Some((0, 3, 30)))
+    equal(
+        rt,
+        &(history.len(), entry_at(history, 3)),
+        &(3, Some((0, 3, 30))),
     );
     assert!(rt; history.entry(0).is_none() && history.entry(4).is_none());
 }
@@ -70,14 +72,15 @@ fn has_three_calls(rt: &impl Abort, history: &History<u32, u32>) {
 fn a_history_and_a_pass_grow(rt: HostRuntime) {
     has_three_calls(&rt, &three_calls(&rt, rt.alloc()));
     let pass = first_pass(&rt, rt.alloc());
-    assert_eq!(&rt;
-        (
+    equal(
+        &rt,
+        &(
             pass.number(),
             pass.desk(),
             pass.calls(),
-            last_receipt(&pass)
+            last_receipt(&pass),
         ),
-        (7, 0, 2, Some((3, 3)))
+        &(7, 0, 2, Some((3, 3))),
     );
 }
 
@@ -122,9 +125,10 @@ fn settled_in_part(
 fn desks_are_settled_or_torn(rt: HostRuntime) {
     let (desks, entries) = (3, 3);
     let all = passes(&rt, rt.alloc(), 1);
-    assert_eq!(&rt;
-        settled_in_part(&rt, rt.alloc(), all.as_slice()),
-        [Ok(Settled { desks, entries }), Err(Torn(2)), Err(Torn(0))]
+    equal(
+        &rt,
+        &settled_in_part(&rt, rt.alloc(), all.as_slice()),
+        &[Ok(Settled { desks, entries }), Err(Torn(2)), Err(Torn(0))],
     );
 }
 
@@ -132,13 +136,14 @@ fn desks_are_settled_or_torn(rt: HostRuntime) {
 fn desks_with_other_receipts_are_torn(rt: HostRuntime) {
     let alloc = rt.alloc();
     let twice = passes(&rt, alloc, 0);
-    assert_eq!(&rt;
-        [
+    equal(
+        &rt,
+        &[
             settled_with(&rt, alloc, 2, 21),
             settled_with(&rt, alloc, 1, 20),
             settled(&rt, alloc, twice.as_slice()),
         ],
-        [Err(Torn(2)), Err(Torn(2)), Err(Torn(0))]
+        &[Err(Torn(2)), Err(Torn(2)), Err(Torn(0))],
     );
 }
 
@@ -167,5 +172,5 @@ fn a_refused_growth_changes_nothing(rt: HostRuntime) {
     append_first(&rt, &mut history);
     let mut pass = Pass::new(rt.alloc(), 7, 0);
     receive_first(&rt, &mut pass);
-    assert_eq!(&rt; (history.len(), pass.calls()), (1, 1));
+    equal(&rt, &(history.len(), pass.calls()), &(1, 1));
 }

@@ -4,7 +4,7 @@ use casa_flight::{Crossing, Key, Loc, RegId};
 use casa_grid::{Period, Profile};
 use casa_time::Moment;
 use std::alloc::Global;
-use std::fmt::Display;
+use std::fmt::{Debug, Display};
 use std::process::Abort;
 
 /// The key with this text.
@@ -52,8 +52,23 @@ pub fn profile(rt: &impl Abort, alloc: Global, periods: &[Period]) -> Profile {
     }
 }
 
+/// Ends the test where what was found is not what is wanted, and shows both.
+pub fn equal<T: PartialEq + Debug>(rt: &impl Abort, found: &T, wanted: &T) {
+    assert_eq!(rt; *found, *wanted);
+}
+
+/// The same at one of many cases, which is shown too.
+pub fn equal_at<T: PartialEq + Debug, C: Display>(
+    rt: &impl Abort,
+    case: &C,
+    found: &T,
+    wanted: &T,
+) {
+    assert_eq!(rt; *found, *wanted, "at {case}");
+}
+
 /// Ends the test where the value is not shown as this text.
 pub fn shows<T: Display>(rt: &impl Abort, alloc: Global, value: &T, text: &str) {
     let shown = format!(in alloc; "{value}").expect(rt, "memory");
-    assert_eq!(rt; shown.as_str(), text);
+    equal(rt, &shown.as_str(), &text);
 }

@@ -1,6 +1,6 @@
 //! The slow sequential allocator.
 
-use crate::parts::{key, loc, moment, over, period, profile, reg};
+use crate::parts::{equal, equal_at, key, loc, moment, over, period, profile, reg};
 use casa_flight::{
     Answer, Call, FlightReply, Kind, ListReply, ListRow, Message, Messages, Plan, Refusal, Reply,
     Rows, Sts,
@@ -133,11 +133,7 @@ fn reply(rt: &impl Abort, alloc: Global, plain: &mut Plain, number: usize) -> Re
 /// Makes the call with this number, which is answered as it is to be.
 fn is_answered(rt: &impl Abort, alloc: Global, plain: &mut Plain, number: usize) {
     let reply = reply(rt, alloc, plain, number);
-    assert_eq!(rt;
-        reply,
-        reply_to(rt, alloc, number),
-        "the reply to call {number}"
-    );
+    equal_at(rt, &number, &reply, &reply_to(rt, alloc, number));
 }
 
 /// B is planned before A and displaces it; they are issued two hours ahead; the clock does not go
@@ -166,6 +162,6 @@ fn a_refused_growth_leaves_the_call_unmade(rt: HostRuntime) {
     let mut plain = Plain::new(alloc);
     for (number, wanted) in [(0, None), (1, None), (1, Some(Refusal::Duplicate))] {
         let reply = reply(&rt, alloc, &mut plain, number);
-        assert_eq!(&rt; refusal(&reply), wanted);
+        equal(&rt, &refusal(&reply), &wanted);
     }
 }

@@ -1,6 +1,6 @@
 //! One flight's row, stances, offers, reply and messages.
 
-use crate::parts::{key, loc, moment, over, period, profile, reg};
+use crate::parts::{equal, equal_at, key, loc, moment, over, period, profile, reg};
 use casa_flight::{
     FlightReply, Kind, MAX_REGULATIONS, Measure, Message, Offer, Plan, RegId, Regulation, Row,
     Stance, Sts, has_span, is_issued, more_penalising, most_penalising, slot_number,
@@ -46,7 +46,7 @@ fn a_plan_is_due_two_hours_before_and_gone_after_the_take_off(rt: HostRuntime) {
         (30_601, true, true),
     ] {
         let found = due_and_gone(&rt, &plan, clock);
-        assert_eq!(&rt; found, (is_due, is_gone), "at {clock}");
+        equal_at(&rt, &clock, &found, &(is_due, is_gone));
     }
 }
 
@@ -102,15 +102,16 @@ fn states(rt: &impl Abort, alloc: Global, clock: u32) -> ([bool; 4], Option<Mome
 #[test]
 fn a_governed_row_is_issued_once_it_is_due(rt: HostRuntime) {
     let time = Some(moment(&rt, 36_120));
-    assert_eq!(&rt;
-        [
+    equal(
+        &rt,
+        &[
             states(&rt, rt.alloc(), 22_799),
-            states(&rt, rt.alloc(), 22_800)
+            states(&rt, rt.alloc(), 22_800),
         ],
-        [
+        &[
             ([false, true, false, false], None),
-            ([false, false, false, true], time)
-        ]
+            ([false, false, false, true], time),
+        ],
     );
     assert!(&rt; !is_issued(None));
 }
@@ -141,9 +142,10 @@ fn stances(rt: &impl Abort, alloc: Global, row: &Row) -> [Option<Stance>; 3] {
 
 /// A row stands so over R1, and is shown as this kind.
 fn stands(rt: &impl Abort, alloc: Global, row: &Row, stance: Stance, kind: Kind) {
-    assert_eq!(rt;
-        (stances(rt, alloc, row), stance.eto().secs(), stance.kind()),
-        ([Some(stance), Some(stance), None], 36_010, kind)
+    equal(
+        rt,
+        &(stances(rt, alloc, row), stance.eto().secs(), stance.kind()),
+        &([Some(stance), Some(stance), None], 36_010, kind),
     );
 }
 
@@ -164,6 +166,11 @@ fn a_row_stands_in_the_lists_that_it_crosses(rt: HostRuntime) {
     );
 }
 
+/// The time at which a flight is issued, if it is.
+fn time_if(is_issued: bool, cto: Moment) -> Option<Moment> {
+    if is_issued { Some(cto) } else { None }
+}
+
 #[test]
 fn only_a_governed_flight_stands_issued(rt: HostRuntime) {
     let (eto, cto) = (moment(&rt, 36_010), moment(&rt, 36_120));
@@ -172,9 +179,8 @@ fn only_a_governed_flight_stands_issued(rt: HostRuntime) {
         (true, false, false),
         (false, true, false),
     ] {
-        let cto = if issued { Some(cto) } else { None };
-        let stance = Stance::of(governs, cto, eto);
-        assert_eq!(&rt; stance.issued_cto(), if is_issued { cto } else { None });
+        let stance = Stance::of(governs, time_if(issued, cto), eto);
+        equal(&rt, &stance.issued_cto(), &time_if(is_issued, cto));
         assert!(&rt; (stance == Stance::Forced { eto }) != governs);
     }
 }
@@ -188,12 +194,32 @@ fn a_regulation_has_the_span_of_its_profile(rt: HostRuntime) {
         start: moment(&rt, 36_000),
         end: moment(&rt, 37_200),
     };
-    assert_eq!(&rt; regulation, wanted);
+    equal(&rt, &regulation, &wanted);
+}
+
+/// What R1, R2 and R3 offer, the last two with the greater delay.
+fn offers(rt: &impl Abort) -> [Offer; 3] {
+    [
+        offer(rt, b"R1", 36_120),
+        offer(rt, b"R2", 36_240),
+        offer(rt, b"R3", 36_240),
+    ]
 }
 
 /// The regulation of an offer, if there is one.
 fn offering(offer: Option<Offer>) -> Option<RegId> {
     Some(offer?.id())
+}
+
+/// The regulations of the more penalising of no offer and the first, of the more penalising of the other two, of the most
+/// penalising of all three, and of the most penalising of none.
+fn chosen(one: Offer, two: Offer, three: Offer) -> [Option<RegId>; 4] {
+    [
+        offering(Some(more_penalising(None, one))),
+        offering(Some(more_penalising(Some(two), three))),
+        offering(most_penalising(&[one, two, three])),
+        offering(most_penalising(&[])),
+    ]
 }
 
 /// The regulation of an offer, its calculated time over in seconds and its delay.
@@ -203,18 +229,12 @@ fn parts(offer: &Offer) -> (RegId, u32, u32) {
 
 #[test]
 fn the_first_of_the_greatest_delays_is_most_penalising(rt: HostRuntime) {
-    let (one, two, three) = (
-        offer(&rt, b"R1", 36_120),
-        offer(&rt, b"R2", 36_240),
-        offer(&rt, b"R3", 36_240),
-    );
+    let [one, two, three] = offers(&rt);
     let (r1, r2) = (reg(&rt, b"R1"), reg(&rt, b"R2"));
-    assert_eq!(&rt; parts(&one), (r1, 36_120, 110));
+    equal(&rt, &parts(&one), &(r1, 36_120, 110));
     assert!(&rt; offer(&rt, b"R1", 36_000).delay() == 0);
-    assert!(&rt; more_penalising(None, one).id() == r1);
-    assert!(&rt; more_penalising(Some(two), three).id() == r2);
-    assert!(&rt; offering(most_penalising(&[one, two, three])) == Some(r2));
-    assert!(&rt; most_penalising(&[]).is_none());
+    let wanted = [Some(r1), Some(r2), Some(r2), None];
+    equal(&rt, &chosen(one, two, three), &wanted);
 }
 
 /// What is answered of flight A, which R1 delays.
@@ -237,7 +257,7 @@ fn a_flight_is_answered_with_its_delay(rt: HostRuntime) {
     assert!(&rt; slot_number(Place::Over).is_none());
     let row = governed(&rt, rt.alloc(), 0);
     let reply = FlightReply::of(key(&rt, b"A"), &row, 110);
-    assert_eq!(&rt; reply, flight_reply(&rt));
+    equal(&rt, &reply, &flight_reply(&rt));
 }
 
 #[test]
@@ -264,7 +284,7 @@ fn a_message_tells_what_changed(rt: HostRuntime) {
         ),
     ] {
         let told = Message::of(key, reg, was_issued, is_issued, before, 30_600);
-        assert_eq!(&rt; told, message);
+        equal(&rt, &told, &message);
     }
 }
 

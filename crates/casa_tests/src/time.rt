@@ -1,14 +1,15 @@
 //! Moments of the day.
 
-use crate::parts::{moment, shows};
+use crate::parts::{equal, equal_at, moment, shows};
 use casa_time::{Moment, TimeFault, due, hhmm};
 
 #[test]
 fn two_days_have_moments(rt: HostRuntime) {
     let (first, last) = (moment(&rt, 0), moment(&rt, 172_799));
-    assert_eq!(&rt;
-        (first.secs(), last.secs(), Moment::new(172_800)),
-        (0, 172_799, Err(TimeFault::OutOfRange))
+    equal(
+        &rt,
+        &(first.secs(), last.secs(), Moment::new(172_800)),
+        &(0, 172_799, Err(TimeFault::OutOfRange)),
     );
 }
 
@@ -29,7 +30,7 @@ fn times_show_as_hour_and_minute(rt: HostRuntime) {
         (86_400, b"0000"),
         (259_198, b"2359"),
     ] {
-        assert_eq!(&rt; hhmm(secs), *text, "at {secs}");
+        equal_at(&rt, &secs, &hhmm(secs), text);
     }
 }
 
