@@ -61,25 +61,33 @@ fn settled<R: Abort>(
     )
 }
 
+/// Two copies of cell 0 are committed. Returns the answer to a copy of cell 1, worked out before they were.
+fn two_copies<R: Abort>(
+    rt: &R,
+    alloc: Global,
+    room: &mut Room<Cells>,
+    zero: &mut Pass<Copying, Answer>,
+    one: &mut Pass<Copying, Answer>,
+) -> Prepared<Cells> {
+    let first = prepared(rt, alloc, room, Copying::new(0, 1));
+    let second = prepared(rt, alloc, room, Copying::new(0, 2));
+    let third = prepared(rt, alloc, room, Copying::new(1, 0));
+    assert!(rt; seen(rt, commit(room, zero, first)) == (1, Answer::Value(0)));
+    assert!(rt; seen(rt, commit(room, one, second)) == (2, Answer::Value(0)));
+    third
+}
+
 #[test]
 fn the_second_write_of_a_cell_is_stale(rt: HostRuntime) {
     let (mut room, mut zero, mut one) = two_desks(&rt, rt.alloc(), 7);
-    assert_eq!(&rt; (room.desks(), zero.desk(), one.desk()), (2, 0, 1));
-    let first = prepared(&rt, rt.alloc(), &room, Copying::new(0, 1));
-    let second = prepared(&rt, rt.alloc(), &room, Copying::new(0, 2));
-    let third = prepared(&rt, rt.alloc(), &room, Copying::new(1, 0));
-    let first = seen(&rt, commit(&mut room, &mut zero, first));
-    let second = seen(&rt, commit(&mut room, &mut one, second));
-    assert_eq!(&rt;
-        (first, second),
-        ((1, Answer::Value(0)), (2, Answer::Value(0)))
-    );
+    assert!(&rt; (room.desks(), zero.desk(), one.desk()) == (2, 0, 1));
+    let third = two_copies(&rt, rt.alloc(), &mut room, &mut zero, &mut one);
     let faults = stale_twice(&rt, &mut room, &mut one, third);
-    assert_eq!(&rt; faults, (CommitFault::Stale, CommitFault::Stale));
+    assert!(&rt; faults == (CommitFault::Stale, CommitFault::Stale));
     let call = Copying::new(1, 0);
     let third = seen(&rt, room.locked(rt.alloc(), &mut one, &call, &Copier));
-    assert_eq!(&rt; third, (3, Answer::Value(1)));
-    assert_eq!(&rt; (room.world().value(0), room.history().len()), (2, 3));
+    assert!(&rt; third == (3, Answer::Value(1)));
+    assert!(&rt; (room.world().value(0), room.history().len()) == (2, 3));
     let (desks, entries) = (2, 3);
     assert_eq!(&rt;
         settled(&rt, rt.alloc(), room, zero, one),
@@ -103,17 +111,28 @@ fn faults_of<R: Abort>(
     (fault, call_fault)
 }
 
+/// The pass of desk 0 of a room with the number 8.
+fn pass_of_room_8<R: Abort>(rt: &R, alloc: Global) -> Pass<Copying, Answer> {
+    let (_room, pass, _) = two_desks(rt, alloc, 8);
+    pass
+}
+
+/// The pass of desk 2 of another room with the number 7.
+fn pass_of_desk_2<R: Abort>(rt: &R, alloc: Global) -> Pass<Copying, Answer> {
+    let (mut other, _, _) = two_desks(rt, alloc, 7);
+    other.open_desk().expect(rt, "desk 2")
+}
+
 #[test]
 fn a_foreign_pass_is_refused(rt: HostRuntime) {
     let alloc = rt.alloc();
     let foreign = (CommitFault::ForeignPass, CallFault::ForeignPass);
     let (mut room, _zero, _one) = two_desks(&rt, alloc, 7);
-    let (_room_8, mut of_room_8, _) = two_desks(&rt, alloc, 8);
-    assert_eq!(&rt; faults_of(&rt, alloc, &mut room, &mut of_room_8), foreign);
-    let (mut other, _, _) = two_desks(&rt, alloc, 7);
-    let mut of_desk_2 = other.open_desk().expect(&rt, "desk 2");
-    assert_eq!(&rt; faults_of(&rt, alloc, &mut room, &mut of_desk_2), foreign);
-    assert_eq!(&rt; room.history().len(), 0);
+    let mut of_room_8 = pass_of_room_8(&rt, alloc);
+    assert!(&rt; faults_of(&rt, alloc, &mut room, &mut of_room_8) == foreign);
+    let mut of_desk_2 = pass_of_desk_2(&rt, alloc);
+    assert!(&rt; faults_of(&rt, alloc, &mut room, &mut of_desk_2) == foreign);
+    assert!(&rt; room.history().len() == 0);
 }
 
 #[test]
@@ -122,8 +141,8 @@ fn the_desk_after_1024_is_too_many(rt: HostRuntime) {
     for _ in 0..1024 {
         room.open_desk().expect(&rt, "a desk");
     }
-    assert_eq!(&rt; room.open_desk().err(), Some(DeskFault::TooManyDesks));
-    assert_eq!(&rt; room.desks(), 1024);
+    assert!(&rt; room.open_desk().err() == Some(DeskFault::TooManyDesks));
+    assert!(&rt; room.desks() == 1024);
 }
 
 /// A new room and the pass of its desk, opened again where memory was refused, which has opened none.
@@ -132,7 +151,7 @@ fn one_desk<R: Abort>(rt: &R, alloc: Global) -> (Room<Cells>, Pass<Copying, Answ
     let pass = match room.open_desk() {
         Ok(pass) => pass,
         Err(fault) => {
-            assert_eq!(rt; (fault, room.desks()), (DeskFault::NoMemory, 0));
+            assert!(rt; fault == DeskFault::NoMemory && room.desks() == 0);
             room.open_desk().expect(rt, "a desk")
         }
     };
@@ -156,10 +175,7 @@ fn committed<R: Abort>(
     match commit(room, pass, answer) {
         Ok(receipt) => (receipt.position, receipt.entry.reply),
         Err((fault, back)) => {
-            assert_eq!(rt;
-                (fault, counts(room, pass, 1)),
-                (CommitFault::NoMemory, (0, 0, 0))
-            );
+            assert!(rt; fault == CommitFault::NoMemory && counts(room, pass, 1) == (0, 0, 0));
             seen(rt, commit(room, pass, back))
         }
     }
@@ -176,10 +192,7 @@ fn answered<R: Abort>(
     match room.locked(alloc, pass, call, &Copier) {
         Ok(receipt) => (receipt.position, receipt.entry.reply),
         Err(fault) => {
-            assert_eq!(rt;
-                (fault, counts(room, pass, 0)),
-                (CallFault::NoMemory, (1, 1, 0))
-            );
+            assert!(rt; fault == CallFault::NoMemory && counts(room, pass, 0) == (1, 1, 0));
             seen(rt, room.locked(alloc, pass, call, &Copier))
         }
     }
@@ -190,7 +203,7 @@ fn a_refused_growth_changes_nothing(rt: HostRuntime) {
     let (mut room, mut pass) = one_desk(&rt, rt.alloc());
     let answer = prepared(&rt, rt.alloc(), &room, Copying::new(0, 1));
     let first = committed(&rt, &mut room, &mut pass, answer);
-    assert_eq!(&rt; (first, room.world().value(1)), ((1, Answer::Value(0)), 1));
+    assert!(&rt; first == (1, Answer::Value(0)) && room.world().value(1) == 1);
     let second = answered(&rt, rt.alloc(), &mut room, &mut pass, &Copying::new(1, 0));
-    assert_eq!(&rt; second, (2, Answer::Value(1)));
+    assert!(&rt; second == (2, Answer::Value(1)));
 }
