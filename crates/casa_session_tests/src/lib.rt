@@ -6,4 +6,6 @@
 #[cfg(test)]
 mod lone;
 #[cfg(test)]
+mod parts;
+#[cfg(test)]
 mod session;

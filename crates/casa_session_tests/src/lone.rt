@@ -1,7 +1,8 @@
 //! Sessions over a desk that is alone on a board.
 
+use crate::parts::ends_after_whole_replies;
 use casa_flight::{Answer, Call, RegId, Reply};
-use casa_session::{Desk, Lone, SessionFault};
+use casa_session::{Desk, Lone};
 use std::alloc::Global;
 use std::process::Abort;
 
@@ -42,7 +43,7 @@ fn a_desk_answers_after_a_session(rt: HostRuntime) {
     let mut output = Vec::new(rt.alloc());
     assert!(&rt; lone.run(rt.alloc(), &mut input, &mut output) == Ok(3));
     assert!(&rt; output.as_slice() == OUTPUT);
-    assert_eq!(&rt; listed(&rt, rt.alloc(), &mut lone), (4, Some(1)));
+    assert!(&rt; listed(&rt, rt.alloc(), &mut lone) == (4, Some(1)));
 }
 
 /// Run also with each allocation refused in turn: the session then ends after whole replies, without memory or, where
@@ -56,12 +57,5 @@ fn a_refused_growth_ends_a_session(rt: HostRuntime) {
     let mut input = INPUT;
     let mut output = Vec::new(alloc);
     let ended = lone.run(alloc, &mut input, &mut output);
-    let (is_whole, length) = (ended == Ok(3), output.len() as u64);
-    assert!(rt;
-        is_whole
-            || ended == Err(SessionFault::NoMemory)
-            || ended == Err(SessionFault::WriteFailed(length))
-    );
-    assert!(rt; OUTPUT.starts_with(&output) && is_whole == (output.len() == OUTPUT.len()));
-    assert!(rt; output.is_empty() || output.ends_with(b"\n"));
+    ends_after_whole_replies(&rt, ended, output.as_slice(), 3, OUTPUT);
 }

@@ -4,6 +4,7 @@ ghost use Rattle.std.specs.Prelude.{◌≡◌, ⊤, IfOk};
 ghost use Rattle.casa_history.specs.Entries.{receipt};
 ghost use Rattle.casa_commit.specs.Legal.{entry};
 
+use crate::parts::ends_after_whole_replies;
 use casa_commit::CallFault;
 use casa_flight::{Call, Refusal, Reply};
 use casa_history::{Entry, Receipt};
@@ -53,6 +54,19 @@ impl Desk for Refusing {
     }
 }
 
+/// How a session over a desk that refuses all calls ends, and how many receipts the desk then has.
+fn serve<R: Read, W: Write>(
+    alloc: Global,
+    reader: &mut R,
+    writer: &mut W,
+) -> (Result<u64, SessionFault>, usize) {
+    let mut desk = Refusing {
+        receipts: Vec::new(alloc),
+    };
+    let ended = run(alloc, reader, writer, &mut desk);
+    (ended, desk.receipts.len())
+}
+
 const INPUT: &[u8] =
     b"{\"cmd\":\"tick\",\"at\":5}\n\n{\"cmd\":\"fly\"}\n{\"cmd\":\"tick\",\"at\":7}";
 
@@ -61,33 +75,21 @@ const OUTPUT: &[u8] =
 
 #[test]
 fn a_session_answers_each_line(rt: HostRuntime) {
-    let mut desk = Refusing {
-        receipts: Vec::new(rt.alloc()),
-    };
     let mut input = INPUT;
     let mut output = Vec::new(rt.alloc());
-    let ended = run(rt.alloc(), &mut input, &mut output, &mut desk);
-    assert!(rt; ended == Ok(4) && output.as_slice() == OUTPUT && desk.receipts.len() == 2);
+    let ended = serve(rt.alloc(), &mut input, &mut output);
+    assert!(rt; ended == (Ok(4), 2));
+    assert!(rt; output.as_slice() == OUTPUT);
 }
 
 /// Run also with each allocation refused in turn: the session then ends after whole replies, without memory
 /// or, where it is the output that can't grow, with a failed write.
 #[test]
 fn a_refused_growth_ends_a_session(rt: HostRuntime) {
-    let mut desk = Refusing {
-        receipts: Vec::new(rt.alloc()),
-    };
     let mut input = INPUT;
     let mut output = Vec::new(rt.alloc());
-    let ended = run(rt.alloc(), &mut input, &mut output, &mut desk);
-    let (is_whole, length) = (ended == Ok(4), output.len() as u64);
-    assert!(rt;
-        is_whole
-            || ended == Err(SessionFault::NoMemory)
-            || ended == Err(SessionFault::WriteFailed(length))
-    );
-    assert!(rt; OUTPUT.starts_with(&output) && is_whole == (output.len() == OUTPUT.len()));
-    assert!(rt; output.is_empty() || output.ends_with(b"\n"));
+    let (ended, _) = serve(rt.alloc(), &mut input, &mut output);
+    ends_after_whole_replies(&rt, ended, output.as_slice(), 4, OUTPUT);
 }
 
 /// Gives one byte at a time, interrupted before each, and fails at its last call.
@@ -120,24 +122,23 @@ fn a_reader_may_be_read_often(rt: HostRuntime) {
         rest: &[b'\n'; 1_000],
         calls: 2_002,
     };
-    let mut desk = Refusing {
-        receipts: Vec::new(rt.alloc()),
-    };
     let mut output = Vec::new(rt.alloc());
-    assert!(&rt; run(rt.alloc(), &mut slow, &mut output, &mut desk) == Ok(1_000));
+    let (ended, _) = serve(rt.alloc(), &mut slow, &mut output);
+    assert!(&rt; ended == Ok(1_000));
+}
+
+/// How a session ends whose reader has so many calls, and whether it has written the first of the replies.
+fn read_slowly(alloc: Global, calls: u32) -> (Result<u64, SessionFault>, bool) {
+    let mut slow = Slow { rest: INPUT, calls };
+    let mut output = Vec::new(alloc);
+    let (ended, _) = serve(alloc, &mut slow, &mut output);
+    (ended, OUTPUT.starts_with(&output))
 }
 
 #[test]
 fn a_reader_may_be_slow_and_fail(rt: HostRuntime) {
-    for (calls, ended) in [(1000, Ok(4)), (100, Err(SessionFault::ReadFailed))] {
-        let mut desk = Refusing {
-            receipts: Vec::new(rt.alloc()),
-        };
-        let mut slow = Slow { rest: INPUT, calls };
-        let mut output = Vec::new(rt.alloc());
-        assert!(rt; run(rt.alloc(), &mut slow, &mut output, &mut desk) == ended);
-        assert!(rt; OUTPUT.starts_with(&output));
-    }
+    assert!(rt; read_slowly(rt.alloc(), 1000) == (Ok(4), true));
+    assert!(rt; read_slowly(rt.alloc(), 100) == (Err(SessionFault::ReadFailed), true));
 }
 
 /// Takes three bytes at a time, interrupted before each, and in all as many as it has room for.
@@ -163,19 +164,21 @@ impl Write for Narrow {
     }
 }
 
+/// How a session ends whose writer has so much room.
+fn write_narrowly(alloc: Global, room: usize) -> Result<u64, SessionFault> {
+    let mut input = INPUT;
+    let mut narrow = Narrow {
+        room,
+        is_interrupted: false,
+    };
+    let (ended, _) = serve(alloc, &mut input, &mut narrow);
+    ended
+}
+
 #[test]
 fn a_writer_may_take_no_more(rt: HostRuntime) {
-    for (room, ended) in [(1000, Ok(4)), (40, Err(SessionFault::WriteFailed(40)))] {
-        let mut desk = Refusing {
-            receipts: Vec::new(rt.alloc()),
-        };
-        let mut input = INPUT;
-        let mut narrow = Narrow {
-            room,
-            is_interrupted: false,
-        };
-        assert!(rt; run(rt.alloc(), &mut input, &mut narrow, &mut desk) == ended);
-    }
+    assert!(rt; write_narrowly(rt.alloc(), 1000) == Ok(4));
+    assert!(rt; write_narrowly(rt.alloc(), 40) == Err(SessionFault::WriteFailed(40)));
 }
 
 /// Gives a line a time, and fails where one of the lines before has no reply yet.
@@ -226,9 +229,6 @@ impl Write for Counting<'_> {
 #[test]
 fn no_reply_waits_for_a_read(rt: HostRuntime) {
     let replies = Cell::new(0);
-    let mut desk = Refusing {
-        receipts: Vec::new(rt.alloc()),
-    };
     let mut waiting = Waiting {
         rest: INPUT,
         given: 0,
@@ -238,25 +238,22 @@ fn no_reply_waits_for_a_read(rt: HostRuntime) {
         replies: &replies,
         writes: 0,
     };
-    assert!(rt;
-        run(rt.alloc(), &mut waiting, &mut counting, &mut desk) == Err(SessionFault::ReadFailed)
-    );
-    assert_eq!(rt; (replies.get(), counting.writes), (3, 3));
+    let (ended, _) = serve(rt.alloc(), &mut waiting, &mut counting);
+    assert!(rt; ended == Err(SessionFault::ReadFailed));
+    assert!(rt; (replies.get(), counting.writes) == (3, 3));
 }
 
 #[test]
 fn replies_are_written_together(rt: HostRuntime) {
     let replies = Cell::new(0);
-    let mut desk = Refusing {
-        receipts: Vec::new(rt.alloc()),
-    };
     let mut input = INPUT;
     let mut counting = Counting {
         replies: &replies,
         writes: 0,
     };
-    assert!(rt; run(rt.alloc(), &mut input, &mut counting, &mut desk) == Ok(4));
-    assert_eq!(rt; (replies.get(), counting.writes), (4, 2));
+    let (ended, _) = serve(rt.alloc(), &mut input, &mut counting);
+    assert!(rt; ended == Ok(4));
+    assert!(rt; (replies.get(), counting.writes) == (4, 2));
 }
 
 /// How a session ends whose input is a line of this many letters and an empty one, and whether it writes this text.
@@ -269,22 +266,17 @@ fn two_lines(
     let mut line = Vec::new(alloc);
     line.resize(len, b'x').expect(rt, "memory");
     line.extend_from_slice(b"\n\n").expect(rt, "memory");
-    let mut desk = Refusing {
-        receipts: Vec::new(alloc),
-    };
     let mut input = line.as_slice();
     let mut output = Vec::new(alloc);
-    let ended = run(alloc, &mut input, &mut output, &mut desk);
+    let (ended, _) = serve(alloc, &mut input, &mut output);
     (ended, output.as_slice() == text)
 }
 
 #[test]
 fn a_line_may_be_too_long(rt: HostRuntime) {
     let two = b"{\"fault\":\"NotJson\"}\n{\"fault\":\"NotJson\"}\n";
-    assert_eq!(&rt; two_lines(&rt, rt.alloc(), 65_536, two), (Ok(2), true));
+    assert!(&rt; two_lines(&rt, rt.alloc(), 65_536, two) == (Ok(2), true));
     let too_long = b"{\"fault\":\"LineTooLong\"}\n";
-    assert_eq!(&rt;
-        two_lines(&rt, rt.alloc(), 65_537, too_long),
-        (Err(SessionFault::LineTooLong), true)
-    );
+    let ended = two_lines(&rt, rt.alloc(), 65_537, too_long);
+    assert!(&rt; ended == (Err(SessionFault::LineTooLong), true));
 }
