@@ -197,7 +197,7 @@ fn a_regulation_has_the_span_of_its_profile(rt: HostRuntime) {
     equal(&rt, &regulation, &wanted);
 }
 
-/// What R1, R2 and R3 offer, the last two with the greater delay.
+/// What three regulations offer, the last two with the greater delay.
 fn offers(rt: &impl Abort) -> [Offer; 3] {
     [
         offer(rt, b"R1", 36_120),
