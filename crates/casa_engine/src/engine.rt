@@ -71,7 +71,7 @@ impl<K: Kept, L: Ledger, G: Gate<Board<K>> + Drop> SharedRoom<Board<K>, L, G> {
             × IsAuditOf (lists_in (state_after history)) audit) }
     {
         let alloc = self.alloc;
-        let shared = self.room.lock(rt).lists(alloc);
+        let shared = self.held(rt).lists(alloc);
         let lists = shared?;
         audit_shared(rt, alloc, lists.as_slice())
     }

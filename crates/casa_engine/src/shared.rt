@@ -14,11 +14,16 @@ use casa_commit::{CallFault, CommitFault, DeskFault, Gate, World, prepare};
 use casa_history::{History, Receipt, Settled, Torn};
 use casa_plan::Direct;
 use std::alloc::Global;
+use std::hint::spin_loop;
 use std::sync::ledger::{Blank, Ledger};
-use std::sync::{Mutex, Wait};
+use std::sync::{Mutex, MutexGuard, Wait};
 
 /// How often a call's answer is worked out outside the lock before it is worked out under it.
 const TRIES: u32 = 3;
+
+/// How often a desk asks for the lock before it sleeps until it is woken. What runs under the lock is shorter than a sleep
+/// and a wake, so that the next desk mostly has it before it would sleep.
+const LOOKS: u32 = 1000;
 
 /// A world that desks in many threads may share: each of its views is of the one world that there is.
 ///
@@ -75,12 +80,23 @@ where
         }
     }
 
+    /// The room, which nobody else has until this is let go.
+    pub(crate) fn held<R: Wait>(&self, rt: &R) -> MutexGuard<'_, CountedRoom<W, L>> {
+        for _ in 0..LOOKS {
+            if let Some(room) = self.room.try_lock() {
+                return room;
+            }
+            spin_loop();
+        }
+        self.room.lock(rt)
+    }
+
     /// Opens the next desk and gives its pass, which has no receipt; `TooManyDesks` where 1,024 are open, else `NoMemory`
     /// where there is no memory for it.
     pub fn desk<R: Wait>(&self, rt: &R) -> Result<CountedPass<W, L>, DeskFault>
         ensures { IfOk result (λ desk. receipts (pass_of desk) ≡ []) }
     {
-        self.room.lock(rt).open_desk()
+        self.held(rt).open_desk()
     }
 
     /// Answers a call and gives its receipt.
@@ -123,7 +139,7 @@ where
         let Ok(copy) = W::copy_call(call) else {
             return Err(CommitFault::NoMemory);
         };
-        let seen = self.room.lock(rt).view(call);
+        let seen = self.held(rt).view(call);
         let Ok(view) = seen else {
             return Err(CommitFault::NoMemory);
         };
@@ -132,7 +148,7 @@ where
             return Err(CommitFault::NoMemory);
         };
         // The lock is free again before a stale answer is dropped.
-        let committed = self.room.lock(rt).commit(desk, prepared);
+        let committed = self.held(rt).commit(desk, prepared);
         committed.map_err(|(fault, _)| fault)
     }
 
@@ -146,7 +162,7 @@ where
         ensures stands { IfOk result (λ r. Stands W.World (pass_of desk.old) call.now r (pass_of desk.new)) }
         ensures same_pass { OnErr result (SamePass (pass_of desk.old) (pass_of desk.new)) }
     {
-        self.room.lock(rt).locked(self.alloc, desk, call, &Direct)
+        self.held(rt).locked(self.alloc, desk, call, &Direct)
     }
 }
 

@@ -215,7 +215,7 @@ fn listed(rt: &impl Abort, alloc: Global) -> Reply {
 }
 
 /// A copy of a reply equals it.
-fn is_copied(rt: &impl Abort, reply: &Reply) {
+fn check_copy_of_reply(rt: &impl Abort, reply: &Reply) {
     assert!(rt; reply.try_clone().expect(rt, "memory") == *reply);
 }
 
@@ -233,6 +233,6 @@ fn counts(reply: &Reply) -> Option<(usize, usize)> {
 fn a_copied_reply_equals_its_source(rt: HostRuntime) {
     let reply = listed(&rt, rt.alloc());
     assert!(&rt; counts(&reply) == Some((1, 1)));
-    is_copied(&rt, &reply);
+    check_copy_of_reply(&rt, &reply);
     assert!(&rt; reply != Reply::Refused(Refusal::Late));
 }

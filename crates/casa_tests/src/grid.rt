@@ -94,7 +94,7 @@ fn a_place_gives_the_later_time(rt: HostRuntime) {
 }
 
 /// A copy of the profile and that of its slots equal it.
-fn is_copied(rt: &impl Abort, alloc: Global, profile: &Profile) {
+fn check_copy_of_profile(rt: &impl Abort, alloc: Global, profile: &Profile) {
     assert!(rt; copy(rt, profile) == *profile);
     assert!(rt; *slots_of(rt, alloc, profile).profile() == *profile);
 }
@@ -109,7 +109,7 @@ fn a_profile_is_its_periods(rt: HostRuntime) {
         &profile.span(),
         &(moment(&rt, 36000), moment(&rt, 43200)),
     );
-    is_copied(&rt, rt.alloc(), &profile);
+    check_copy_of_profile(&rt, rt.alloc(), &profile);
 }
 
 #[test]

@@ -59,7 +59,7 @@ fn second_pass(rt: &impl Abort, alloc: Global, position: usize, reply: u32) -> P
 }
 
 /// The history of `three_calls` has an entry at 3, and none at 0 and at 4.
-fn has_three_calls(rt: &impl Abort, history: &History<u32, u32>) {
+fn check_three_calls(rt: &impl Abort, history: &History<u32, u32>) {
     equal(
         rt,
         &(history.len(), entry_at(history, 3)),
@@ -70,7 +70,7 @@ fn has_three_calls(rt: &impl Abort, history: &History<u32, u32>) {
 
 #[test]
 fn a_history_and_a_pass_grow(rt: HostRuntime) {
-    has_three_calls(&rt, &three_calls(&rt, rt.alloc()));
+    check_three_calls(&rt, &three_calls(&rt, rt.alloc()));
     let pass = first_pass(&rt, rt.alloc());
     equal(
         &rt,

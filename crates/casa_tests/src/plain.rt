@@ -131,7 +131,7 @@ fn reply(rt: &impl Abort, alloc: Global, plain: &mut Plain, number: usize) -> Re
 }
 
 /// Makes the call with this number, which is answered as it is to be.
-fn is_answered(rt: &impl Abort, alloc: Global, plain: &mut Plain, number: usize) {
+fn check_answer(rt: &impl Abort, alloc: Global, plain: &mut Plain, number: usize) {
     let reply = reply(rt, alloc, plain, number);
     equal_at(rt, &number, &reply, &reply_to(rt, alloc, number));
 }
@@ -142,7 +142,7 @@ fn is_answered(rt: &impl Abort, alloc: Global, plain: &mut Plain, number: usize)
 fn a_day_of_one_regulation(rt: HostRuntime) {
     let mut plain = Plain::new(rt.alloc());
     for number in 0..8 {
-        is_answered(&rt, rt.alloc(), &mut plain, number);
+        check_answer(&rt, rt.alloc(), &mut plain, number);
     }
 }
 

@@ -51,14 +51,14 @@ fn a_plan_is_due_two_hours_before_and_gone_after_the_take_off(rt: HostRuntime) {
 }
 
 /// Flight A as it is filed is not exempt, and may compete until its take-off.
-fn is_filed(rt: &impl Abort, filed: &Row) {
+fn check_filed(rt: &impl Abort, filed: &Row) {
     let at = moment(rt, 22_800);
     assert!(rt; !filed.is_exempt() && filed.may_compete(at) && !filed.is_to_issue(at));
     assert!(rt; !filed.may_compete(moment(rt, 30_601)));
 }
 
 /// A row stays marked when its plan is amended to one that is exempt as it is filed.
-fn is_amended(rt: &impl Abort, alloc: Global, exempted: &Row) {
+fn check_amended(rt: &impl Abort, alloc: Global, exempted: &Row) {
     let amended = exempted
         .amended(&plan(rt, alloc, Sts::Head))
         .expect(rt, "memory");
@@ -69,10 +69,10 @@ fn is_amended(rt: &impl Abort, alloc: Global, exempted: &Row) {
 #[test]
 fn a_row_is_filed_exempted_and_amended(rt: HostRuntime) {
     let filed = filed(&rt, rt.alloc());
-    is_filed(&rt, &filed);
+    check_filed(&rt, &filed);
     let exempted = filed.exempted().expect(&rt, "memory");
     assert!(&rt; exempted.is_exempt() && !exempted.may_compete(moment(&rt, 22_800)));
-    is_amended(&rt, rt.alloc(), &exempted);
+    check_amended(&rt, rt.alloc(), &exempted);
 }
 
 /// Flight A as it is filed.
