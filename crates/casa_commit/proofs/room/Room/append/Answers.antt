@@ -38,8 +38,8 @@ returns-clause-accepted g c =
     let same : e ≡ entry pass.desk a.call (W.reply (W.state w) a.call) =
     ap (λ (d : ℕ). entry d a.call a.reply) desk ∙ ap (entry pass.desk a.call) says in
     let own : c.in-Ok.entry ≡ e = c.in-Ok.ensures.entry ∙ ap (λ (k : ℕ). entry k a.call a.reply) (sym desk) in
-    let pushed = pushed_behind (entries c.push.new.self) _ es c.in-Ok.entry c.push.ensures c.grow.ensures.history in
-    let items = pushed ∙ ap (λ (x : OfWorld g). es ++ x ∷ []) own in
+    let items =
+    pushed_behind (entries c.push.new.self) _ es c.in-Ok.entry e c.push.ensures c.grow.ensures.history own in
     let number : c.in-Ok.kept.position ≡ length es + 1 =
     ap (λ (r : ReceiptOfWorld g). r.position) c.in-Ok.ensures.kept in
     let applied =
@@ -82,8 +82,8 @@ invariant_of-self-clause-replayed g c =
     next ∙ replay_push W.after W.opening es e n (W.state w) number was in
     let desk : c.desk-desk.result ≡ c.args.pass.now.desk = search (rules) in
     let own : c.in-Ok.entry ≡ e = c.in-Ok.ensures.entry ∙ ap (λ (k : ℕ). entry k a.call a.reply) (sym desk) in
-    let pushed = pushed_behind (entries c.push.new.self) _ es c.in-Ok.entry c.push.ensures c.grow.ensures.history in
-    let items = pushed ∙ ap (λ (x : OfWorld g). es ++ x ∷ []) own in
+    let items =
+    pushed_behind (entries c.push.new.self) _ es c.in-Ok.entry e c.push.ensures c.grow.ensures.history own in
     subst (λ (xs : List (OfWorld g)). W.state w' ≡ replay W.after W.opening xs) (sym items) goes
 
 -- each earlier reply stands, and the new one is that of its call
@@ -102,8 +102,8 @@ invariant_of-self-clause-legal g c =
     (c.requires.right fine).0 in
     let desk : c.desk-desk.result ≡ c.args.pass.now.desk = search (rules) in
     let own : c.in-Ok.entry ≡ e = c.in-Ok.ensures.entry ∙ ap (λ (k : ℕ). entry k a.call a.reply) (sym desk) in
-    let pushed = pushed_behind (entries c.push.new.self) _ es c.in-Ok.entry c.push.ensures c.grow.ensures.history in
-    let items = pushed ∙ ap (λ (x : OfWorld g). es ++ x ∷ []) own in
+    let items =
+    pushed_behind (entries c.push.new.self) _ es c.in-Ok.entry e c.push.ensures c.grow.ensures.history own in
     subst (λ (xs : List (OfWorld g)). IsLegal W.after W.reply W.opening xs) (sym items)
     (legal_push W.after W.reply W.opening es e c.args.self.now.legal
     (says ∙ ap (λ (s : W.state_type). W.reply s a.call) was))
@@ -127,7 +127,7 @@ invariant_of-self-clause-tallied g c =
     let here = slice_get_read was (length was) d t refl is_open c.index_mut-tally.ensures.value in
     let desk : c.desk-desk.result ≡ c.args.pass.now.desk = search (rules) in
     let own : c.in-Ok.entry ≡ e = c.in-Ok.ensures.entry ∙ ap (λ (k : ℕ). entry k a.call a.reply) (sym desk) in
-    let pushed = pushed_behind (entries c.push.new.self) _ es c.in-Ok.entry c.push.ensures c.grow.ensures.history in
-    let items = pushed ∙ ap (λ (x : OfWorld g). es ++ x ∷ []) own in
+    let items =
+    pushed_behind (entries c.push.new.self) _ es c.in-Ok.entry e c.push.ensures c.grow.ensures.history own in
     subst (λ (xs : List (OfWorld g)). AreTallies (set was d (record { calls = t.calls + 1; last = n })) xs) (sym items)
     (tallies_push was es e t n tallied is_open (sym (get_or_from_slice_get was d t no_calls here)) number)
