@@ -4,7 +4,7 @@ ghost use Rattle.std.specs.Prelude.{◌≡◌};
 
 use crate::lines::call_of;
 use casa_flight::{Call, Reply};
-use casa_history::{Entry, History, Receipt};
+use casa_history::{Entry, History, Receipt, SharedEntry};
 use casa_shelf::{Shelf, Shelving};
 use casa_view::{Copies, Item, Kept};
 use casa_wire::reply_line;
@@ -39,6 +39,7 @@ fn push_entry(
         call: entry.call.try_clone().expect(rt, "memory"),
         reply: entry.reply.try_clone().expect(rt, "memory"),
     };
+    let entry = SharedEntry::new(alloc, entry).expect(rt, "memory");
     let receipt = Receipt { position, entry };
     let line = reply_line(alloc, &receipt).expect(rt, "memory");
     let text = str::from_utf8(&line).expect(rt, "a text");

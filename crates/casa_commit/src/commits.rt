@@ -39,18 +39,16 @@ pub fn commit<W: World>(
         return Err((CommitFault::Stale, prepared));
     }
     let Prepared {
-        call,
+        entry,
         view,
-        reply,
         change,
     } = prepared;
-    match room.append(pass, call, reply, change) {
+    match room.append(pass, entry, change) {
         Ok(receipt) => Ok(receipt),
-        Err((call, reply, change)) => {
+        Err((entry, change)) => {
             let prepared = Prepared {
-                call,
+                entry,
                 view,
-                reply,
                 change,
             };
             Err((CommitFault::NoMemory, prepared))

@@ -4,9 +4,11 @@ ghost use Rattle.casa_commit.specs.Prepared.{call_of, view_of};
 use crate::gate::Gate;
 use crate::prepared::Prepared;
 use crate::world::World;
+use casa_history::{Entry, SharedEntry};
 use std::alloc::{AllocError, Global};
 
-/// Works out the answer to a desk's call on a view of what it reads, or answers `AllocError` where the gate does.
+/// Works out the answer to a desk's call on a view of what it reads, and makes its entry. `AllocError` where the gate
+/// answers it, or where there is no memory for the entry.
 ///
 /// `turn` tells the gate which try of the call this is, from 0. No room and no lock is held meanwhile.
 pub fn prepare<W: World, G: Gate<W>>(
@@ -22,10 +24,10 @@ pub fn prepare<W: World, G: Gate<W>>(
     ensures view { IfOk result (λ p. view_of p ≡ view) }
 {
     let (reply, change) = gate.plan(alloc, desk, turn, &view, &call)?;
+    let entry = SharedEntry::new(alloc, Entry { desk, call, reply })?;
     Ok(Prepared {
-        call,
+        entry,
         view,
-        reply,
         change,
     })
 }

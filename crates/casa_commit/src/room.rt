@@ -10,7 +10,7 @@ use crate::planning::answered_now;
 use crate::prepared::Prepared;
 use crate::tally::Tally;
 use crate::world::World;
-use casa_history::{Entry, History, Pass, Receipt};
+use casa_history::{Entry, History, Pass, Receipt, SharedEntry};
 use std::alloc::{AllocError, Global};
 
 /// The most desks that may be open.
@@ -42,6 +42,9 @@ impl<W: World + Drop> Drop for Room<W> {
         } = self;
     }
 }
+
+/// The entry of a commit, shared three times: for the history, and in the receipts for the pass and for the caller.
+type Shares<C, R> = (SharedEntry<C, R>, Receipt<C, R>, Receipt<C, R>);
 
 impl<W: World> Room<W> {
     ghost use Rattle.casa_commit.specs.Prepared.{call_of, view_of, reply_of, change_of};
@@ -146,10 +149,10 @@ impl<W: World> Room<W> {
         let Ok((reply, change)) = answered_now(alloc, gate, self.world(), pass.desk(), call) else {
             return Err(CallFault::NoMemory);
         };
-        let Ok(call) = W::copy_call(call) else {
+        let Ok(entry) = entry_of::<W>(alloc, pass.desk(), call, reply) else {
             return Err(CallFault::NoMemory);
         };
-        match self.append(pass, call, reply, change) {
+        match self.append(pass, entry, change) {
             Ok(receipt) => Ok(receipt),
             Err(_) => Err(CallFault::NoMemory),
         }
@@ -166,44 +169,45 @@ impl<W: World> Room<W> {
             && last_position(pass) == self.desks[desk].last
     }
 
-    /// Appends the entry of a call with its reply and applies its change, or hands all three back where memory is refused.
+    /// Appends the entry of a call with its reply, as one of the pass's desk, and applies its change, or hands both back
+    /// where memory is refused.
     pub(crate) fn append(
         &mut self,
         pass: &mut Pass<W::Call, W::Reply>,
-        call: W::Call,
-        reply: W::Reply,
+        answered: SharedEntry<W::Call, W::Reply>,
         change: W::Change,
-    ) -> Result<Receipt<W::Call, W::Reply>, (W::Call, W::Reply, W::Change)>
+    ) -> Result<Receipt<W::Call, W::Reply>, (SharedEntry<W::Call, W::Reply>, W::Change)>
         requires admitted { Admits self.old pass.old }
         requires right { W.good (W.state (world_of self.old)) →
-            (reply ≡ W.reply (W.state (world_of self.old)) call) × ∥ W.changes (W.state (world_of self.old)) call change ∥₁ }
+            (answered.reply ≡ W.reply (W.state (world_of self.old)) answered.call)
+            × ∥ W.changes (W.state (world_of self.old)) answered.call change ∥₁ }
         ensures accepted { IfOk result (λ receipt.
-            Accepts self.old pass.old call change receipt self.new pass.new) }
+            Accepts self.old pass.old answered.call change receipt self.new pass.new) }
         ensures refused { OnErr result (AreUnchanged self.old pass.old self.new pass.new) }
-        ensures back { IfErr result (λ answer. answer ≡ (call, reply, change)) }
+        ensures back { IfErr result (λ answer. answer ≡ (answered, change)) }
     {
-        let Ok((first, second)) = self.grow(pass, &call, &reply, &change) else {
-            return Err((call, reply, change));
+        let Ok((entry, kept, given)) = self.grow(pass, &answered, &change) else {
+            return Err((answered, change));
         };
         let desk = pass.desk();
-        let position = second.position;
-        self.history.push(Entry { desk, call, reply });
+        let position = kept.position;
+        self.history.push(entry);
         self.world.apply(position, change);
         let tally = &mut self.desks[desk as usize];
         tally.calls += 1;
         tally.last = position;
-        pass.push(second);
-        Ok(first)
+        pass.push(kept);
+        Ok(given)
     }
 
-    /// Makes all growths of a commit: of the history, of the pass, of the world, and the entry's two receipts.
+    /// Makes all growths of a commit: of the history, of the pass, of the world, and the entry that history, pass and
+    /// receipt share.
     fn grow(
         &mut self,
         pass: &mut Pass<W::Call, W::Reply>,
-        call: &W::Call,
-        reply: &W::Reply,
+        answered: &SharedEntry<W::Call, W::Reply>,
         change: &W::Change,
-    ) -> Result<(Receipt<W::Call, W::Reply>, Receipt<W::Call, W::Reply>), AllocError>
+    ) -> Result<Shares<W::Call, W::Reply>, AllocError>
         ensures world { W.alike (world_of self.old) (world_of self.new) }
         ensures history { entries_of self.new ≡ entries_of self.old }
         ensures number { room_number self.new ≡ room_number self.old }
@@ -212,18 +216,21 @@ impl<W: World> Room<W> {
         ensures history_room { OnOk result (HasRoomForEntry (history_of self.new)) }
         ensures pass_room { OnOk result (HasRoomForReceipt pass.new) }
         ensures world_room { OnOk result (W.has_room (world_of self.new) (next_position self.old) change.now) }
-        ensures first { IfOk result (λ r. r.0 ≡ receipt (next_position self.old)
-            (entry (desk_of pass.old) call.now reply.now)) }
-        ensures second { IfOk result (λ r. r.1 ≡ receipt (next_position self.old)
-            (entry (desk_of pass.old) call.now reply.now)) }
+        ensures entry { IfOk result (λ r. r.0 ≡ entry (desk_of pass.old) answered.now.call answered.now.reply) }
+        ensures kept { IfOk result (λ r. r.1 ≡ receipt (next_position self.old)
+            (entry (desk_of pass.old) answered.now.call answered.now.reply)) }
+        ensures given { IfOk result (λ r. r.2 ≡ receipt (next_position self.old)
+            (entry (desk_of pass.old) answered.now.call answered.now.reply)) }
     {
         self.history.reserve()?;
         pass.reserve()?;
         let position = self.history.len() + 1;
-        let first = receipt::<W>(position, pass.desk(), call, reply)?;
-        let second = receipt::<W>(position, pass.desk(), call, reply)?;
+        let alloc = *self.desks.allocator();
+        let entry = entry_for::<W>(alloc, pass.desk(), answered)?;
+        let kept = receipt(position, &entry)?;
+        let given = receipt(position, &entry)?;
         self.world.fits(position, change)?;
-        Ok((first, second))
+        Ok((entry, kept, given))
     }
 }
 
@@ -245,20 +252,44 @@ impl<W: World + Drop> Room<W> {
     }
 }
 
-/// A receipt of an entry at this position, in memory of its own.
-fn receipt<W: World>(
-    position: usize,
+/// The entry of a desk's call with its reply, the call in memory of its own.
+fn entry_of<W: World>(
+    alloc: Global,
     desk: u32,
     call: &W::Call,
-    reply: &W::Reply,
-) -> Result<Receipt<W::Call, W::Reply>, AllocError>
-    ensures { IfOk result (λ r. r ≡ receipt position (entry desk call.now reply.now)) }
+    reply: W::Reply,
+) -> Result<SharedEntry<W::Call, W::Reply>, AllocError>
+    ensures { IfOk result (λ e. e ≡ entry desk call.now reply) }
 {
     let call = W::copy_call(call)?;
-    let reply = W::copy_reply(reply)?;
+    SharedEntry::new(alloc, Entry { desk, call, reply })
+}
+
+/// The entry of an answered call for this desk: the same where it was answered for this desk, else one of copies.
+fn entry_for<W: World>(
+    alloc: Global,
+    desk: u32,
+    answered: &SharedEntry<W::Call, W::Reply>,
+) -> Result<SharedEntry<W::Call, W::Reply>, AllocError>
+    ensures { IfOk result (λ e. e ≡ entry desk answered.now.call answered.now.reply) }
+{
+    if answered.desk == desk {
+        return answered.share();
+    }
+    let reply = W::copy_reply(&answered.reply)?;
+    entry_of::<W>(alloc, desk, &answered.call, reply)
+}
+
+/// A receipt of an entry at this position.
+fn receipt<C: Drop, R: Drop>(
+    position: usize,
+    entry: &SharedEntry<C, R>,
+) -> Result<Receipt<C, R>, AllocError>
+    ensures { IfOk result (λ r. r ≡ receipt position entry.now) }
+{
     Ok(Receipt {
         position,
-        entry: Entry { desk, call, reply },
+        entry: entry.share()?,
     })
 }
 

@@ -1,3 +1,5 @@
+use crate::shared::SharedEntry;
+
 /// A call of a desk with the reply that it got.
 #[derive(Debug, Drop)]
 pub struct Entry<C, R> {
@@ -12,5 +14,5 @@ pub struct Entry<C, R> {
 pub struct Receipt<C, R> {
     /// How many entries the history has up to and with this one.
     pub position: usize,
-    pub entry: Entry<C, R>,
+    pub entry: SharedEntry<C, R>,
 }

@@ -3,6 +3,7 @@ ghost use Rattle.std.specs.Option.{option_copied};
 ghost use Rattle.casa_history.specs.Entries.{entries, entry_at, HasRoomForEntry};
 
 use crate::entry::Entry;
+use crate::shared::SharedEntry;
 use std::alloc::{AllocError, Global};
 
 /// The calls that were answered, oldest first, each with its desk and reply.
@@ -10,7 +11,7 @@ use std::alloc::{AllocError, Global};
 /// A history only grows.
 #[derive(Debug)]
 pub struct History<C, R> {
-    entries: Vec<Entry<C, R>>,
+    entries: Vec<SharedEntry<C, R>>,
 }
 
 impl<C: Drop, R: Drop> Drop for History<C, R> {
@@ -40,11 +41,12 @@ impl<C, R> History<C, R> {
     pub fn entry(&self, position: usize) -> Option<&Entry<C, R>>
         ensures { option_copied result ≡ entry_at position (entries self.now) }
     {
-        self.entries.get(position.checked_sub(1)?)
+        let entry = self.entries.get(position.checked_sub(1)?)?;
+        Some(entry)
     }
 
     /// The entries, oldest first.
-    pub(crate) fn entries(&self) -> &[Entry<C, R>]
+    pub(crate) fn entries(&self) -> &[SharedEntry<C, R>]
         ensures { result.now ≡ entries self.now }
     {
         self.entries.as_slice()
@@ -59,7 +61,7 @@ impl<C, R> History<C, R> {
     }
 
     /// Appends an entry, for which `reserve` has made room.
-    pub fn push(&mut self, entry: Entry<C, R>)
+    pub fn push(&mut self, entry: SharedEntry<C, R>)
         requires { HasRoomForEntry self.old }
         ensures { entries self.new ≡ entries self.old ++ entry ∷ [] }
     {

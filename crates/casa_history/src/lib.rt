@@ -8,8 +8,10 @@ mod entry;
 mod history;
 mod pass;
 mod settlement;
+mod shared;
 
 pub use entry::{Entry, Receipt};
 pub use history::History;
 pub use pass::{Holds, Pass};
 pub use settlement::{Settled, Torn, settle};
+pub use shared::SharedEntry;

@@ -79,8 +79,9 @@ fn torn_entry<C, R, P: Holds<C, R>>(history: &History<C, R>, passes: &[P]) -> Op
 {
     let mut torn = None;
     for entry in history.entries() {
-        if precedes(entry.desk, torn) && !has_pass(passes, entry.desk) {
-            torn = Some(entry.desk);
+        let desk = entry.desk;
+        if precedes(desk, torn) && !has_pass(passes, desk) {
+            torn = Some(desk);
         }
     }
     torn

@@ -7,7 +7,7 @@ ghost use Rattle.casa_commit.specs.Legal.{entry};
 use crate::parts::ends_after_whole_replies;
 use casa_commit::CallFault;
 use casa_flight::{Call, Refusal, Reply};
-use casa_history::{Entry, Receipt};
+use casa_history::{Entry, Receipt, SharedEntry};
 use casa_session::{Desk, SessionFault, run};
 use std::alloc::{AllocError, Global};
 use std::cell::Cell;
@@ -21,7 +21,7 @@ struct Refusing {
     receipts: Vec<Receipt<Call, Reply>>,
 }
 
-fn refused(call: &Call, position: usize) -> Result<Receipt<Call, Reply>, AllocError>
+fn refused(alloc: Global, call: &Call, position: usize) -> Result<Receipt<Call, Reply>, AllocError>
     ensures { IfOk result (λ r. r ≡ receipt position (entry 0 call.now (Reply.Refused Refusal.Late))) }
 {
     let entry = Entry {
@@ -29,7 +29,10 @@ fn refused(call: &Call, position: usize) -> Result<Receipt<Call, Reply>, AllocEr
         call: call.try_clone()?,
         reply: Reply::Refused(Refusal::Late),
     };
-    Ok(Receipt { position, entry })
+    Ok(Receipt {
+        position,
+        entry: SharedEntry::new(alloc, entry)?,
+    })
 }
 
 impl Desk for Refusing {
@@ -42,9 +45,11 @@ impl Desk for Refusing {
     ghost always = { λ _. tt };
 
     fn answer(&mut self, alloc: Global, call: &Call) -> Result<Receipt<Call, Reply>, CallFault> {
-        let _ = alloc;
         let position = self.receipts.len().saturating_add(1);
-        let (Ok(kept), Ok(given)) = (refused(call, position), refused(call, position)) else {
+        let (Ok(kept), Ok(given)) = (
+            refused(alloc, call, position),
+            refused(alloc, call, position),
+        ) else {
             return Err(CallFault::NoMemory);
         };
         match self.receipts.push(kept) {

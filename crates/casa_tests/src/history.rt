@@ -1,23 +1,39 @@
 //! Histories and passes.
 
 use crate::parts::equal;
-use casa_history::{Entry, History, Holds, Pass, Receipt, Settled, Torn, settle};
-use std::alloc::Global;
+use casa_history::{Entry, History, Holds, Pass, Receipt, Settled, SharedEntry, Torn, settle};
+use std::alloc::{AllocError, Global};
 use std::process::Abort;
 
-/// A call of a desk with its reply, both numbers.
-fn entry(desk: u32, call: u32, reply: u32) -> Entry<u32, u32> {
-    Entry { desk, call, reply }
+/// A call of a desk with its reply, both numbers; again where memory was refused.
+fn entry(
+    rt: &impl Abort,
+    alloc: Global,
+    desk: u32,
+    call: u32,
+    reply: u32,
+) -> SharedEntry<u32, u32> {
+    match SharedEntry::new(alloc, Entry { desk, call, reply }) {
+        Ok(entry) => entry,
+        Err(AllocError) => {
+            SharedEntry::new(alloc, Entry { desk, call, reply }).expect(rt, "memory")
+        }
+    }
 }
 
 /// Appends an entry to the history.
-fn append(rt: &impl Abort, history: &mut History<u32, u32>, entry: Entry<u32, u32>) {
+fn append(rt: &impl Abort, history: &mut History<u32, u32>, entry: SharedEntry<u32, u32>) {
     history.reserve().expect(rt, "memory");
     history.push(entry);
 }
 
 /// Appends a receipt to a pass.
-fn receive(rt: &impl Abort, pass: &mut Pass<u32, u32>, position: usize, entry: Entry<u32, u32>) {
+fn receive(
+    rt: &impl Abort,
+    pass: &mut Pass<u32, u32>,
+    position: usize,
+    entry: SharedEntry<u32, u32>,
+) {
     pass.reserve().expect(rt, "memory");
     pass.push(Receipt { position, entry });
 }
@@ -37,24 +53,24 @@ fn last_receipt(pass: &Pass<u32, u32>) -> Option<(usize, u32)> {
 /// A history in which desk 0 made the calls 1 and 3 and desk 2 made the call 2.
 fn three_calls(rt: &impl Abort, alloc: Global) -> History<u32, u32> {
     let mut history = History::new(alloc);
-    append(rt, &mut history, entry(0, 1, 10));
-    append(rt, &mut history, entry(2, 2, 20));
-    append(rt, &mut history, entry(0, 3, 30));
+    append(rt, &mut history, entry(rt, alloc, 0, 1, 10));
+    append(rt, &mut history, entry(rt, alloc, 2, 2, 20));
+    append(rt, &mut history, entry(rt, alloc, 0, 3, 30));
     history
 }
 
 /// The pass of desk 0 with the receipts of `three_calls`.
 fn first_pass(rt: &impl Abort, alloc: Global) -> Pass<u32, u32> {
     let mut pass = Pass::new(alloc, 7, 0);
-    receive(rt, &mut pass, 1, entry(0, 1, 10));
-    receive(rt, &mut pass, 3, entry(0, 3, 30));
+    receive(rt, &mut pass, 1, entry(rt, alloc, 0, 1, 10));
+    receive(rt, &mut pass, 3, entry(rt, alloc, 0, 3, 30));
     pass
 }
 
 /// The pass of desk 2 with this receipt of its one call.
 fn second_pass(rt: &impl Abort, alloc: Global, position: usize, reply: u32) -> Pass<u32, u32> {
     let mut pass = Pass::new(alloc, 7, 2);
-    receive(rt, &mut pass, position, entry(2, 2, reply));
+    receive(rt, &mut pass, position, entry(rt, alloc, 2, 2, reply));
     pass
 }
 
@@ -148,29 +164,29 @@ fn desks_with_other_receipts_are_torn(rt: HostRuntime) {
 }
 
 /// Appends the first entry of a history, again where memory was refused, which has changed nothing.
-fn append_first(rt: &impl Abort, history: &mut History<u32, u32>) {
+fn append_first(rt: &impl Abort, alloc: Global, history: &mut History<u32, u32>) {
     if history.reserve().is_err() {
         assert!(rt; history.len() == 0);
         history.reserve().expect(rt, "memory");
     }
-    history.push(entry(0, 1, 10));
+    history.push(entry(rt, alloc, 0, 1, 10));
 }
 
 /// Appends the first receipt of a pass likewise.
-fn receive_first(rt: &impl Abort, pass: &mut Pass<u32, u32>) {
+fn receive_first(rt: &impl Abort, alloc: Global, pass: &mut Pass<u32, u32>) {
     if pass.reserve().is_err() {
         assert!(rt; pass.calls() == 0);
         pass.reserve().expect(rt, "memory");
     }
-    let entry = entry(0, 1, 10);
+    let entry = entry(rt, alloc, 0, 1, 10);
     pass.push(Receipt { position: 1, entry });
 }
 
 #[test]
 fn a_refused_growth_changes_nothing(rt: HostRuntime) {
     let mut history = History::new(rt.alloc());
-    append_first(&rt, &mut history);
+    append_first(&rt, rt.alloc(), &mut history);
     let mut pass = Pass::new(rt.alloc(), 7, 0);
-    receive_first(&rt, &mut pass);
+    receive_first(&rt, rt.alloc(), &mut pass);
     equal(&rt, &(history.len(), pass.calls()), &(1, 1));
 }

@@ -2,7 +2,7 @@ use crate::parts::{key, loc, moment, reg};
 use casa_flight::{
     Answer, Call, FlightReply, Kind, ListReply, ListRow, Message, Messages, Refusal, Reply, Rows,
 };
-use casa_history::{Entry, Receipt};
+use casa_history::{Entry, Receipt, SharedEntry};
 use casa_wire::{
     Field, WireFault, fault_text, field_text, push_fault, push_reply, reply_line, reply_value,
     too_long_line,
@@ -11,18 +11,16 @@ use std::alloc::Global;
 use std::process::Abort;
 
 /// The receipt of a tick with this reply at this position.
-fn receipt(rt: &impl Abort, reply: Reply, position: usize) -> Receipt<Call, Reply> {
+fn receipt(rt: &impl Abort, alloc: Global, reply: Reply, position: usize) -> Receipt<Call, Reply> {
     let call = Call::Tick(moment(rt, 0));
     let desk = 0;
-    Receipt {
-        position,
-        entry: Entry { desk, call, reply },
-    }
+    let entry = SharedEntry::new(alloc, Entry { desk, call, reply }).expect(rt, "memory");
+    Receipt { position, entry }
 }
 
 /// The line of a reply at this position.
 fn line_of(rt: &impl Abort, alloc: Global, reply: Reply, position: usize) -> Vec<u8> {
-    reply_line(alloc, &receipt(rt, reply, position)).expect(rt, "memory")
+    reply_line(alloc, &receipt(rt, alloc, reply, position)).expect(rt, "memory")
 }
 
 /// These messages.
@@ -112,7 +110,7 @@ fn faults_are_texts(rt: HostRuntime) {
 
 /// The value of what a call of these messages is answered, as text.
 fn value_text(rt: &impl Abort, alloc: Global, messages: Messages, position: usize) -> String {
-    let receipt = receipt(rt, Reply::Answered(Answer::Done, messages), position);
+    let receipt = receipt(rt, alloc, Reply::Answered(Answer::Done, messages), position);
     let value = reply_value(alloc, &receipt).expect(rt, "memory");
     value.to_string(alloc).expect(rt, "memory")
 }
@@ -159,7 +157,7 @@ fn a_refused_growth_leaves_the_lines_before(rt: HostRuntime) {
     write_reply(
         &rt,
         &mut out,
-        &receipt(&rt, Reply::Refused(Refusal::Late), 7),
+        &receipt(&rt, rt.alloc(), Reply::Refused(Refusal::Late), 7),
     );
     assert!(&rt;
         out.as_slice()

@@ -2,14 +2,33 @@ ghost use Rattle.std.specs.Prelude.{◌<◌};
 
 use crate::{Answer, Cells, Copier, Copying};
 use casa_commit::{CallFault, CommitFault, DeskFault, Prepared, Room, World, commit, prepare};
-use casa_history::{Pass, Receipt, Settled, Torn, settle};
-use std::alloc::Global;
+use casa_history::{History, Pass, Receipt, Settled, Torn, settle};
+use std::alloc::{AllocError, Global};
 use std::process::Abort;
 
-/// The answer to a copy, worked out on a view of the room as it is.
-fn prepared<R: Abort>(rt: &R, alloc: Global, room: &Room<Cells>, call: Copying) -> Prepared<Cells> {
-    let view = room.world().view(&call).expect(rt, "memory");
-    prepare(alloc, &Copier, 0, 0, view, call).expect(rt, "memory")
+/// The answer to a desk's copy, worked out on a view of the room as it is.
+fn worked_out(
+    alloc: Global,
+    room: &Room<Cells>,
+    desk: u32,
+    call: Copying,
+) -> Result<Prepared<Cells>, AllocError> {
+    let view = room.world().view(&call)?;
+    prepare(alloc, &Copier, desk, 0, view, call)
+}
+
+/// The same, again where memory was refused.
+fn prepared<R: Abort>(
+    rt: &R,
+    alloc: Global,
+    room: &Room<Cells>,
+    desk: u32,
+    call: Copying,
+) -> Prepared<Cells> {
+    match worked_out(alloc, room, desk, call) {
+        Ok(answer) => answer,
+        Err(AllocError) => worked_out(alloc, room, desk, call).expect(rt, "memory"),
+    }
 }
 
 /// A room with this number over four cells, and the passes of its desks 0 and 1.
@@ -69,9 +88,9 @@ fn two_copies<R: Abort>(
     zero: &mut Pass<Copying, Answer>,
     one: &mut Pass<Copying, Answer>,
 ) -> Prepared<Cells> {
-    let first = prepared(rt, alloc, room, Copying::new(0, 1));
-    let second = prepared(rt, alloc, room, Copying::new(0, 2));
-    let third = prepared(rt, alloc, room, Copying::new(1, 0));
+    let first = prepared(rt, alloc, room, 0, Copying::new(0, 1));
+    let second = prepared(rt, alloc, room, 1, Copying::new(0, 2));
+    let third = prepared(rt, alloc, room, 1, Copying::new(1, 0));
     assert!(rt; seen(rt, commit(room, zero, first)) == (1, Answer::Value(0)));
     assert!(rt; seen(rt, commit(room, one, second)) == (2, Answer::Value(0)));
     third
@@ -95,6 +114,25 @@ fn the_second_write_of_a_cell_is_stale(rt: HostRuntime) {
     );
 }
 
+/// The desk of a receipt, which there must be, and the desk of the history's entry at its position.
+fn desks_of<R: Abort, E: Drop>(
+    rt: &R,
+    history: &History<Copying, Answer>,
+    receipt: Result<Receipt<Copying, Answer>, E>,
+) -> (u32, u32) {
+    let receipt = receipt.ok().expect(rt, "a receipt");
+    let entry = history.entry(receipt.position).expect(rt, "an entry");
+    (receipt.entry.desk, entry.desk)
+}
+
+#[test]
+fn an_answer_is_entered_for_the_desk_that_hands_it_in(rt: HostRuntime) {
+    let (mut room, mut zero, _one) = two_desks(&rt, rt.alloc(), 7);
+    let of_one = prepared(&rt, rt.alloc(), &room, 1, Copying::new(0, 1));
+    let receipt = commit(&mut room, &mut zero, of_one);
+    assert!(&rt; desks_of(&rt, room.history(), receipt) == (0, 0));
+}
+
 /// The faults that a pass meets in this room, at a commit and in one section.
 fn faults_of<R: Abort>(
     rt: &R,
@@ -103,7 +141,7 @@ fn faults_of<R: Abort>(
     pass: &mut Pass<Copying, Answer>,
 ) -> (CommitFault, CallFault) {
     let call = Copying::new(0, 1);
-    let answer = prepared(rt, alloc, room, call);
+    let answer = prepared(rt, alloc, room, 0, call);
     let (fault, _) = commit(room, pass, answer).expect_err(rt, "a foreign pass");
     let call_fault = room
         .locked(alloc, pass, &call, &Copier)
@@ -201,8 +239,8 @@ fn answered<R: Abort>(
 #[test]
 fn a_refused_growth_changes_nothing(rt: HostRuntime) {
     let (mut room, mut pass) = one_desk(&rt, rt.alloc());
-    let answer = prepared(&rt, rt.alloc(), &room, Copying::new(0, 1));
-    let first = committed(&rt, &mut room, &mut pass, answer);
+    let of_another = prepared(&rt, rt.alloc(), &room, 1, Copying::new(0, 1));
+    let first = committed(&rt, &mut room, &mut pass, of_another);
     assert!(&rt; first == (1, Answer::Value(0)) && room.world().value(1) == 1);
     let second = answered(&rt, rt.alloc(), &mut room, &mut pass, &Copying::new(1, 0));
     assert!(&rt; second == (2, Answer::Value(1)));

@@ -1,33 +1,34 @@
 use Rattle.std.proofs.Common.{◌≡◌, refl, sym, subst}
 use Rattle.std.proofs.Math.Logic.{∥∥₁_elim, ∥∥₁_map, ∥∥₁_prop}
 use base.Stored.{Coded-set}
+use Rattle.casa_history.specs.declared.entry.Entry.{Entry}
 use Rattle.casa_commit.specs.declared.prepared.Prepared.{Prepared}
 use Rattle.casa_commit.specs.Answers.{IsAnswer}
 use Rattle.casa_commit.proofs.commits.commit.Given.{Over}
 use Rattle.casa_commit.proofs.commits.commit.Goals as goal
 
 abbrev Answer : Over → Type 0
-Answer g = g.row.W-Call.Denot × g.row.W-Reply.Denot × g.row.W-Change.Denot
+Answer g = Entry g.row.W-Call.Denot g.row.W-Reply.Denot × g.row.W-Change.Denot
 
 abbrev PreparedOf : Over → Type 0
 PreparedOf g = Prepared g.row.W.Denot g.row.W-Call.Denot g.row.W-View.Denot g.row.W-Change.Denot g.row.W-Reply.Denot g.W.World
 
 -- the answer is for a call that the view is for
 abbrev ForCall : (g : Over) → g.row.W-View.Denot → Answer g → Type 0
-ForCall g view a = ∥ g.W.World.is_for view a.0 ∥₁
+ForCall g view a = ∥ g.W.World.is_for view a.0.call ∥₁
 
 -- and holds wherever the view is shown
 abbrev Holds : (g : Over) → g.row.W-View.Denot → Answer g → Type 0
-Holds g view a = ∥ IsAnswer g.W.World view a.0 a.1 a.2 ∥₁
+Holds g view a = ∥ IsAnswer g.W.World view a.0.call a.0.reply a.1 ∥₁
 
 -- a prepared answer with other such proofs is the same
-same : (g : Over) (p : PreparedOf g) (a : Answer g) → a ≡ (p.call, p.reply, p.change) → (x : ForCall g p.view a) (y : Holds g p.view a) →
-    ◌≡◌ {A = PreparedOf g} (record { call = a.0; view = p.view; reply = a.1; change = a.2; for_call = x; holds = y }) p
+same : (g : Over) (p : PreparedOf g) (a : Answer g) → a ≡ (p.entry, p.change) → (x : ForCall g p.view a) (y : Holds g p.view a) →
+    ◌≡◌ {A = PreparedOf g} (record { entry = a.0; view = p.view; change = a.1; for_call = x; holds = y }) p
 same g p a is =
     subst (λ (b : Answer g). (x : ForCall g p.view b) (y : Holds g p.view b) →
-    ◌≡◌ {A = PreparedOf g} (record { call = b.0; view = p.view; reply = b.1; change = b.2; for_call = x; holds = y }) p)
+    ◌≡◌ {A = PreparedOf g} (record { entry = b.0; view = p.view; change = b.1; for_call = x; holds = y }) p)
     (sym is)
-    (λ x y. λ i. record { call = p.call; view = p.view; reply = p.reply; change = p.change; for_call = ∥∥₁_prop x p.for_call i; holds = ∥∥₁_prop y p.holds i })
+    (λ x y. λ i. record { entry = p.entry; view = p.view; change = p.change; for_call = ∥∥₁_prop x p.for_call i; holds = ∥∥₁_prop y p.holds i })
 
 -- the prepared answer is that of the call: the state is good, and the view shows it
 pub append-requires-clause-right : goal.append-requires-clause-right
@@ -51,7 +52,7 @@ pub returns-in-Ok-clause-reply : goal.returns-in-Ok-clause-reply
 returns-in-Ok-clause-reply g c =
     let W = g.W.World in
     let p = c.args.prepared in
-    subst (λ (w : g.row.W.Denot). p.reply ≡ W.reply (W.state w) p.call) c.world.ensures.same
+    subst (λ (w : g.row.W.Denot). p.entry.reply ≡ W.reply (W.state w) p.entry.call) c.world.ensures.same
     (∥∥₁_elim p.holds (Coded-set g.row.W-Reply.coded _ _)
     (λ h. (h _ c.world.ensures.good (c.if-not-same.ensures.shown refl c.world.ensures.good)).0))
 

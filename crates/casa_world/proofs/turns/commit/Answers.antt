@@ -6,8 +6,29 @@ use Rattle.casa_world.specs.declared.desk.Held.{Held}
 use Rattle.casa_world.specs.Scenes.{nothing, Worker, Scene}
 use Rattle.casa_world.specs.Standing.{Holds, Tells}
 use Rattle.casa_world.specs.Rooms.{reply_after, IsTaken, IsAnswered, Stands}
-use Rattle.casa_world.proofs.Workers.{handed, by_answer}
+use Rattle.casa_world.proofs.Workers.{handed, by_answer, begins_on, still_holds}
 use Rattle.casa_world.proofs.turns.commit.Goals as goal
+
+-- what other desks hold goes on standing for the same: the world keeps the name of the views, and the history only grows
+pub returns-in_ok-outcome-in-Answer-clause-stay : goal.returns-in_ok-outcome-in-Answer-clause-stay
+returns-in_ok-outcome-in-Answer-clause-stay g c y x stands =
+    let world = g.W.World in
+    let stamped = g.W.Stamped in
+    let room = c.args.room.now in
+    let room' = c.hand_in.new.room in
+    let told = c.in_ok-outcome-in-Answer.ensures in
+    let es = entries_of room in
+    let fs = entries_of room' in
+    let holds =
+    still_holds (IsTaken world stamped room) (IsTaken world stamped room')
+    (IsAnswered world stamped room) (IsAnswered world stamped room')
+    (λ k before v is.
+    (is.0, told.views v is.1, is.2, is.3, begins_on before es fs is.4 told.grows, told.ties k v before is.4 is.1 is.3 is.5))
+    (λ k before p is.
+    let v = view_of p in
+    (is.0, told.views v is.1, is.2, begins_on before es fs is.3 told.grows, is.4, told.ties k v before is.3 is.1 is.2 is.5))
+    y.held x.hand stands.0 in
+    (holds, stands.1)
 
 pub returns-in_ok-outcome-in-Answer-clause-happens : goal.returns-in_ok-outcome-in-Answer-clause-happens
 returns-in_ok-outcome-in-Answer-clause-happens g c w m sits history stands =
