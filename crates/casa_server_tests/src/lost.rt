@@ -5,7 +5,7 @@ ghost use Rattle.casa_engine.specs.Ledgers.{IsBlankOf};
 
 use crate::clients::{FILING, OPENING};
 use casa_engine::{DeskPass, Direct, Engine, EngineDesk, blank};
-use casa_history::Torn;
+use casa_history::{Settled, Torn};
 use casa_session::{Desk, SessionFault, run};
 use casa_shelf::{Shelf, Shelving};
 use casa_view::{Item, Kept};
@@ -64,32 +64,46 @@ fn file_and_lose<'a, K: Kept, L: Ledger, R: Wait + Abort>(
     first.into_pass()
 }
 
-/// How many desks a new engine over the shelf that is this vector had, and how its history settles without the pass of the
-/// desk that was lost.
-fn settled_without<V: Shelving + Send + Sync, L: Ledger, R: Wait + Abort + Sync>(
+/// How many desks a new engine over this store had, and how its history settles without the pass of the desk that was lost.
+fn settled_over<K: Kept, L: Ledger, R: Wait + Abort>(
+    rt: &R,
+    alloc: Global,
+    store: K,
+    blank: Blank,
+) -> (u32, Result<Settled, Torn>)
+    requires { IsBlankOf L.name L.parts blank.name blank.parts }
+{
+    let engine = Engine::<K, L, Direct>::new(alloc, store, blank, 7, Direct).expect(rt, "memory");
+    let pass = file_and_lose(rt, alloc, &engine);
+    let mut passes = Vec::new(alloc);
+    passes.push(pass).expect(rt, "memory");
+    let (_history, desks, settled) = engine.close(passes);
+    (desks, settled)
+}
+
+/// The same over the shelf that is this vector.
+fn settled_on<V: Shelving + Send + Sync, L: Ledger, R: Wait + Abort>(
     rt: &R,
     alloc: Global,
     items: &boxcar::Vec<Arc<Item>>,
     blank: Blank,
-) -> (u32, Option<Torn>)
+) -> (u32, Result<Settled, Torn>)
     requires vector { items.now ≡ V.shelves }
     requires ledger { IsBlankOf L.name L.parts blank.name blank.parts }
 {
     let shelf: Shelf<V, R> = Shelf::new(alloc, items, rt);
-    let engine = Engine::<Shelf<V, R>, L, Direct>::new(alloc, shelf, blank, 7, Direct).expect(
-        rt, "memory",
-    );
-    let pass = file_and_lose(rt, alloc, &engine);
-    let passes = vec![in alloc; pass].expect(rt, "memory");
-    let (_history, desks, settled) = engine.close(passes);
-    (desks, settled.err())
+    settled_over::<Shelf<V, R>, L, R>(rt, alloc, shelf, blank)
+}
+
+/// The same over a new shelf.
+fn settled<R: Wait + Abort>(rt: &R, alloc: Global) -> (u32, Result<Settled, Torn>) {
+    let items = boxcar::Vec::new(alloc).expect(rt, "memory");
+    settled_on::<Brand, Brand, R>(rt, alloc, &items, blank())
 }
 
 /// What a desk called before its connection was lost stands, and others see it; and where its pass is lost too, the history
 /// tells whose it was.
 #[test]
 fn a_connection_that_is_lost(rt: HostRuntime) {
-    let items = boxcar::Vec::new(rt.alloc()).expect(&rt, "memory");
-    let settled = settled_without::<Brand, Brand, HostRuntime>(&rt, rt.alloc(), &items, blank());
-    assert!(&rt; settled == (2, Some(Torn(1))));
+    assert!(&rt; settled(&rt, rt.alloc()) == (2, Err(Torn(1))));
 }
