@@ -2,7 +2,7 @@
 
 use std::alloc::Global;
 use std::io;
-use std::io::{BufRead, BufReader, Write};
+use std::io::{BufRead, BufReader, Read, Write};
 use std::net::{Net, Shutdown, SocketAddr, TcpStream};
 use std::time::Duration;
 
@@ -69,6 +69,16 @@ pub fn connect<R: Net<Stream = TcpStream>>(
         clients.push(TcpStream::connect(rt, server)?)?;
     }
     Ok(clients)
+}
+
+/// A client connects, sends an empty line, and goes when the first byte of the reply has come: since it leaves the others
+/// unread, its connection is reset.
+pub fn visit<R: Net<Stream = TcpStream>>(rt: &R, server: SocketAddr) -> io::Result<()> {
+    let client = TcpStream::connect(rt, server)?;
+    client.set_read_timeout(Some(Duration::from_secs(10)))?;
+    let mut stream = &client;
+    stream.write_all(b"\n")?;
+    stream.read_exact(&mut [0])
 }
 
 /// The clients talk, one after the other, and stay connected. Whether each of them gets its reply.

@@ -4,7 +4,7 @@ ghost use Rattle.std.specs.Prelude.{◌≡◌, Some};
 ghost use Rattle.casa_engine.specs.Ledgers.{IsBlankOf};
 
 use crate::clients::{
-    FILING, HALF_A_LINE, LISTING, NOTHING, OPENING, SHOWING, Talk, connect, talk_in_turn,
+    FILING, HALF_A_LINE, LISTING, NOTHING, OPENING, SHOWING, Talk, connect, talk_in_turn, visit,
 };
 use casa_engine::{Direct, Engine, blank};
 use casa_server::{DayClock, ServeFault, Served, TimerFault, serve, timer};
@@ -37,7 +37,7 @@ impl<'a> DayClock for Told<'a> {
     }
 }
 
-/// So many desks are opened; then so many connections are served, to clients who talk. When they have done so, and are
+/// So many desks are opened; then so many connections are served: to visitors, who come and go, and to clients who talk. When they have done so, and are
 /// still connected, the timer ticks to these moments, and then they talk again. A listener that does not wait fails where
 /// no client is there.
 #[derive(Clone, Copy)]
@@ -45,6 +45,7 @@ struct Scene<'a> {
     desks: u32,
     waits: bool,
     connections: u32,
+    visitors: u32,
     clients: usize,
     talks: &'a [Talk<'a>],
     told: &'a [Moment],
@@ -78,6 +79,9 @@ fn play_with<
         rt,
         || serve(rt, alloc, &listener, engine, scene.connections),
         || {
+            for _ in 0..scene.visitors {
+                visit(rt, server).expect(rt, "a reply");
+            }
             let clients = connect(rt, alloc, server, scene.clients).expect(rt, "a listener");
             let replied = talk_in_turn(alloc, &clients, scene.talks);
             let mut clock = Told { left: scene.told };
@@ -134,6 +138,7 @@ fn two_connections(rt: HostRuntime) -> Result<(), Fail> {
         desks: 0,
         waits: true,
         connections: 2,
+        visitors: 0,
         clients: 2,
         talks: &[OPENING, FILING],
         told: &[Moment::new(22_800)?],
@@ -165,6 +170,7 @@ fn a_line_that_is_too_long(rt: HostRuntime) -> Result<(), Fail> {
         desks: 0,
         waits: true,
         connections: 2,
+        visitors: 0,
         clients: 2,
         talks: &[too_long, opening],
         told: &[],
@@ -183,6 +189,31 @@ fn a_line_that_is_too_long(rt: HostRuntime) -> Result<(), Fail> {
     Ok(())
 }
 
+/// A client that goes away, and whose connection is reset, is counted; the other connections are answered.
+#[test]
+fn a_client_that_goes_away(rt: HostRuntime) {
+    let scene = Scene {
+        desks: 0,
+        waits: true,
+        connections: 3,
+        visitors: 1,
+        clients: 2,
+        talks: &[OPENING, FILING],
+        told: &[],
+        later: &[],
+    };
+    let served = Served {
+        sessions: 3,
+        faulted: 1,
+    };
+    let seen = Seen {
+        served: Ok(served),
+        replied: true,
+        ticked: Ok(0),
+    };
+    assert_eq!(&rt; play(&rt, rt.alloc(), scene), seen);
+}
+
 /// A tick that would set the clock back is not counted.
 #[test]
 fn a_clock_that_goes_back(rt: HostRuntime) -> Result<(), Fail> {
@@ -191,6 +222,7 @@ fn a_clock_that_goes_back(rt: HostRuntime) -> Result<(), Fail> {
         desks: 0,
         waits: true,
         connections: 2,
+        visitors: 0,
         clients: 2,
         talks: &[OPENING, FILING],
         told: &[later, earlier, later],
@@ -212,6 +244,7 @@ fn a_connection_that_is_refused(rt: HostRuntime) {
         desks: 1_024,
         waits: true,
         connections: 1,
+        visitors: 0,
         clients: 1,
         talks: &[NOTHING],
         told: &[],
@@ -236,6 +269,7 @@ fn a_line_that_breaks_off(rt: HostRuntime) {
         desks: 0,
         waits: true,
         connections: 1,
+        visitors: 0,
         clients: 1,
         talks: &[HALF_A_LINE],
         told: &[],
@@ -260,6 +294,7 @@ fn a_listener_that_fails(rt: HostRuntime) {
         desks: 0,
         waits: false,
         connections: 1,
+        visitors: 0,
         clients: 0,
         talks: &[],
         told: &[],

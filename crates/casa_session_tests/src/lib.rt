@@ -4,6 +4,8 @@
 #![tactic(auto)]
 
 #[cfg(test)]
+mod hostile;
+#[cfg(test)]
 mod lone;
 #[cfg(test)]
 mod parts;

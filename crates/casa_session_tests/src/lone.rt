@@ -1,21 +1,10 @@
 //! Sessions over a desk that is alone on a board.
 
-use crate::parts::ends_after_whole_replies;
+use crate::parts::{INPUT, OUTPUT, ends_after_whole_replies};
 use casa_flight::{Answer, Call, RegId, Reply};
 use casa_session::{Desk, Lone};
 use std::alloc::Global;
 use std::process::Abort;
-
-const INPUT: &[u8] =
-    b"{\"cmd\":\"open\",\"reg\":\"R1\",\"loc\":\"LA\",\"periods\":[{\"from\":36000,\"to\":37200,\"rate\":30}]}
-{\"cmd\":\"file\",\"key\":\"A\",\"eobt\":30000,\"taxi\":600,\"via\":[{\"loc\":\"LA\",\"eto\":36010}]}
-{\"cmd\":\"show\",\"key\":\"B\"}
-";
-
-const OUTPUT: &[u8] = b"{\"done\":true,\"msgs\":[],\"n\":1}
-{\"flight\":{\"ctot\":30600,\"delay\":0,\"eobt\":30000,\"etot\":30600,\"exempt\":false,\"issued\":false,\"key\":\"A\",\"reg\":\"R1\"},\"msgs\":[],\"n\":2}
-{\"code\":2,\"n\":3,\"refused\":\"NoFlight\"}
-";
 
 /// How many rows are listed.
 fn rows(reply: &Reply) -> Option<usize> {
@@ -41,9 +30,9 @@ fn a_desk_answers_after_a_session(rt: HostRuntime) {
     let mut lone = Lone::new(rt.alloc()).expect(&rt, "memory");
     let mut input = INPUT;
     let mut output = Vec::new(rt.alloc());
-    assert!(&rt; lone.run(rt.alloc(), &mut input, &mut output) == Ok(3));
+    assert!(&rt; lone.run(rt.alloc(), &mut input, &mut output) == Ok(5));
     assert!(&rt; output.as_slice() == OUTPUT);
-    assert!(&rt; listed(&rt, rt.alloc(), &mut lone) == (4, Some(1)));
+    assert!(&rt; listed(&rt, rt.alloc(), &mut lone) == (6, Some(2)));
 }
 
 /// Run also with each allocation refused in turn: the session then ends after whole replies, without memory or, where
@@ -57,5 +46,5 @@ fn a_refused_growth_ends_a_session(rt: HostRuntime) {
     let mut input = INPUT;
     let mut output = Vec::new(alloc);
     let ended = lone.run(alloc, &mut input, &mut output);
-    ends_after_whole_replies(&rt, ended, output.as_slice(), 3, OUTPUT);
+    ends_after_whole_replies(&rt, ended, output.as_slice(), 5, OUTPUT);
 }
