@@ -23,7 +23,7 @@ const TRIES: u32 = 3;
 
 /// How often a desk asks for the lock before it sleeps until it is woken. What runs under the lock is shorter than a sleep
 /// and a wake, so that the next desk mostly has it before it would sleep.
-const LOOKS: u32 = 1000;
+const LOOKS: u32 = 2000;
 
 /// A world that desks in many threads may share: each of its views is of the one world that there is.
 ///
