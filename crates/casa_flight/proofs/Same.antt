@@ -10,7 +10,7 @@ use Rattle.casa_flight.specs.contracts.plan.CrossingPartialEq.TheImpl.{ghosts as
 use Rattle.casa_flight.specs.contracts.plan.StsPartialEq.TheImpl.{ghosts as sts}
 use Rattle.casa_flight.specs.PlanEquality.{plan_eq}
 use Rattle.casa_flight.specs.declared.call.Call.{Call}
-use Rattle.casa_flight.specs.declared.call.Call.TheVariants.{File, Amend, Cancel, Revise, Exempt, OpenReg, CloseReg, Rates, Tick, Show, List as ListOf}
+use Rattle.casa_flight.specs.declared.call.Call.TheVariants.{File, Amend, Cancel, Revise, Exempt, OpenReg, CloseReg, Rates, Tick, Show, List as ListOf, Swap}
 use Rattle.casa_flight.specs.contracts.call.CallPartialEq.TheImpl.{ghosts as call}
 
 pub text_same : (a b : List ℕ) → same_text a b ≡ true → a ≡ b
@@ -47,4 +47,5 @@ call_same (ListOf p) (ListOf q) h = ap ListOf (text_same p q h)
 call_same (Tick p) (Tick q) h = ap Tick (eqb-true p q h)
 call_same (Rates p s) (Rates q t) h = let k = and_parts _ _ h in λ i. Rates (text_same p q k.0 i) (profile_same s t k.1 i)
 call_same (OpenReg p s u) (OpenReg q t v) h = let k = and_parts _ _ h in let j = and_parts _ _ k.1 in λ i. OpenReg (text_same p q k.0 i) (text_same s t j.0 i) (profile_same u v j.1 i)
+call_same (Swap p s) (Swap q t) h = let k = and_parts _ _ h in λ i. Swap (text_same p q k.0 i) (text_same s t k.1 i)
 call_same a b h = cc

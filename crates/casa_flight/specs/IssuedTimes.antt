@@ -1,30 +1,34 @@
-use Rattle.std.specs.Prelude.{◌≡◌, ℕ, List, [], ◌∷◌, Bool, true, false, None, Some, is_some}
+use Rattle.std.specs.Prelude.{◌≡◌, ℕ, List, [], ◌∷◌, Bool, true, false, ◌||◌, None, Some, is_some}
 use Rattle.std.specs.Option.{option_map_or}
 use Rattle.casa_flight.specs.declared.call.Call.{Call}
-use Rattle.casa_flight.specs.declared.call.Call.TheVariants.{Amend, Cancel, Revise, Exempt, OpenReg, CloseReg, Tick}
+use Rattle.casa_flight.specs.declared.call.Call.TheVariants.{Amend, Cancel, Revise, Exempt, OpenReg, CloseReg, Rates, Tick, Swap}
 use Rattle.casa_flight.specs.declared.row.Row.{Row}
 use Rattle.casa_flight.specs.declared.row.Stance.{Stance}
+use Rattle.casa_flight.specs.declared.state.State.{State}
 use Rattle.casa_flight.specs.declared.row.Stance.TheVariants.{Competing, Issued, Forced}
 use Rattle.casa_flight.specs.Text.{Text, same_text, put}
 use Rattle.casa_flight.specs.State.{is_due, is_governed_by}
 use Rattle.casa_flight.specs.Listing.{Listing, cto_as, stance_of}
+use Rattle.casa_flight.specs.Steps.{extends}
 
 -- whether a call may take a flight's issued time or its governing regulation: the flight's own amendment, cancellation,
--- revision and exemption, and the close of that regulation (manual)
+-- revision and exemption, an exchange with another flight, and the close of that regulation (manual; exchange: profile)
 abbrev pub may_free : Call → Text → Row → Bool
 may_free (Amend plan) key row = same_text plan.key key
 may_free (Cancel other) key row = same_text other key
 may_free (Revise other) key row = same_text other key
 may_free (Exempt other) key row = same_text other key
 may_free (CloseReg id) key row = is_governed_by id row
+may_free (Swap one other) key row = same_text one key || same_text other key
 may_free call key row = false
 
--- whether a call may govern or issue flights that were there before and that it does not free: an opened regulation and
--- the clock
-abbrev pub may_serve : Call → Bool
-may_serve (OpenReg id loc profile) = true
-may_serve (Tick at) = true
-may_serve call = false
+-- whether a call may govern or issue flights that were there before and that it does not free: an opened regulation, a
+-- later end of one, and the clock
+abbrev pub may_serve : State → Call → Bool
+may_serve m (OpenReg id loc profile) = true
+may_serve m (Rates id profile) = extends m id profile
+may_serve m (Tick at) = true
+may_serve m call = false
 
 -- a flight that nothing governed, and that was not issued, is now governed by this regulation, and issued exactly if it is
 -- due; plan and mark stay

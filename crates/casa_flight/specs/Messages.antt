@@ -1,7 +1,7 @@
-use Rattle.std.specs.Prelude.{◌≡◌, ℕ, ◌<◌, List, [], Bool, true, false, ◌&&◌, Some, is_some}
+use Rattle.std.specs.Prelude.{◌≡◌, ◌⊎◌, ℕ, ◌<◌, List, [], Bool, true, false, not, ◌&&◌, Some, is_some}
 use Rattle.std.specs.Option.{option_map_or}
 use Rattle.casa_flight.specs.declared.call.Call.{Call}
-use Rattle.casa_flight.specs.declared.call.Call.TheVariants.{File, Amend, Cancel, Revise, Exempt, OpenReg, CloseReg, Rates, Tick, Show, List as ListOf}
+use Rattle.casa_flight.specs.declared.call.Call.TheVariants.{File, Amend, Cancel, Revise, Exempt, OpenReg, CloseReg, Rates, Tick, Show, List as ListOf, Swap}
 use Rattle.casa_flight.specs.declared.reply.Message.{Message}
 use Rattle.casa_flight.specs.declared.reply.Message.TheVariants.{Sam, Srm, Slc}
 use Rattle.casa_flight.specs.declared.reply.Reply.{Reply}
@@ -12,7 +12,7 @@ use Rattle.casa_flight.specs.Text.{Text}
 use Rattle.casa_flight.specs.State.{row_of, is_due, is_governed_by}
 use Rattle.casa_flight.specs.Listing.{ctot_of}
 use Rattle.casa_flight.specs.Entry.{is_to_issue}
-use Rattle.casa_flight.specs.Steps.{may_compete}
+use Rattle.casa_flight.specs.Steps.{may_compete, extends}
 use Rattle.casa_flight.specs.Replies.{is_issued, ctot_before}
 
 -- the messages of a reply; a refusal has none
@@ -43,22 +43,27 @@ CanCome m (Exempt key) (Slc other) = other ≡ key
 -- an opened regulation issues, of the flights that it takes in, those that are due
 CanCome m (OpenReg id loc profile) (Sam key ctot reg) =
     (reg ≡ id) × Passes m key (λ row. may_compete m.clock row && is_due m.clock row.plan)
+-- a later end issues, of the flights that it takes in, those that are due
+CanCome m (Rates id profile) (Sam key ctot reg) =
+    (reg ≡ id) × (extends m id profile ≡ true) × Passes m key (λ row. may_compete m.clock row && is_due m.clock row.plan)
 -- a flight that a closed regulation governed goes to another one, or needs no slot any more
 CanCome m (CloseReg id) (Srm key ctot reg) = (reg ≡ id → ⊥) × Passes m key (is_governed_by id)
 CanCome m (CloseReg id) (Slc key) = Passes m key (is_governed_by id)
 -- the clock issues what has become due, by the regulation that governs it and at the take-off time that it has
 CanCome m (Tick at) (Sam key ctot reg) =
     (ctot ≡ ctot_before m key) × Passes m key (λ row. is_to_issue at row && is_governed_by reg row)
--- nothing else can come, and so nothing at all of Cancel, Rates, Show and List
+-- each of two flights that exchange their slots gets another take-off time, by the regulation that governs it
+CanCome m (Swap key other) (Srm flight ctot reg) = ((flight ≡ key) ⊎ (flight ≡ other)) × Passes m flight (is_governed_by reg)
+-- nothing else can come, and so nothing at all of Cancel, Show, List and Rates with the end that the regulation has
 CanCome m call message = ⊥
 
--- the calls of which no message comes (profile)
-abbrev pub is_silent : Call → Bool
-is_silent (Cancel key) = true
-is_silent (Rates id profile) = true
-is_silent (Show key) = true
-is_silent (ListOf id) = true
-is_silent call = false
+-- the calls on a state of which no message comes (profile)
+abbrev pub is_silent : State → Call → Bool
+is_silent m (Cancel key) = true
+is_silent m (Rates id profile) = not (extends m id profile)
+is_silent m (Show key) = true
+is_silent m (ListOf id) = true
+is_silent m call = false
 
 -- the flight is issued: this regulation governs it, and it leaves at this time
 pub record HasSlot (m : State) (key : Text) (ctot : ℕ) (reg : Text) : Type 0 where

@@ -7,7 +7,7 @@ use Rattle.casa_grid.specs.declared.slot.Place.{Place}
 use Rattle.casa_grid.specs.declared.slot.Place.TheVariants.{Slot, Over}
 use Rattle.casa_grid.specs.Slots.{slots, window_of}
 use Rattle.casa_flight.specs.declared.call.Call.{Call}
-use Rattle.casa_flight.specs.declared.call.Call.TheVariants.{File, Amend, Cancel, Revise, Exempt, OpenReg, CloseReg, Rates, Tick, Show, List as ListOf}
+use Rattle.casa_flight.specs.declared.call.Call.TheVariants.{File, Amend, Cancel, Revise, Exempt, OpenReg, CloseReg, Rates, Tick, Show, List as ListOf, Swap}
 use Rattle.casa_flight.specs.declared.regulation.Measure.{Measure}
 use Rattle.casa_flight.specs.declared.regulation.Regulation.{Regulation}
 use Rattle.casa_flight.specs.declared.reply.Answer.{Answer}
@@ -102,6 +102,7 @@ answer m (Rates id profile) = Done
 answer m (Tick at) = Done
 answer m (Show key) = flight_answer m key
 answer m (ListOf id) = list_answer m id
+answer m (Swap key other) = Done
 
 abbrev pub is_issued : Option Row → Bool
 is_issued row = option_map_or (λ (r : Row). is_some r.issued) row false

@@ -1,21 +1,21 @@
-use Rattle.std.specs.Prelude.{ℕ, List, length, map, Bool, true, false, not, ◌&&◌, ◌||◌, ◌==◌, nat_le, nat_lt, Option, None, Some, is_some, if◌then◌else◌}
-use Rattle.std.specs.Option.{option_map}
+use Rattle.std.specs.Prelude.{ℕ, ◌+◌, ◌-◌, List, length, map, Bool, true, false, not, ◌&&◌, ◌||◌, ◌==◌, nat_le, nat_lt, Option, None, Some, is_some, if◌then◌else◌}
+use Rattle.std.specs.Option.{option_map, option_map_or}
 use Rattle.std.specs.List.{filter_map}
 use Rattle.casa_grid.specs.declared.period.Period.{Period}
 use Rattle.casa_grid.specs.Profile.{start_of, end_of}
 use Rattle.casa_flight.specs.declared.call.Call.{Call}
-use Rattle.casa_flight.specs.declared.call.Call.TheVariants.{File, Amend, Cancel, Revise, Exempt, OpenReg, CloseReg, Rates, Tick, Show, List as ListOf}
+use Rattle.casa_flight.specs.declared.call.Call.TheVariants.{File, Amend, Cancel, Revise, Exempt, OpenReg, CloseReg, Rates, Tick, Show, List as ListOf, Swap}
 use Rattle.casa_flight.specs.declared.call.Refusal.{Refusal}
-use Rattle.casa_flight.specs.declared.call.Refusal.TheVariants.{Duplicate, NoFlight, Late, AlreadyExempt, DuplicateRegulation, NoRegulation, TooManyRegulations, SpanChanged, BackInTime}
+use Rattle.casa_flight.specs.declared.call.Refusal.TheVariants.{Duplicate, NoFlight, Late, AlreadyExempt, DuplicateRegulation, NoRegulation, TooManyRegulations, SpanChanged, BackInTime, NotIssued, OtherRegulation, TooEarly}
 use Rattle.casa_flight.specs.declared.comp.Comp.{Comp}
 use Rattle.casa_flight.specs.declared.regulation.Regulation.{Regulation}
 use Rattle.casa_flight.specs.declared.regulation.Measure.{Measure}
 use Rattle.casa_flight.specs.declared.row.Row.{Row}
 use Rattle.casa_flight.specs.declared.state.State.{State}
 use Rattle.casa_flight.specs.Text.{Text, put, without}
-use Rattle.casa_flight.specs.FlightPlan.{FlightPlan}
+use Rattle.casa_flight.specs.FlightPlan.{FlightPlan, etot}
 use Rattle.casa_flight.specs.State.{row_of, measure_of, with_row, regulation, subject, is_exempt, is_gone, is_governed_by, ungoverned}
-use Rattle.casa_flight.specs.Listing.{ctot_of, in_order, is_before}
+use Rattle.casa_flight.specs.Listing.{Listing, stance_of, eto_as, governing_list, ctot_of, in_order, is_before}
 use Rattle.casa_flight.specs.Entry.{situation, entered, enter, enter_all, issue_due}
 
 -- a call is refused, or it leads to a state
@@ -83,13 +83,17 @@ flights_over test r rows =
 abbrev pub may_compete : ℕ → Row → Bool
 may_compete clock row = not (is_exempt row) && (not (is_gone clock row.plan) && not (is_some row.governing))
 
--- an opened regulation takes in the flights that nothing governs and that may compete
+-- a regulation with this measure, which opens or ends later than before, takes in the flights that nothing governs and that
+-- may compete
+abbrev pub take_in : State → Text → Measure → State
+take_in m id measure =
+    enter_all (record m { regs = put m.regs id measure })
+    (flights_over (may_compete m.clock) (regulation id measure) m.rows)
+
 abbrev pub open_regulation : State → Text → Measure → Option Measure → Bool → Step
 open_regulation m id measure (Some old) full = refused DuplicateRegulation
 open_regulation m id measure None true = refused TooManyRegulations
-open_regulation m id measure None false =
-    leads (enter_all (record m { regs = put m.regs id measure })
-    (flights_over (may_compete m.clock) (regulation id measure) m.rows))
+open_regulation m id measure None false = leads (take_in m id measure)
 
 abbrev pub freed : Bool → Row → Row
 freed true row = ungoverned row
@@ -106,17 +110,29 @@ close_regulation m id None = refused NoRegulation
 close_regulation m id (Some measure) =
     leads (enter_all (closed m id) (flights_over (is_governed_by id) (regulation id measure) m.rows))
 
-abbrev pub has_span : List Period → List Period → Bool
-has_span profile other = (start_of profile == start_of other) && (end_of profile == end_of other)
+-- whether a profile starts as another does and does not end before it
+abbrev pub keeps_span : List Period → List Period → Bool
+keeps_span profile other = (start_of profile == start_of other) && nat_le (end_of other) (end_of profile)
 
-abbrev pub rates_if : State → Text → Measure → List Period → Bool → Step
-rates_if m id measure profile false = refused SpanChanged
-rates_if m id measure profile true = leads (record m { regs = put m.regs id (record measure { profile = profile }) })
+-- whether it ends after the other
+abbrev pub ends_later : List Period → List Period → Bool
+ends_later profile other = nat_lt (end_of other) (end_of profile)
 
--- new rates replace the profile; issued times stay, and all other places follow from it
+abbrev pub rates_if : State → Text → Measure → Bool → Bool → Step
+rates_if m id measure false later = refused SpanChanged
+rates_if m id measure true false = leads (record m { regs = put m.regs id measure })
+rates_if m id measure true true = leads (take_in m id measure)
+
+-- new rates replace the profile; issued times stay, and all other places follow from it. A later end takes flights in
 abbrev pub rates : State → Text → List Period → Option Measure → Step
 rates m id profile None = refused NoRegulation
-rates m id profile (Some measure) = rates_if m id measure profile (has_span profile measure.profile)
+rates m id profile (Some measure) =
+    rates_if m id (record measure { profile = profile }) (keeps_span profile measure.profile)
+    (ends_later profile measure.profile)
+
+-- whether this is a later end of an open regulation
+abbrev pub extends : State → Text → List Period → Bool
+extends m id profile = option_map_or (λ (measure : Measure). ends_later profile measure.profile) (measure_of m id) false
 
 abbrev pub tick : State → ℕ → Bool → Step
 tick m at true = refused BackInTime
@@ -129,6 +145,60 @@ show m (Some row) = leads m
 abbrev pub list : State → Option Measure → Step
 list m None = refused NoRegulation
 list m (Some measure) = leads m
+
+-- an issued flight with another time
+abbrev pub reissued : Row → ℕ → Row
+reissued row time = record row { issued = Some time }
+
+-- two issued flights that exchange their times: each flight's key and row, and the time at which it was issued
+pub record Exchange : Type 0 where
+  pub key : Text
+  pub row : Row
+  pub cto : ℕ
+  pub other : Text
+  pub mate : Row
+  pub time : ℕ
+
+-- a flight's estimated time over in a list, if there is the list and the flight is in it
+abbrev pub eto_in : Option Listing → Text → ℕ
+eto_in l key = option_map_or (λ (l : Listing). option_map_or eto_as (stance_of l key) 0) l 0
+
+-- whether a time is too early for a flight with this row, at this clock and by the list that governs it: it is before the
+-- flight's own time over there, or the flight would have to take off before the clock (profile)
+abbrev pub is_too_early : ℕ → Option Listing → Text → Row → ℕ → Bool
+is_too_early clock l key row time =
+    let eto : ℕ = eto_in l key in
+    nat_lt time eto || nat_lt (etot row.plan + (time - eto)) clock
+
+-- whether one of two flights would get a time that is too early for it
+abbrev pub are_too_early : ℕ → Option Listing → Option Listing → Exchange → Bool
+are_too_early clock l k x = is_too_early clock l x.key x.row x.time || is_too_early clock k x.other x.mate x.cto
+
+-- each of them is issued at the other's time
+abbrev pub exchanged : State → Exchange → State
+exchanged m x = with_row (with_row m x.key (reissued x.row x.time)) x.other (reissued x.mate x.cto)
+
+abbrev pub swap_if : State → Exchange → Bool → Bool → Step
+swap_if m x false early = refused OtherRegulation
+swap_if m x true true = refused TooEarly
+swap_if m x true false = leads (exchanged m x)
+
+-- whether the regulation that governs a flight governs the other one too
+abbrev pub is_shared : Row → Row → Bool
+is_shared row mate = option_map_or (λ (id : Text). is_governed_by id mate) row.governing false
+
+abbrev pub swap_issued : State → Text → Row → Text → Row → Option ℕ → Option ℕ → Step
+swap_issued m key row other mate None time = refused NotIssued
+swap_issued m key row other mate (Some cto) None = refused NotIssued
+swap_issued m key row other mate (Some cto) (Some time) =
+    let x : Exchange = record { key = key; row = row; cto = cto; other = other; mate = mate; time = time } in
+    swap_if m x (is_shared row mate) (are_too_early m.clock (governing_list m row) (governing_list m mate) x)
+
+-- two issued flights of one regulation get each exactly the other's time; the same flight twice passes the same tests
+abbrev pub swap : State → Text → Text → Option Row → Option Row → Step
+swap m key other None mate = refused NoFlight
+swap m key other (Some row) None = refused NoFlight
+swap m key other (Some row) (Some mate) = swap_issued m key row other mate row.issued mate.issued
 
 -- what a call does
 abbrev pub step : State → Call → Step
@@ -144,6 +214,7 @@ step m (Rates id profile) = rates m id profile (measure_of m id)
 step m (Tick at) = tick m at (nat_lt at m.clock)
 step m (Show key) = show m (row_of m key)
 step m (ListOf id) = list m (measure_of m id)
+step m (Swap key other) = swap m key other (row_of m key) (row_of m other)
 
 abbrev pub after : State → Step → State
 after m (refused r) = m

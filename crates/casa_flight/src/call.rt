@@ -25,7 +25,7 @@ pub enum Call {
     OpenReg(RegId, Loc, Profile),
     /// Closes a regulation.
     CloseReg(RegId),
-    /// Changes a regulation's rates.
+    /// Changes a regulation's rates, and may move its end later.
     Rates(RegId, Profile),
     /// Moves the clock.
     Tick(Moment),
@@ -33,6 +33,8 @@ pub enum Call {
     Show(Key),
     /// Answers a regulation's list as it stands.
     List(RegId),
+    /// Lets two issued flights of one regulation exchange their slots.
+    Swap(Key, Key),
 }
 
 impl Call {
@@ -53,6 +55,7 @@ impl Call {
             Call::Tick(at) => Call::Tick(*at),
             Call::Show(key) => Call::Show(*key),
             Call::List(id) => Call::List(*id),
+            Call::Swap(key, other) => Call::Swap(*key, *other),
         })
     }
 }
@@ -81,16 +84,25 @@ pub enum Refusal {
     /// 256 regulations are open.
     #[error("256 regulations are open")]
     TooManyRegulations,
-    /// The new profile has another start or end.
-    #[error("the new profile has another start or end")]
+    /// The new profile has another start or an earlier end.
+    #[error("the new profile has another start or an earlier end")]
     SpanChanged,
     /// The new time is before the clock.
     #[error("the new time is before the clock")]
     BackInTime,
+    /// A flight of the exchange is not issued.
+    #[error("a flight of the exchange is not issued")]
+    NotIssued,
+    /// The flights of the exchange are governed by different regulations.
+    #[error("the flights of the exchange are governed by different regulations")]
+    OtherRegulation,
+    /// A flight would pass before its own time over, or leave before the clock.
+    #[error("a flight would pass before its own time over, or leave before the clock")]
+    TooEarly,
 }
 
 impl Refusal {
-    /// The number of the refusal, 1 to 9.
+    /// The number of the refusal, 1 to 12.
     pub fn code(self) -> u8
         ensures { result ≡ code_of self }
     {
@@ -104,6 +116,9 @@ impl Refusal {
             Refusal::TooManyRegulations => 7,
             Refusal::SpanChanged => 8,
             Refusal::BackInTime => 9,
+            Refusal::NotIssued => 10,
+            Refusal::OtherRegulation => 11,
+            Refusal::TooEarly => 12,
         }
     }
 
@@ -121,6 +136,9 @@ impl Refusal {
             Refusal::TooManyRegulations => "TooManyRegulations",
             Refusal::SpanChanged => "SpanChanged",
             Refusal::BackInTime => "BackInTime",
+            Refusal::NotIssued => "NotIssued",
+            Refusal::OtherRegulation => "OtherRegulation",
+            Refusal::TooEarly => "TooEarly",
         }
     }
 }

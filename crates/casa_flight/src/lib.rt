@@ -24,7 +24,7 @@ pub use name::{Key, Loc, Name, OfFlight, OfLocation, OfRegulation, RegId};
 pub use offer::{Offer, more_penalising, most_penalising};
 pub use order::{put_in_order, sort_comps, sort_rows};
 pub use plan::{Crossing, Plan, PlanFault, Sts};
-pub use regulation::{MAX_REGULATIONS, Measure, Regulation, has_span};
+pub use regulation::{MAX_REGULATIONS, Measure, Regulation, ends_later, keeps_span};
 pub use reply::{
     Answer, FlightReply, Kind, ListReply, ListRow, Message, Messages, Reply, Rows, slot_number,
 };

@@ -1,6 +1,6 @@
 ghost use Rattle.std.specs.Prelude.{◌≡◌, IfOk};
 ghost use Rattle.casa_flight.specs.State.{regulation};
-ghost use Rattle.casa_flight.specs.Steps.{has_span};
+ghost use Rattle.casa_flight.specs.Steps.{keeps_span, ends_later};
 
 use crate::name::{Loc, RegId};
 use casa_grid::Profile;
@@ -42,13 +42,22 @@ impl Regulation {
     }
 }
 
-/// Whether the first profile has the span of the other: it starts and ends as that does.
-pub fn has_span(profile: &Profile, other: &Profile) -> bool
-    ensures { result ≡ has_span profile.now other.now }
+/// Whether the first profile starts as the other and does not end before it.
+pub fn keeps_span(profile: &Profile, other: &Profile) -> bool
+    ensures { result ≡ keeps_span profile.now other.now }
 {
     let (start, end) = profile.span();
     let (other_start, other_end) = other.span();
-    start == other_start && end == other_end
+    start == other_start && other_end <= end
+}
+
+/// Whether the first profile ends after the other.
+pub fn ends_later(profile: &Profile, other: &Profile) -> bool
+    ensures { result ≡ ends_later profile.now other.now }
+{
+    let (_, end) = profile.span();
+    let (_, other_end) = other.span();
+    other_end < end
 }
 
 impl Clone for Measure {
