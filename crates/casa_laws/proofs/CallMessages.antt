@@ -27,7 +27,7 @@ use Rattle.casa_flight.proofs.Entries.{text_cmp, same_name, all_at, at-without_o
 use Rattle.casa_laws.proofs.Kept.{at-without_same}
 use Rattle.casa_laws.proofs.Choice.{choice-offer, choice-none}
 use Rattle.casa_laws.proofs.GoodRegs.{next-good}
-use Rattle.casa_laws.proofs.ChangeMessages.{message_cases, message_tells, each_message, tells_comes, messages_sorted, governed_by, free_of, StaysOpen, messages_unchanged, all_one}
+use Rattle.casa_laws.proofs.ChangeMessages.{message_cases, message_tells, each_message, tells_comes, messages_sorted, governed_by, free_of, StaysOpen, stays, messages_unchanged, all_one}
 use Rattle.casa_laws.proofs.EnterAll.{IsIssuedNow, issued_now, issues}
 
 -- what holds of the messages of a call, whatever the call
@@ -73,10 +73,10 @@ one_message Q m key row good a b c =
 
 -- of a call that leaves each row that is there, nothing
 pub no_message : (Q : Message → Type 0) (m n : State) → IsGood m → AreInOrder n.rows → ((id : Text) → StaysOpen m n id) → ((key : Text) (row : Row) → row_of n key ≡ Some row → row_of m key ≡ Some row) → All Q (messages m n)
-no_message Q m n good sorted stays before = subst (All Q) (sym (messages_unchanged m n good sorted stays before)) (All-nil Q)
+no_message Q m n good sorted lasts before = subst (All Q) (sym (messages_unchanged m n good sorted lasts before)) (All-nil Q)
 
 unchanged : (Q : Message → Type 0) (m : State) → IsGood m → All Q (messages m m)
-unchanged Q m good = no_message Q m m good good.rows_in_order (λ id a opened. (a, opened, refl)) (λ key row found. found)
+unchanged Q m good = no_message Q m m good good.rows_in_order (λ id. stays m m id (λ a opened. opened)) (λ key row found. found)
 
 not_issued_there : (m : State) (key : Text) → row_of m key ≡ None → is_issued (row_of m key) ≡ false
 not_issued_there m key absent = ap is_issued absent
@@ -110,7 +110,7 @@ left_row m key other row good found =
 pub cancel_comes : (m : State) (key : Text) (o : Option Row) → IsGood m → IsGood (after m (cancel m key o)) → Comes m (Cancel key) (cancel m key o)
 cancel_comes m key None good later = All-nil (CanCome m (Cancel key))
 cancel_comes m key (Some row) good later =
-    no_message (CanCome m (Cancel key)) m (record m { rows = without m.rows key }) good later.rows_in_order (λ id a opened. (a, opened, refl)) (λ other r found. left_row m key other r good found)
+    no_message (CanCome m (Cancel key)) m (record m { rows = without m.rows key }) good later.rows_in_order (λ id. stays m (record m { rows = without m.rows key }) id (λ a opened. opened)) (λ other r found. left_row m key other r good found)
 
 exempt_if_comes : (m : State) (key : Text) (row : Row) (b : Bool) → IsGood m → Comes m (Exempt key) (exempt_if m key row b)
 exempt_if_comes m key row true good = All-nil (CanCome m (Exempt key))

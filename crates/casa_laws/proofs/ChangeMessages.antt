@@ -10,19 +10,20 @@ use Rattle.std.proofs.lemmas.List.Elements.{All-from_recursion, All-nil}
 use Rattle.casa_grid.specs.Profile.{end_of}
 use Rattle.casa_grid.specs.Slots.{slots}
 use Rattle.casa_grid.specs.TimeOver.{cto}
+use Rattle.casa_flight.specs.declared.regulation.Regulation.{Regulation}
 use Rattle.casa_flight.specs.declared.regulation.Measure.{Measure}
 use Rattle.casa_flight.specs.declared.row.Row.{Row}
 use Rattle.casa_flight.specs.declared.state.State.{State}
 use Rattle.casa_flight.specs.declared.reply.Message.{Message}
 use Rattle.casa_flight.specs.declared.reply.Message.TheVariants.{Sam, Srm, Slc}
-use Rattle.casa_flight.specs.Text.{Text}
-use Rattle.casa_flight.specs.FlightPlan.{etot}
+use Rattle.casa_flight.specs.Text.{Text, same_text}
+use Rattle.casa_flight.specs.FlightPlan.{FlightPlan, etot}
 use Rattle.casa_flight.specs.State.{row_of, measure_of, with_row, regulation, subject}
 use Rattle.casa_flight.specs.Listing.{listing, place_of, ctot_of, delay_of}
 use Rattle.casa_flight.specs.Replies.{message_of, message, messages, is_issued, ctot_before}
 use Rattle.casa_flight.specs.Good.{AreInOrder, IsGood, IsFree, IsGoverned}
 use Rattle.casa_flight.specs.Messages.{flight_of, Tells}
-use Rattle.casa_flight.proofs.Entries.{text_cmp, other_way, all-each, all-filter_map, each_found, sorted-put, at-put_same, at-put_other}
+use Rattle.casa_flight.proofs.Entries.{text_cmp, other_way, named, all-each, all-filter_map, each_found, sorted-put, at-put_same, at-put_other}
 use Rattle.casa_laws.proofs.Kept.{filter_map-one, contains-given}
 use Rattle.casa_laws.proofs.InOrder.{names_rise, names_sorted}
 use Rattle.casa_laws.proofs.Times.{delay_governed}
@@ -101,6 +102,11 @@ pub messages_sorted : (m n : State) → AreInOrder n.rows → IsStrictlySortedBy
 messages_sorted m n sorted =
     names_sorted flight_of (messages m n) (names_rise flight_of (λ (e : Text × Row). message m n e.0 e.1) (λ e x h. message_key m n e.0 e.1 x h) n.rows sorted)
 
+-- whom a regulation governs
+pub governed_name : (id : Text) (g : Option Text) → option_map_or (same_text id) g false ≡ true → g ≡ Some id
+governed_name id None h = cc
+governed_name id (Some by) h = ap (λ (q : Text). Some q) (sym (named id by h))
+
 -- a flight of a good state is governed as it should be
 pub governed_by : (m : State) (key : Text) (row : Row) (id : Text) → IsGood m → row_of m key ≡ Some row → row.governing ≡ Some id → IsGoverned m.clock m.regs row id
 governed_by m key row id good found governs =
@@ -117,21 +123,32 @@ issued_delay m key id row measure eto t sorted found governs issued opened over 
     delay_governed m key id row measure eto sorted found governs opened over
     ∙ ap (λ (w : Option ℕ). unwrap_or w (cto (slots measure.profile) (end_of measure.profile) eto (place_of (listing m.rows id measure) key)) - eto) issued
 
--- an open regulation stays open, at its location and with its span
+-- what is subject to the one regulation is subject to the other too, at the same time
+abbrev pub TakesTimes : Regulation → Regulation → Type 0
+TakesTimes r q = (plan : FlightPlan) (eto : ℕ) → subject plan r ≡ Some eto → subject plan q ≡ Some eto
+
+-- an open regulation stays open, and what is subject to it stays so, at the same time
 abbrev pub StaysOpen : State → State → Text → Type 0
-StaysOpen m n id = (a : Measure) → measure_of m id ≡ Some a → (b : Measure) × (measure_of n id ≡ Some b) × (regulation id a ≡ regulation id b)
+StaysOpen m n id = (a : Measure) → measure_of m id ≡ Some a → (b : Measure) × (measure_of n id ≡ Some b) × TakesTimes (regulation id a) (regulation id b)
+
+pub same_times : (r q : Regulation) → r ≡ q → TakesTimes r q
+same_times r q same plan eto h = ap (subject plan) (sym same) ∙ h
+
+-- as it is where it stays as it was
+pub stays : (m n : State) (id : Text) → ((a : Measure) → measure_of m id ≡ Some a → measure_of n id ≡ Some a) → StaysOpen m n id
+stays m n id f a opened = (a, f a opened, λ plan eto h. h)
 
 same_delay : (m n : State) (key id : Text) (row : Row) (t : ℕ) → IsGood m → AreInOrder n.rows → StaysOpen m n id → row_of m key ≡ Some row → row_of n key ≡ Some row → row.governing ≡ Some id → row.issued ≡ Some t → delay_of m key row ≡ delay_of n key row
-same_delay m n key id row t good sorted stays before after governs issued =
+same_delay m n key id row t good sorted lasts before after governs issued =
     let g : IsGoverned m.clock m.regs row id = governed_by m key row id good before governs in
-    let z = stays g.measure g.is_open in
-    let over : subject row.plan (regulation id z.0) ≡ Some g.eto = ap (subject row.plan) (sym z.2) ∙ g.is_subject in
+    let z = lasts g.measure g.is_open in
+    let over : subject row.plan (regulation id z.0) ≡ Some g.eto = z.2 row.plan g.eto g.is_subject in
     issued_delay m key id row g.measure g.eto t good.rows_in_order before governs issued g.is_open g.is_subject
     ∙ sym (issued_delay n key id row z.0 g.eto t sorted after governs issued z.1 over)
 
 -- a flight whose row stays has no message, where what governs it stays open
 pub message_none : (m n : State) (key : Text) (row : Row) → IsGood m → AreInOrder n.rows → ((id : Text) → row.governing ≡ Some id → StaysOpen m n id) → row_of m key ≡ Some row → row_of n key ≡ Some row → message m n key row ≡ None
-message_none m n key row good sorted stays before after =
+message_none m n key row good sorted lasts before after =
     ap (λ (w : Option Row). message_of key row.governing (is_issued w) (is_some row.issued) (option_map_or (ctot_of m key) w 0) (ctot_of n key row)) before
     ∙ by row.governing refl row.issued refl
   where
@@ -140,7 +157,7 @@ message_none m n key row good sorted stays before after =
     by None governs (Some t) issued = refl
     by (Some id) governs (Some t) issued =
         let moved : ℕ → Option Message = λ d. cond (etot row.plan + d == etot row.plan + delay_of n key row) None (Some (Srm key (etot row.plan + delay_of n key row) id)) in
-        ap moved (same_delay m n key id row t good sorted (stays id governs) before after governs issued)
+        ap moved (same_delay m n key id row t good sorted (lasts id governs) before after governs issued)
         ∙ ap (λ b. cond b None (Some (Srm key (etot row.plan + delay_of n key row) id))) (nat_eq_equiv.refl (etot row.plan + delay_of n key row))
 
 -- a call that writes one row has no message for any other flight
@@ -151,7 +168,7 @@ messages_one m key row good =
     let given : Text × Row → Option Message = λ e. message m n e.0 e.1 in
     let each : AllByRecursion (λ (e : Text × Row). is_eq (text_cmp key e.0) ≡ false → given e ≡ None) n.rows =
     all-each (λ (e : Text × Row). row_of n e.0 ≡ Some e.1) (λ (e : Text × Row). is_eq (text_cmp key e.0) ≡ false → given e ≡ None)
-    (λ e found off. message_none m n e.0 e.1 good sorted (λ id governs a opened. (a, opened, refl)) (sym (at-put_other e.0 key row m.rows (other_way key e.0 off)) ∙ found) found)
+    (λ e found off. message_none m n e.0 e.1 good sorted (λ id governs. stays m n id (λ a opened. opened)) (sym (at-put_other e.0 key row m.rows (other_way key e.0 off)) ∙ found) found)
     n.rows (each_found n.rows sorted) in
     filter_map-one given key n.rows sorted each ∙ ap (λ (w : Option Row). cons_option (option_and_then (λ (r : Row). given (key, r)) w) []) (at-put_same key row m.rows)
 
@@ -170,7 +187,7 @@ filter_map-none {X} {Y} f (x ∷ xs) a = ap (λ (w : Option Y). cons_option w (f
 
 -- where each row that is there afterwards was there before, there is no message
 pub messages_unchanged : (m n : State) → IsGood m → AreInOrder n.rows → ((id : Text) → StaysOpen m n id) → ((key : Text) (row : Row) → row_of n key ≡ Some row → row_of m key ≡ Some row) → messages m n ≡ []
-messages_unchanged m n good sorted stays before =
+messages_unchanged m n good sorted lasts before =
     filter_map-none (λ (e : Text × Row). message m n e.0 e.1) n.rows
     (all-each (λ (e : Text × Row). row_of n e.0 ≡ Some e.1) (λ (e : Text × Row). message m n e.0 e.1 ≡ None)
-    (λ e found. message_none m n e.0 e.1 good sorted (λ id _. stays id) (before e.0 e.1 found) found) n.rows (each_found n.rows sorted))
+    (λ e found. message_none m n e.0 e.1 good sorted (λ id _. lasts id) (before e.0 e.1 found) found) n.rows (each_found n.rows sorted))

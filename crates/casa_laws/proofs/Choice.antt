@@ -4,7 +4,7 @@ use Rattle.std.specs.Option.{option_map, option_and_then}
 use Rattle.std.specs.List.{AllByRecursion, best_of, find, filter_map, cons_option}
 use Rattle.std.specs.List.Sorted.{IsStrictlySortedBy}
 use Rattle.std.specs.Map.{keys_of}
-use Rattle.std.proofs.lemmas.Bool.{and_parts, ltb-true, leb-true}
+use Rattle.std.proofs.lemmas.Bool.{and_parts, and_from, ltb-true, lt-ltb, leb-true, le-leb}
 use Rattle.casa_grid.specs.declared.slot.Window.{Window}
 use Rattle.casa_grid.specs.declared.slot.Place.{Place}
 use Rattle.casa_grid.specs.declared.slot.Place.TheVariants.{Slot, Over}
@@ -42,6 +42,22 @@ eto-before_end plan r eto h = by (find (is_there r.loc) plan.via) h
     by : (w : Option Crossing) → option_and_then (covered r) w ≡ Some eto → eto < r.end
     by None f = cc
     by (Some c) f = (in_span r c eto f).2
+
+-- and stays so, at the same time, with a later end
+pub subject-later : (plan : FlightPlan) (id loc : Text) (start end later eto : ℕ) → end ≤ later
+    → subject plan (record { id = id; loc = loc; start = start; end = end }) ≡ Some eto → subject plan (record { id = id; loc = loc; start = start; end = later }) ≡ Some eto
+subject-later plan id loc start end later eto after h = by (find (is_there loc) plan.via) h
+  where
+    until : ℕ → Regulation
+    until time = record { id = id; loc = loc; start = start; end = time }
+
+    by : (w : Option Crossing) → option_and_then (covered (until end)) w ≡ Some eto → option_and_then (covered (until later)) w ≡ Some eto
+    by None f = cc
+    by (Some c) f =
+        let span = in_span (until end) c eto f in
+        let from : start ≤ c.eto = subst (λ n. start ≤ n) (sym span.0) span.1 in
+        let before : c.eto < end = subst (λ n. n < end) (sym span.0) span.2 in
+        ap (λ b. cond b (Some c.eto) None) (and_from _ _ (le-leb start c.eto from) (lt-ltb c.eto later (omega arith))) ∙ ap (λ (n : ℕ). Some n) span.0
 
 -- a calculated time over is from the estimated one to the end
 pub cto-between : (ws : List Window) (end eto : ℕ) (place : Place) → eto < end → (eto ≤ cto ws end eto place) × (cto ws end eto place ≤ end)

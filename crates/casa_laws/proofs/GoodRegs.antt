@@ -1,4 +1,4 @@
--- OpenReg and CloseReg keep a state good, and so does every call
+-- OpenReg, CloseReg and Rates keep a state good, and so does every call
 use Rattle.std.proofs.Common.{◌≡◌, ℕ, List, [], ◌∷◌, length, take, drop, Bool, true, false, cond, not, ◌&&◌, ◌||◌, nat_lt, nat_le, refl, sym, ap, ◌∙◌, Option, None, Some, unwrap_or, subst}
 use Rattle.std.specs.Option.{option_map}
 use Rattle.std.specs.List.{AllByRecursion, list_any, filter_map, cons_option, fold, insert, position}
@@ -9,8 +9,9 @@ use Rattle.std.specs.Cmp.Lexicographic.{same_text as text_is}
 use Rattle.std.proofs.lemmas.Bool.{or_right, or_left, both_ways, or_from}
 use Rattle.std.proofs.lemmas.List.{take-append-drop}
 use Rattle.std.proofs.lemmas.List.Folds.{list_any-append}
+use Rattle.casa_grid.specs.declared.period.Period.{Period}
 use Rattle.casa_flight.specs.declared.call.Call.{Call}
-use Rattle.casa_flight.specs.declared.call.Call.TheVariants.{File, Amend, Cancel, Revise, Exempt, OpenReg, CloseReg, Rates, Tick, Show, List as ListOf}
+use Rattle.casa_flight.specs.declared.call.Call.TheVariants.{File, Amend, Cancel, Revise, Exempt, OpenReg, CloseReg, Rates, Tick, Show, List as ListOf, Swap}
 use Rattle.casa_flight.specs.declared.comp.Comp.{Comp}
 use Rattle.casa_flight.specs.declared.regulation.Regulation.{Regulation}
 use Rattle.casa_flight.specs.declared.regulation.Measure.{Measure}
@@ -21,11 +22,12 @@ use Rattle.casa_flight.specs.FlightPlan.{FlightPlan}
 use Rattle.casa_flight.specs.State.{row_of, measure_of, regulation, subject, is_governed_by, ungoverned}
 use Rattle.casa_flight.specs.Listing.{put_by, in_order, is_before}
 use Rattle.casa_flight.specs.Entry.{enter_all, reenter}
-use Rattle.casa_flight.specs.Steps.{most_regulations, flights_over, may_compete, open_regulation, freed, closed, close_regulation, next}
+use Rattle.casa_flight.specs.Steps.{most_regulations, flights_over, may_compete, take_in, open_regulation, freed, closed, close_regulation, keeps_span, ends_later, rates, rates_if, next}
 use Rattle.casa_flight.specs.Good.{IsGood, IsGoodRow, IsGoverned}
 use Rattle.casa_flight.proofs.Entries.{text_cmp, all-put, all-remove, all_at, all-each, all-both, all-map, keys-map, sorted-put, sorted-remove, same_name, apart, itself, at-put_other, at-without_other, none_at}
 use Rattle.casa_laws.proofs.Good.{IsRowBut, IsGoodBut, none_waits, KeepsGood, enter-good, from_but, row-looser, file-good, amend-good, cancel-good, exempt-good, revise-good, show-good, list-good}
-use Rattle.casa_laws.proofs.GoodTick.{tick-good, rates-good}
+use Rattle.casa_laws.proofs.Swap.{swap-good}
+use Rattle.casa_laws.proofs.GoodTick.{tick-good, rates_governed, rated-good, span_kept, same_end}
 
 -- whether a key is of one of the flights that are still to enter
 abbrev waits : List Comp → Text → Bool
@@ -112,39 +114,33 @@ each_waits test r all (e ∷ es) sub =
 flights_wait : (test : Row → Bool) (r : Regulation) (es : List (Text × Row)) → AllByRecursion (λ (e : Text × Row). waits (flights_over test r es) e.0 ≡ false → comp_if (test e.1) (subject e.1.plan r) e.0 ≡ None) es
 flights_wait test r es = each_waits test r (flights_over test r es) es (λ q h. any-in_order is_before (λ (c : Comp). is_eq (text_cmp c.key q)) (comps test r es) ∙ h)
 
--- a row that gives no newcomer of the opened regulation
+-- a row that gives no newcomer of the regulation
 no_comp : (x g : Bool) (o : Option ℕ) (key : Text) → comp_if (not x && (not g && true)) o key ≡ None → x ≡ false → g ≡ false → o ≡ None
 no_comp false false None key h p q = refl
 no_comp false false (Some e) key h p q = cc
 no_comp true g o key h p q = cc
 no_comp false true o key h p q = cc
 
--- what other regulations govern is as it was
-open_governed : (clock : ℕ) (regs : List (Text × Measure)) (id : Text) (measure : Measure) (row : Row) (by : Text) → at_name regs id ≡ None → IsGoverned clock regs row by → IsGoverned clock (put regs id measure) row by
-open_governed clock regs id measure row by absent h =
-    elim (is_eq (text_cmp by id)) as (λ b. is_eq (text_cmp by id) ≡ b → IsGoverned clock (put regs id measure) row by) [
-      | true ↦ λ t. let none : None ≡ Some h.measure = sym absent ∙ ap (λ (q : Text). at_name regs q) (sym (same_name by id t)) ∙ h.is_open in absurd (let no : ⊥ = cc in no)
-      | false ↦ λ t. record { measure = h.measure; is_open = at-put_other by id measure regs t ∙ h.is_open; eto = h.eto; is_subject = h.is_subject; not_exempt = h.not_exempt; issued = h.issued }
-    ] refl
+-- what is governed stays governed with this measure
+abbrev KeepsGoverned : ℕ → List (Text × Measure) → Text → Measure → Type 0
+KeepsGoverned clock regs id measure = (row : Row) (by : Text) → IsGoverned clock regs row by → IsGoverned clock (put regs id measure) row by
 
--- each row once the regulation is open: what it takes in waits to enter
-open_row : (clock : ℕ) (regs : List (Text × Measure)) (id : Text) (measure : Measure) (w : Bool) (key : Text) (plan : FlightPlan) (marked : Bool) (g : Option Text) (i : Option ℕ) → at_name regs id ≡ None
+-- each row once a regulation has this measure, which opens or ends later: what it takes in waits to enter
+take_in_row : (clock : ℕ) (regs : List (Text × Measure)) (id : Text) (measure : Measure) (w : Bool) (key : Text) (plan : FlightPlan) (marked : Bool) (g : Option Text) (i : Option ℕ) → KeepsGoverned clock regs id measure
     → IsGoodRow clock regs key (record { plan = plan; marked = marked; governing = g; issued = i })
     → (w ≡ false → comp_if (may_compete clock (record { plan = plan; marked = marked; governing = g; issued = i })) (subject plan (regulation id measure)) key ≡ None)
     → IsRowBut w clock (put regs id measure) key (record { plan = plan; marked = marked; governing = g; issued = i })
-open_row clock regs id measure w key plan marked None i absent good waiting = record {
+take_in_row clock regs id measure w key plan marked None i keeps good waiting = record {
   keyed = good.keyed;
   standing = (good.standing.not_issued, λ h p q. all-put (λ (e : Text × Measure). subject plan (regulation e.0 e.1) ≡ None) id measure (no_comp _ _ (subject plan (regulation id measure)) key (waiting h) p q) regs (good.standing.left p q));
 }
-open_row clock regs id measure w key plan marked (Some by) i absent good waiting = record {
+take_in_row clock regs id measure w key plan marked (Some by) i keeps good waiting = record {
   keyed = good.keyed;
-  standing = open_governed clock regs id measure (record { plan = plan; marked = marked; governing = Some by; issued = i }) by absent good.standing;
+  standing = keeps (record { plan = plan; marked = marked; governing = Some by; issued = i }) by good.standing;
 }
 
-open_regulation-good : (m : State) (id : Text) (measure : Measure) (o : Option Measure) (full : Bool) → measure_of m id ≡ o → IsGood m → KeepsGood m (open_regulation m id measure o full)
-open_regulation-good m id measure (Some old) full absent good = good
-open_regulation-good m id measure None true absent good = good
-open_regulation-good m id measure None false absent good =
+take_in-good : (m : State) (id : Text) (measure : Measure) → KeepsGoverned m.clock m.regs id measure → IsGood m → IsGood (take_in m id measure)
+take_in-good m id measure keeps good =
     let n : State = record m { regs = put m.regs id measure } in
     let cs : List Comp = flights_over (may_compete m.clock) (regulation id measure) m.rows in
     from_but (enter_all n cs) (enter_all-good cs n (record {
@@ -152,10 +148,23 @@ open_regulation-good m id measure None false absent good =
       regs_in_order = sorted-put id measure m.regs good.regs_in_order;
       rows = all-each (λ (e : Text × Row). IsGoodRow m.clock m.regs e.0 e.1 × (waits cs e.0 ≡ false → comp_if (may_compete m.clock e.1) (subject e.1.plan (regulation id measure)) e.0 ≡ None))
           (λ (e : Text × Row). IsRowBut (waits cs e.0) m.clock (put m.regs id measure) e.0 e.1)
-          (λ e r. open_row m.clock m.regs id measure (waits cs e.0) e.0 e.1.plan e.1.marked e.1.governing e.1.issued absent r.0 r.1) m.rows
+          (λ e r. take_in_row m.clock m.regs id measure (waits cs e.0) e.0 e.1.plan e.1.marked e.1.governing e.1.issued keeps r.0 r.1) m.rows
           (all-both (λ (e : Text × Row). IsGoodRow m.clock m.regs e.0 e.1) (λ (e : Text × Row). waits cs e.0 ≡ false → comp_if (may_compete m.clock e.1) (subject e.1.plan (regulation id measure)) e.0 ≡ None)
           m.rows good.rows (flights_wait (may_compete m.clock) (regulation id measure) m.rows));
     }))
+
+-- what other regulations govern is as it was when one opens
+open_governed : (clock : ℕ) (regs : List (Text × Measure)) (id : Text) (measure : Measure) → at_name regs id ≡ None → KeepsGoverned clock regs id measure
+open_governed clock regs id measure absent row by h =
+    elim (is_eq (text_cmp by id)) as (λ b. is_eq (text_cmp by id) ≡ b → IsGoverned clock (put regs id measure) row by) [
+      | true ↦ λ t. let none : None ≡ Some h.measure = sym absent ∙ ap (λ (q : Text). at_name regs q) (sym (same_name by id t)) ∙ h.is_open in absurd (let no : ⊥ = cc in no)
+      | false ↦ λ t. record { measure = h.measure; is_open = at-put_other by id measure regs t ∙ h.is_open; eto = h.eto; is_subject = h.is_subject; not_exempt = h.not_exempt; issued = h.issued }
+    ] refl
+
+open_regulation-good : (m : State) (id : Text) (measure : Measure) (o : Option Measure) (full : Bool) → measure_of m id ≡ o → IsGood m → KeepsGood m (open_regulation m id measure o full)
+open_regulation-good m id measure (Some old) full absent good = good
+open_regulation-good m id measure None true absent good = good
+open_regulation-good m id measure None false absent good = take_in-good m id measure (open_governed m.clock m.regs id measure absent) good
 
 -- a flight that the closed regulation governs is one of those over it
 some_comp : (o : Option ℕ) (eto : ℕ) (key : Text) → o ≡ Some eto → comp_if true o key ≡ None → ⊥
@@ -203,6 +212,22 @@ close_regulation-good m id (Some measure) found good =
           m.rows good.rows (flights_wait (is_governed_by id) (regulation id measure) m.rows));
     }))
 
+-- new rates with the same end or a later one
+rates_if-good : (m : State) (id : Text) (measure : Measure) (profile : List Period) (b later : Bool) → measure_of m id ≡ Some measure → keeps_span profile measure.profile ≡ b → ends_later profile measure.profile ≡ later → IsGood m
+    → KeepsGood m (rates_if m id (record measure { profile = profile }) b later)
+rates_if-good m id measure profile false later found span after good = good
+rates_if-good m id measure profile true false found span after good =
+    let k = span_kept profile measure.profile span in
+    rated-good m id measure profile found k.start (same_end profile measure.profile k after) good
+rates_if-good m id measure profile true true found span after good =
+    let k = span_kept profile measure.profile span in
+    take_in-good m id (record measure { profile = profile })
+    (λ row by. rates_governed m.clock m.regs id measure profile row by found k.start k.end) good
+
+rates-good : (m : State) (id : Text) (profile : List Period) (o : Option Measure) → measure_of m id ≡ o → IsGood m → KeepsGood m (rates m id profile o)
+rates-good m id profile None found good = good
+rates-good m id profile (Some measure) found good = rates_if-good m id measure profile _ _ found refl refl good
+
 -- every call keeps a good state good
 pub next-good : (m : State) (call : Call) → IsGood m → IsGood (next m call)
 next-good m (File plan) good = file-good m plan (row_of m plan.key) (nat_lt plan.eobt m.clock) good
@@ -216,3 +241,4 @@ next-good m (Rates id profile) good = rates-good m id profile (measure_of m id) 
 next-good m (Tick at) good = tick-good m at (nat_lt at m.clock) refl good
 next-good m (Show key) good = show-good m (row_of m key) good
 next-good m (ListOf id) good = list-good m (measure_of m id) good
+next-good m (Swap key other) good = swap-good m key other good

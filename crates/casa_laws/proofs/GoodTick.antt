@@ -1,5 +1,5 @@
--- Tick and Rates keep a state good
-use Rattle.std.proofs.Common.{◌≡◌, ℕ, ◌+◌, ◌≤◌, List, Bool, true, false, ◌==◌, nat_lt, refl, sym, ap, ◌∙◌, Option, None, Some, subst, arith, MatchOption}
+-- Tick, and Rates with the same end, keep a state good
+use Rattle.std.proofs.Common.{◌≡◌, ℕ, ◌+◌, ◌≤◌, List, Bool, true, false, ◌==◌, nat_lt, nat_le, refl, sym, ap, ◌∙◌, Option, None, Some, subst, arith, MatchOption}
 use Rattle.std.specs.Option.{option_map, option_map_or, option_and_then}
 use Rattle.std.specs.List.Sorted.{IsStrictlySortedBy}
 use Rattle.std.specs.Map.{keys_of}
@@ -20,11 +20,11 @@ use Rattle.casa_flight.specs.FlightPlan.{FlightPlan, etot}
 use Rattle.casa_flight.specs.State.{measure_of, regulation, subject, is_due, is_gone}
 use Rattle.casa_flight.specs.Listing.{Listing, listing, list_of, stance_in, cto_as, cto_of, place_of}
 use Rattle.casa_flight.specs.Entry.{is_to_issue, issued_in, issue_if}
-use Rattle.casa_flight.specs.Steps.{has_span, rates, rates_if, tick}
+use Rattle.casa_flight.specs.Steps.{keeps_span, ends_later, tick}
 use Rattle.casa_flight.specs.Good.{IsOutside, IsGood, IsGoodRow, IsFree, IsGoverned}
 use Rattle.casa_flight.proofs.Entries.{text_cmp, all-put, all_at, all-each, sorted-put, same_name, at-put_same, at-put_other, each_found, all-both, keys-map, all-map}
 use Rattle.casa_laws.proofs.Kept.{at-kept}
-use Rattle.casa_laws.proofs.Choice.{cto-between, eto-before_end}
+use Rattle.casa_laws.proofs.Choice.{cto-between, eto-before_end, subject-later}
 use Rattle.casa_laws.proofs.Good.{KeepsGood}
 
 -- a flight that is due stays due, and one that is not gone was not gone before
@@ -133,8 +133,16 @@ rates_outside plan regs id measure profile found s e out =
     let P : Text × Measure → Type 0 = λ e. subject plan (regulation e.0 e.1) ≡ None in
     all-put P id (record measure { profile = profile }) (same_eto plan id measure profile s e ∙ all_at P id measure regs out found) regs out
 
-rates_governed : (clock : ℕ) (regs : List (Text × Measure)) (id : Text) (measure : Measure) (profile : List Period) (row : Row) (by : Text) → at_name regs id ≡ Some measure
-    → start_of profile ≡ start_of measure.profile → end_of profile ≡ end_of measure.profile → IsGoverned clock regs row by → IsGoverned clock (put regs id (record measure { profile = profile })) row by
+-- an issued time is before the end also where that is later
+until_later : (clock : ℕ) (plan : FlightPlan) (low high later : ℕ) → high ≤ later → (o : Option ℕ)
+    → MatchOption o (is_due clock plan ≡ false) (λ t. (is_due clock plan ≡ true) × (low ≤ t) × (t ≤ high))
+    → MatchOption o (is_due clock plan ≡ false) (λ t. (is_due clock plan ≡ true) × (low ≤ t) × (t ≤ later))
+until_later clock plan low high later after None h = h
+until_later clock plan low high later after (Some t) h = let before : t ≤ high = h.2 in (h.0, h.1, omega arith)
+
+-- with another profile of the same start whose end is not earlier, what is governed stays governed
+pub rates_governed : (clock : ℕ) (regs : List (Text × Measure)) (id : Text) (measure : Measure) (profile : List Period) (row : Row) (by : Text) → at_name regs id ≡ Some measure
+    → start_of profile ≡ start_of measure.profile → end_of measure.profile ≤ end_of profile → IsGoverned clock regs row by → IsGoverned clock (put regs id (record measure { profile = profile })) row by
 rates_governed clock regs id measure profile row by found s e h =
     let new : Measure = record measure { profile = profile } in
     elim (is_eq (text_cmp by id)) as (λ b. is_eq (text_cmp by id) ≡ b → IsGoverned clock (put regs id new) row by) [
@@ -142,13 +150,17 @@ rates_governed clock regs id measure profile row by found s e h =
           let here : by ≡ id = same_name by id t in
           let measures : Some h.measure ≡ Some measure = sym h.is_open ∙ ap (λ (q : Text). at_name regs q) here ∙ found in
           let same : h.measure ≡ measure = cc in
+          let was : subject row.plan (regulation by measure) ≡ Some h.eto = subst (λ (y : Measure). subject row.plan (regulation by y) ≡ Some h.eto) same h.is_subject in
+          let issued : MatchOption row.issued (is_due clock row.plan ≡ false) (λ t. (is_due clock row.plan ≡ true) × (h.eto ≤ t) × (t ≤ end_of measure.profile)) =
+          subst (λ (y : Measure). MatchOption row.issued (is_due clock row.plan ≡ false) (λ t. (is_due clock row.plan ≡ true) × (h.eto ≤ t) × (t ≤ end_of y.profile))) same h.issued in
           record {
             measure = new;
             is_open = subst (λ (q : Text). at_name (put regs id new) q ≡ Some new) (sym here) (at-put_same id new regs);
             eto = h.eto;
-            is_subject = same_eto row.plan by measure profile s e ∙ subst (λ (y : Measure). subject row.plan (regulation by y) ≡ Some h.eto) same h.is_subject;
+            is_subject = subst (λ n. subject row.plan (record { id = by; loc = measure.loc; start = n; end = end_of profile }) ≡ Some h.eto) (sym s)
+                (subject-later row.plan by measure.loc (start_of measure.profile) (end_of measure.profile) (end_of profile) h.eto e was);
             not_exempt = h.not_exempt;
-            issued = subst (λ (n : ℕ). MatchOption row.issued (is_due clock row.plan ≡ false) (λ t. (is_due clock row.plan ≡ true) × (h.eto ≤ t) × (t ≤ n))) (ap (λ (y : Measure). end_of y.profile) same ∙ sym e) h.issued;
+            issued = until_later clock row.plan h.eto (end_of measure.profile) (end_of profile) e row.issued issued;
           }
       | false ↦ λ t. record { measure = h.measure; is_open = at-put_other by id new regs t ∙ h.is_open; eto = h.eto; is_subject = h.is_subject; not_exempt = h.not_exempt; issued = h.issued }
     ] refl
@@ -158,14 +170,12 @@ rates_standing : (clock : ℕ) (regs : List (Text × Measure)) (id : Text) (meas
     → MatchOption o (IsFree clock regs row) (IsGoverned clock regs row)
     → MatchOption o (IsFree clock (put regs id (record measure { profile = profile })) row) (IsGoverned clock (put regs id (record measure { profile = profile })) row)
 rates_standing clock regs id measure profile row None found s e h = record { not_issued = h.not_issued; left = λ p q. rates_outside row.plan regs id measure profile found s e (h.left p q) }
-rates_standing clock regs id measure profile row (Some by) found s e h = rates_governed clock regs id measure profile row by found s e h
+rates_standing clock regs id measure profile row (Some by) found s e h = rates_governed clock regs id measure profile row by found s (subst (λ n. end_of measure.profile ≤ n) (sym e) (omega arith)) h
 
-rates_if-good : (m : State) (id : Text) (measure : Measure) (profile : List Period) (b : Bool) → measure_of m id ≡ Some measure → has_span profile measure.profile ≡ b → IsGood m → KeepsGood m (rates_if m id measure profile b)
-rates_if-good m id measure profile false found span good = good
-rates_if-good m id measure profile true found span good =
-    let parts = and_parts (start_of profile == start_of measure.profile) (end_of profile == end_of measure.profile) span in
-    let s : start_of profile ≡ start_of measure.profile = eqb-true _ _ parts.0 in
-    let e : end_of profile ≡ end_of measure.profile = eqb-true _ _ parts.1 in
+-- rates with the same end
+pub rated-good : (m : State) (id : Text) (measure : Measure) (profile : List Period) → measure_of m id ≡ Some measure → start_of profile ≡ start_of measure.profile → end_of profile ≡ end_of measure.profile → IsGood m
+    → IsGood (record m { regs = put m.regs id (record measure { profile = profile }) })
+rated-good m id measure profile found s e good =
     let regs : List (Text × Measure) = put m.regs id (record measure { profile = profile }) in
     record {
       rows_in_order = good.rows_in_order;
@@ -174,6 +184,18 @@ rates_if-good m id measure profile true found span good =
           (λ y r. record { keyed = r.keyed; standing = rates_standing m.clock m.regs id measure profile y.1 y.1.governing found s e r.standing }) m.rows good.rows;
     }
 
-pub rates-good : (m : State) (id : Text) (profile : List Period) (o : Option Measure) → measure_of m id ≡ o → IsGood m → KeepsGood m (rates m id profile o)
-rates-good m id profile None found good = good
-rates-good m id profile (Some measure) found good = rates_if-good m id measure profile _ found refl good
+-- what it says of two profiles that the one keeps the span of the other
+pub record KeepsSpan (profile other : List Period) : Type 0 where
+  pub start : start_of profile ≡ start_of other
+  pub end : end_of other ≤ end_of profile
+
+pub span_kept : (profile other : List Period) → keeps_span profile other ≡ true → KeepsSpan profile other
+span_kept profile other h =
+    let parts = and_parts (start_of profile == start_of other) (nat_le (end_of other) (end_of profile)) h in
+    record { start = eqb-true _ _ parts.0; end = leb-true (end_of other) (end_of profile) parts.1 }
+
+pub same_end : (profile other : List Period) → KeepsSpan profile other → ends_later profile other ≡ false → end_of profile ≡ end_of other
+same_end profile other k h =
+    let after : end_of profile ≤ end_of other = ltb-false (end_of other) (end_of profile) h in
+    let before : end_of other ≤ end_of profile = k.end in
+    omega arith

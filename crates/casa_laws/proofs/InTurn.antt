@@ -31,7 +31,8 @@ use Rattle.casa_flight.proofs.Entries.{text_cmp, same_name, named, apart, sorted
 use Rattle.casa_laws.proofs.Kept.{at-kept, same_entries}
 use Rattle.casa_laws.proofs.MovesNobody.{with_issue_at, place_issued}
 use Rattle.casa_laws.proofs.Planned.{list_sorted}
-use Rattle.casa_laws.proofs.RegMessages.{to_issue_parts, issued_at, governed_name}
+use Rattle.casa_laws.proofs.ChangeMessages.{governed_name}
+use Rattle.casa_laws.proofs.RegMessages.{to_issue_parts, issued_at}
 
 -- how a flight that stood so stands now, whether it is due or not
 abbrev now_as : Listing → Bool → Text → Stance → Stance

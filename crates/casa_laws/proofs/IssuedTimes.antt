@@ -1,15 +1,14 @@
 -- what stays of a flight at the calls that are not its own, and what an opened regulation and the clock give
-use Rattle.std.proofs.Common.{◌≡◌, ℕ, List, length, Bool, true, false, refl, sym, ap, ◌∙◌, ◌⊎◌, inl, inr, Option, None, Some, is_some, nat_lt, nat_le, ◌&&◌}
+use Rattle.std.proofs.Common.{◌≡◌, ℕ, List, length, Bool, true, false, refl, sym, ap, ◌∙◌, ◌⊎◌, inl, inr, Option, None, Some, is_some, nat_lt, nat_le, ◌&&◌, ◌||◌}
 use Rattle.std.specs.Option.{option_map, option_map_or, option_and_then}
-use Rattle.std.proofs.lemmas.Bool.{both_ways, false_from_ne_true}
+use Rattle.std.proofs.lemmas.Bool.{both_ways, or_parts, false_from_ne_true}
 use Rattle.casa_grid.specs.declared.period.Period.{Period}
 use Rattle.casa_grid.specs.Profile.{end_of}
 use Rattle.casa_grid.specs.Slots.{slots}
 use Rattle.casa_grid.specs.TimeOver.{cto}
 use Rattle.casa_flight.specs.declared.call.Call.{Call}
-use Rattle.casa_flight.specs.declared.call.Call.TheVariants.{File, Amend, Cancel, Revise, Exempt, OpenReg, CloseReg, Rates, Tick, Show, List as ListOf}
+use Rattle.casa_flight.specs.declared.call.Call.TheVariants.{File, Amend, Cancel, Revise, Exempt, OpenReg, CloseReg, Rates, Tick, Show, List as ListOf, Swap}
 use Rattle.casa_flight.specs.declared.call.Refusal.{Refusal}
-use Rattle.casa_flight.specs.declared.comp.Comp.{Comp}
 use Rattle.casa_flight.specs.declared.regulation.Measure.{Measure}
 use Rattle.casa_flight.specs.declared.row.Row.{Row}
 use Rattle.casa_flight.specs.declared.state.State.{State}
@@ -17,16 +16,17 @@ use Rattle.casa_flight.specs.Text.{Text, same_text, put}
 use Rattle.casa_flight.specs.FlightPlan.{FlightPlan}
 use Rattle.casa_flight.specs.State.{row_of, measure_of, with_row, regulation, is_exempt, is_due, is_gone, is_governed_by, ungoverned}
 use Rattle.casa_flight.specs.Listing.{Listing, listing, place_of, cto_of, governing_list}
-use Rattle.casa_flight.specs.Entry.{situation, entered, enter_all, is_to_issue, issued_in, issue_if, issue_due}
-use Rattle.casa_flight.specs.Steps.{Step, refused, step, most_regulations, new_row, file, amend, cancel, is_revised, state_if, revise, exempt, exempt_if, flights_over, may_compete, open_regulation, close_regulation, has_span, rates, rates_if, tick, show, list, after, next}
+use Rattle.casa_flight.specs.Entry.{situation, entered, is_to_issue, issued_in, issue_if, issue_due}
+use Rattle.casa_flight.specs.Steps.{Step, refused, step, most_regulations, new_row, file, amend, cancel, is_revised, state_if, revise, exempt, exempt_if, flights_over, may_compete, take_in, open_regulation, close_regulation, keeps_span, ends_later, extends, rates, rates_if, tick, show, list, reissued, after, next}
 use Rattle.casa_flight.specs.Good.{IsGood, IsFree, IsGoverned}
 use Rattle.casa_flight.specs.IssuedTimes.{may_free, may_serve, IsTakenIn, BecomesIssued}
 use Rattle.casa_flight.proofs.Entries.{named, apart, at-put_other, at-without_other, at-map}
+use Rattle.casa_laws.proofs.Swap.{swap_cases}
 use Rattle.casa_laws.proofs.GoodRegs.{next-good}
 use Rattle.casa_laws.proofs.ChangeMessages.{governed_by, free_of}
-use Rattle.casa_laws.proofs.EnterAll.{clock-enter_all, regs-enter_all, rest-enter_all}
+use Rattle.casa_laws.proofs.EnterAll.{rest-enter_all}
 use Rattle.casa_laws.proofs.CallMessages.{issued_if_due}
-use Rattle.casa_laws.proofs.RegMessages.{to_issue_parts, issued_at, competes, row-opened, opened_governs, row-closed}
+use Rattle.casa_laws.proofs.RegMessages.{to_issue_parts, issued_at, competes, regs-take_in, clock-take_in, row-take_in, take_in_governs, row-closed}
 
 pub refused_stays : (m : State) (call : Call) (r : Refusal) → step m call ≡ refused r → next m call ≡ m
 refused_stays m call r h = ap (after m) h
@@ -79,13 +79,16 @@ close_stays m id key row None good not_its found = found
 close_stays m id key row (Some measure) good not_its found =
     row-closed m id measure key good (ap (λ (w : Option Row). option_map_or (is_governed_by id) w false) found ∙ not_its) ∙ found
 
-rates_if_stay : (m : State) (id key : Text) (row : Row) (measure : Measure) (profile : List Period) (b : Bool) → row_of m key ≡ Some row → Stays m (rates_if m id measure profile b) key row
-rates_if_stay m id key row measure profile true found = found
-rates_if_stay m id key row measure profile false found = found
+rates_if_stay : (m : State) (id key : Text) (row : Row) (measure : Measure) (b later : Bool) → later ≡ false → row_of m key ≡ Some row → Stays m (rates_if m id measure b later) key row
+rates_if_stay m id key row measure false later same found = found
+rates_if_stay m id key row measure true false same found = found
+rates_if_stay m id key row measure true true same found = cc
 
-rates_stay : (m : State) (id key : Text) (row : Row) (profile : List Period) (o : Option Measure) → row_of m key ≡ Some row → Stays m (rates m id profile o) key row
-rates_stay m id key row profile None found = found
-rates_stay m id key row profile (Some measure) found = rates_if_stay m id key row measure profile (has_span profile measure.profile) found
+rates_stay : (m : State) (id key : Text) (row : Row) (profile : List Period) (o : Option Measure) → measure_of m id ≡ o → extends m id profile ≡ false → row_of m key ≡ Some row → Stays m (rates m id profile o) key row
+rates_stay m id key row profile None lasts same found = found
+rates_stay m id key row profile (Some measure) lasts same found =
+    rates_if_stay m id key row (record measure { profile = profile }) (keeps_span profile measure.profile) (ends_later profile measure.profile)
+    (sym (ap (λ (w : Option Measure). option_map_or (λ (y : Measure). ends_later profile y.profile) w false) lasts) ∙ same) found
 
 show_stays : (m : State) (key : Text) (row : Row) (o : Option Row) → row_of m key ≡ Some row → Stays m (show m o) key row
 show_stays m key row None found = found
@@ -95,7 +98,14 @@ list_stays : (m : State) (key : Text) (row : Row) (o : Option Measure) → row_o
 list_stays m key row None found = found
 list_stays m key row (Some measure) found = found
 
-pub others_stay : (m : State) (call : Call) (key : Text) (row : Row) → IsGood m → row_of m key ≡ Some row → may_free call key row ≡ false → may_serve call ≡ false → row_of (next m call) key ≡ Some row
+swap_stays : (m : State) (one other key : Text) (row : Row) → (same_text one key || same_text other key) ≡ false → row_of m key ≡ Some row → Stays m (step m (Swap one other)) key row
+swap_stays m one other key row free found =
+    let apart = or_parts (same_text one key) (same_text other key) free in
+    swap_cases m one other (λ s. Stays m s key row) found found found found
+    (λ old mate cto time can.
+    put_stays (with_row m one (reissued old time)) other key (reissued mate cto) row apart.1 (put_stays m one key (reissued old time) row apart.0 found))
+
+pub others_stay : (m : State) (call : Call) (key : Text) (row : Row) → IsGood m → row_of m key ≡ Some row → may_free call key row ≡ false → may_serve m call ≡ false → row_of (next m call) key ≡ Some row
 others_stay m (File plan) key row good found free serves = file_stays m plan key row (row_of m plan.key) (nat_lt plan.eobt m.clock) refl found
 others_stay m (Amend plan) key row good found free serves = amend_stays m plan key row (row_of m plan.key) (nat_lt plan.eobt m.clock) free found
 others_stay m (Cancel name) key row good found free serves = cancel_stays m name key row (row_of m name) free found
@@ -103,10 +113,11 @@ others_stay m (Revise name) key row good found free serves = revise_stays m name
 others_stay m (Exempt name) key row good found free serves = exempt_stays m name key row (row_of m name) free found
 others_stay m (OpenReg id loc profile) key row good found free serves = cc
 others_stay m (CloseReg id) key row good found free serves = close_stays m id key row (measure_of m id) good free found
-others_stay m (Rates id profile) key row good found free serves = rates_stay m id key row profile (measure_of m id) found
+others_stay m (Rates id profile) key row good found free serves = rates_stay m id key row profile (measure_of m id) refl serves found
 others_stay m (Tick at) key row good found free serves = cc
 others_stay m (Show name) key row good found free serves = show_stays m key row (row_of m name) found
 others_stay m (ListOf id) key row good found free serves = list_stays m key row (measure_of m id) found
+others_stay m (Swap one other) key row good found free serves = swap_stays m one other key row free found
 
 -- the flight is there afterwards, as it was or so
 abbrev IsThere : State → Text → Row → (Row → Type 0) → Type 0
@@ -115,7 +126,7 @@ IsThere n key old Becomes = (new : Row) × (row_of n key ≡ Some new) × ((new 
 there_as : (n : State) (key : Text) (row : Row) (Becomes : Row → Type 0) → row_of n key ≡ Some row → IsThere n key row Becomes
 there_as n key row Becomes found = (row, found, inl refl)
 
--- what an opened regulation makes of a flight
+-- what a regulation that opens or ends later makes of a flight
 taken_in : (m n : State) (id key : Text) (measure : Measure) (row new : Row) → IsGood m → IsGood n → n.regs ≡ put m.regs id measure → n.clock ≡ m.clock → row_of m key ≡ Some row → may_compete m.clock row ≡ true
     → row_of n key ≡ Some new → ungoverned new ≡ ungoverned row → (new ≡ row) ⊎ IsTakenIn m.clock id row new
 taken_in m n id key measure row new good later regs clocks found waits there rest = by new.governing refl
@@ -139,7 +150,7 @@ taken_in m n id key measure row new good later regs clocks found waits there res
         inl (λ i. record { plan = plans i; marked = marks i; governing = nothing i; issued = issues i })
     by (Some reg) governs =
         let g : IsGoverned n.clock n.regs new reg = governed_by n key new reg later there governs in
-        let its : new.governing ≡ Some id = governs ∙ ap (λ (q : Text). Some q) (opened_governs m n id measure new row reg regs (free.left parts.0 parts.1) plans g) in
+        let its : new.governing ≡ Some id = governs ∙ ap (λ (q : Text). Some q) (take_in_governs m n id measure new row reg regs (free.left parts.0 parts.1) plans g) in
         inr (record {
           was_free = parts.2;
           not_issued = free.not_issued;
@@ -147,41 +158,49 @@ taken_in m n id key measure row new good later regs clocks found waits there res
           issued_if_due = issued_if_due n.clock n.regs new reg g ∙ (λ i. is_due (clocks i) (plans i));
         })
 
-opened_if : (m : State) (id key : Text) (measure : Measure) (row : Row) (b : Bool) → let n : State = enter_all (record m { regs = put m.regs id measure }) (flights_over (may_compete m.clock) (regulation id measure) m.rows) in
+take_in_if : (m : State) (id key : Text) (measure : Measure) (row : Row) (b : Bool) → let n : State = take_in m id measure in
     IsGood m → IsGood n → row_of m key ≡ Some row → may_compete m.clock row ≡ b → IsThere n key row (IsTakenIn m.clock id row)
-opened_if m id key measure row false good later found waits =
-    there_as (enter_all (record m { regs = put m.regs id measure }) (flights_over (may_compete m.clock) (regulation id measure) m.rows)) key row (IsTakenIn m.clock id row)
-    (row-opened m id measure key good (ap (λ (w : Option Row). option_map_or (may_compete m.clock) w false) found ∙ waits) ∙ found)
-opened_if m id key measure row true good later found waits = by (row_of n key) refl
+take_in_if m id key measure row false good later found waits =
+    there_as (take_in m id measure) key row (IsTakenIn m.clock id row)
+    (row-take_in m id measure key good (ap (λ (w : Option Row). option_map_or (may_compete m.clock) w false) found ∙ waits) ∙ found)
+take_in_if m id key measure row true good later found waits = by (row_of n key) refl
   where
-    s : State
-    s = record m { regs = put m.regs id measure }
-
-    cs : List Comp
-    cs = flights_over (may_compete m.clock) (regulation id measure) m.rows
-
     n : State
-    n = enter_all s cs
+    n = take_in m id measure
 
     rest : option_map ungoverned (row_of n key) ≡ Some (ungoverned row)
-    rest = rest-enter_all s key cs ∙ ap (option_map ungoverned) found
+    rest = rest-enter_all (record m { regs = put m.regs id measure }) key (flights_over (may_compete m.clock) (regulation id measure) m.rows) ∙ ap (option_map ungoverned) found
 
     by : (w : Option Row) → row_of n key ≡ w → IsThere n key row (IsTakenIn m.clock id row)
     by None there = let none : None ≡ Some (ungoverned row) = sym (ap (option_map ungoverned) there) ∙ rest in cc
     by (Some new) there =
         let both : Some (ungoverned new) ≡ Some (ungoverned row) = sym (ap (option_map ungoverned) there) ∙ rest in
         let same : ungoverned new ≡ ungoverned row = cc in
-        (new, there, taken_in m n id key measure row new good later (regs-enter_all s cs) (clock-enter_all s cs) found waits there same)
+        (new, there, taken_in m n id key measure row new good later (regs-take_in m id measure) (clock-take_in m id measure) found waits there same)
 
 open_serves : (m : State) (id key : Text) (measure : Measure) (row : Row) (o : Option Measure) (full : Bool) → IsGood m → IsGood (after m (open_regulation m id measure o full)) → row_of m key ≡ Some row
     → IsThere (after m (open_regulation m id measure o full)) key row (IsTakenIn m.clock id row)
 open_serves m id key measure row (Some old) full good later found = there_as m key row (IsTakenIn m.clock id row) found
 open_serves m id key measure row None true good later found = there_as m key row (IsTakenIn m.clock id row) found
-open_serves m id key measure row None false good later found = opened_if m id key measure row (may_compete m.clock row) good later found refl
+open_serves m id key measure row None false good later found = take_in_if m id key measure row (may_compete m.clock row) good later found refl
 
 pub opened : (m : State) (id loc key : Text) (profile : List Period) (row : Row) → IsGood m → row_of m key ≡ Some row → IsThere (next m (OpenReg id loc profile)) key row (IsTakenIn m.clock id row)
 opened m id loc key profile row good found =
     open_serves m id key (record { loc = loc; profile = profile }) row (measure_of m id) (nat_le most_regulations (length m.regs)) good (next-good m (OpenReg id loc profile) good) found
+
+-- what a later end makes of a flight
+rates_serve : (m : State) (id key : Text) (measure : Measure) (row : Row) (b later : Bool) → IsGood m → IsGood (after m (rates_if m id measure b later)) → row_of m key ≡ Some row
+    → IsThere (after m (rates_if m id measure b later)) key row (IsTakenIn m.clock id row)
+rates_serve m id key measure row false later good next found = there_as m key row (IsTakenIn m.clock id row) found
+rates_serve m id key measure row true false good next found = there_as (record m { regs = put m.regs id measure }) key row (IsTakenIn m.clock id row) found
+rates_serve m id key measure row true true good next found = take_in_if m id key measure row (may_compete m.clock row) good next found refl
+
+rates_serves : (m : State) (id key : Text) (profile : List Period) (row : Row) (o : Option Measure) → IsGood m → IsGood (after m (rates m id profile o)) → row_of m key ≡ Some row → IsThere (after m (rates m id profile o)) key row (IsTakenIn m.clock id row)
+rates_serves m id key profile row None good next found = there_as m key row (IsTakenIn m.clock id row) found
+rates_serves m id key profile row (Some measure) good next found = rates_serve m id key (record measure { profile = profile }) row (keeps_span profile measure.profile) (ends_later profile measure.profile) good next found
+
+pub extended : (m : State) (id key : Text) (profile : List Period) (row : Row) → IsGood m → row_of m key ≡ Some row → IsThere (next m (Rates id profile)) key row (IsTakenIn m.clock id row)
+extended m id key profile row good found = rates_serves m id key profile row (measure_of m id) good (next-good m (Rates id profile) good) found
 
 -- what the clock makes of a flight
 abbrev BecomesDue : State → Text → Row → Row → Type 0
@@ -228,6 +247,9 @@ pub issued_stays : (m : State) (call : Call) (key : Text) (row : Row) → IsGood
 issued_stays m (OpenReg id loc profile) key row good found free issued =
     let s = opened m id loc key profile row good found in
     as_it_was (next m (OpenReg id loc profile)) key row s.0 (IsTakenIn m.clock id row) s.1 (λ t. both_ways (is_some row.issued) (ap is_some t.not_issued) issued) s.2
+issued_stays m (Rates id profile) key row good found free issued =
+    let s = extended m id key profile row good found in
+    as_it_was (next m (Rates id profile)) key row s.0 (IsTakenIn m.clock id row) s.1 (λ t. both_ways (is_some row.issued) (ap is_some t.not_issued) issued) s.2
 issued_stays m (Tick at) key row good found free issued =
     let s = ticked m at key row good found in
     as_it_was (next m (Tick at)) key row s.0 (BecomesDue m key row) s.1 (λ t. both_ways (is_some row.issued) (ap is_some t.1.not_issued) issued) s.2
@@ -244,6 +266,9 @@ pub governed_stays : (m : State) (call : Call) (key : Text) (row : Row) → IsGo
 governed_stays m (OpenReg id loc profile) key row good found free governed =
     let s = opened m id loc key profile row good found in
     (row.issued, as_it_was (next m (OpenReg id loc profile)) key row s.0 (IsTakenIn m.clock id row) s.1 (λ t. both_ways (is_some row.governing) (ap is_some t.was_free) governed) s.2)
+governed_stays m (Rates id profile) key row good found free governed =
+    let s = extended m id key profile row good found in
+    (row.issued, as_it_was (next m (Rates id profile)) key row s.0 (IsTakenIn m.clock id row) s.1 (λ t. both_ways (is_some row.governing) (ap is_some t.was_free) governed) s.2)
 governed_stays m (Tick at) key row good found free governed =
     let s = ticked m at key row good found in
     but_issued m (next m (Tick at)) key row s.0 s.1 s.2

@@ -1,5 +1,5 @@
 -- the kept entries of a map, once an entry of the map is written or removed, and maps with the same look-ups
-use Rattle.std.proofs.Common.{◌≡◌, arith, List, [], ◌∷◌, true, false, cond, refl, sym, ap, subst, ◌∙◌, Option, None, Some}
+use Rattle.std.proofs.Common.{◌≡◌, arith, List, [], ◌∷◌, map, true, false, cond, refl, sym, ap, subst, ◌∙◌, Option, None, Some}
 use Rattle.std.specs.declared.cmp.Ordering.TheVariants.{Less, Equal, Greater}
 use Rattle.std.specs.Ordering.{is_eq, match_ordering, ordering_reverse}
 use Rattle.std.specs.Option.{option_map, option_and_then, option_or}
@@ -46,6 +46,15 @@ sorted-behind : {X : Type 0} (k : Text) (w : Option X) (es : List (Text × X)) �
 unfolding IsStrictlySortedBy
 sorted-behind k None es above h = h
 sorted-behind k (Some x) es above h = (above, h)
+
+-- the values alone
+pub values_kept : {X Y : Type 0} (f : Text → X → Option Y) (es : List (Text × X)) → filter_map (λ (e : Text × X). f e.0 e.1) es ≡ map (λ (e : Text × Y). e.1) (kept_by f es)
+values_kept f [] = refl
+values_kept {X} {Y} f (e ∷ es) =
+    elim (f e.0 e.1) as (λ (w : Option Y). cons_option w (filter_map (λ (e : Text × X). f e.0 e.1) es) ≡ map (λ (e : Text × Y). e.1) (cons_option (option_map (λ (y : Y). (e.0, y)) w) (kept_by f es))) [
+      | None ↦ values_kept f es
+      | Some y ↦ ap (λ ys. y ∷ ys) (values_kept f es)
+    ]
 
 -- what is kept stays in order
 pub sorted-kept_by : {X Y : Type 0} (f : Text → X → Option Y) (es : List (Text × X)) → AreInOrder es → AreInOrder (kept_by f es)

@@ -11,10 +11,13 @@ pub mod Choice
 pub mod Crossings
 pub mod Good
 pub mod GoodTick
-pub mod GoodRegs
 pub mod ChangeMessages
+pub mod Swap
+pub mod SwapPlaces
+pub mod GoodRegs
 pub mod EnterAll
 pub mod CallMessages
+pub mod SwapMessages
 pub mod RegMessages
 pub mod InOrder
 pub mod Chosen

@@ -30,8 +30,8 @@ use Rattle.casa_laws.proofs.Competitors.{is_other, filter-all, competitors_left,
 use Rattle.casa_laws.proofs.Issue.{BlocksToo, right_without}
 use Rattle.casa_laws.proofs.Blocked.{AddsTime, blocks_place}
 
--- the times of issued flights, once a competitor is issued
-abbrev times : List (Text × Stance) → List ℕ
+-- the times at which these flights are issued
+abbrev pub times : List (Text × Stance) → List ℕ
 times fs = filter_map (λ (e : Text × Stance). issued_cto e.1) fs
 
 any_behind : (test : ℕ → Bool) (o : Option ℕ) (xs ys : List ℕ) (b : Bool) → list_any test xs ≡ (list_any test ys || b) → list_any test (cons_option o xs) ≡ (list_any test (cons_option o ys) || b)

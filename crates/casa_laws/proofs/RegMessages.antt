@@ -1,9 +1,9 @@
 -- the messages of Tick and of the calls on regulations, from a good state, and those of every call
-use Rattle.std.proofs.Common.{◌≡◌, ℕ, ◌+◌, ◌-◌, List, [], ◌∷◌, length, Bool, true, false, not, ◌&&◌, refl, sym, ap, subst, ◌∙◌, Option, None, Some, is_some, unwrap_or, nat_lt, nat_le, ◌==◌, arith}
+use Rattle.std.proofs.Common.{◌≡◌, ℕ, ◌+◌, ◌-◌, List, [], ◌∷◌, length, Bool, true, false, not, ◌&&◌, refl, sym, ap, subst, ◌∙◌, Option, None, Some, is_some, unwrap_or, nat_lt, nat_le, arith}
 use Rattle.std.specs.Ordering.{is_eq}
 use Rattle.std.specs.Option.{option_map, option_and_then, option_map_or}
 use Rattle.std.specs.List.{All}
-use Rattle.std.proofs.lemmas.Bool.{both_ways, and_parts, and_from, eqb-true}
+use Rattle.std.proofs.lemmas.Bool.{both_ways, and_from, not-true}
 use Rattle.std.proofs.lemmas.Cmp.{nat_list_eq_equiv}
 use Rattle.std.proofs.lemmas.List.Elements.{All-nil}
 use Rattle.casa_grid.specs.declared.period.Period.{Period}
@@ -11,11 +11,12 @@ use Rattle.casa_grid.specs.Profile.{start_of, end_of}
 use Rattle.casa_grid.specs.Slots.{slots}
 use Rattle.casa_grid.specs.TimeOver.{cto}
 use Rattle.casa_flight.specs.declared.call.Call.{Call}
-use Rattle.casa_flight.specs.declared.call.Call.TheVariants.{File, Amend, Cancel, Revise, Exempt, OpenReg, CloseReg, Rates, Tick, Show, List as ListOf}
+use Rattle.casa_flight.specs.declared.call.Call.TheVariants.{File, Amend, Cancel, Revise, Exempt, OpenReg, CloseReg, Rates, Tick, Show, List as ListOf, Swap}
 use Rattle.casa_flight.specs.declared.call.Refusal.{Refusal}
 use Rattle.casa_flight.specs.declared.comp.Comp.{Comp}
 use Rattle.casa_flight.specs.declared.regulation.Measure.{Measure}
 use Rattle.casa_flight.specs.declared.reply.Message.{Message}
+use Rattle.casa_flight.specs.declared.reply.Message.TheVariants.{Sam, Srm, Slc}
 use Rattle.casa_flight.specs.declared.row.Row.{Row}
 use Rattle.casa_flight.specs.declared.row.Stance.{Stance}
 use Rattle.casa_flight.specs.declared.row.Stance.TheVariants.{Competing}
@@ -25,46 +26,21 @@ use Rattle.casa_flight.specs.FlightPlan.{etot}
 use Rattle.casa_flight.specs.State.{row_of, measure_of, regulation, subject, is_exempt, is_due, is_gone, is_governed_by}
 use Rattle.casa_flight.specs.Listing.{Listing, listing, list_of, place_of, cto_as, cto_of, ctot_of, delay_of}
 use Rattle.casa_flight.specs.Entry.{enter_all, is_to_issue, issued_in, issue_if, issue_due}
-use Rattle.casa_flight.specs.Steps.{refused, most_regulations, flights_over, may_compete, open_regulation, freed, closed, close_regulation, has_span, rates, rates_if, tick, step, after}
+use Rattle.casa_flight.specs.Steps.{refused, most_regulations, flights_over, may_compete, take_in, open_regulation, freed, closed, close_regulation, keeps_span, ends_later, extends, rates, rates_if, tick, step, after}
 use Rattle.casa_flight.specs.Replies.{message, is_issued, ctot_before, reply, reply_of}
 use Rattle.casa_flight.specs.Good.{AreInOrder, IsOutside, IsGood, IsFree, IsGoverned}
 use Rattle.casa_flight.specs.Messages.{messages_in, Passes, CanCome, is_silent}
-use Rattle.casa_flight.proofs.Entries.{text_cmp, same_name, named, apart, at-put_same, at-put_other, at-without_other, at-map}
+use Rattle.casa_flight.proofs.Entries.{text_cmp, same_name, apart, at-put_same, at-put_other, at-without_other, at-map}
 use Rattle.casa_laws.proofs.Kept.{at-without_same}
 use Rattle.casa_laws.proofs.Lists.{stance_is}
 use Rattle.casa_laws.proofs.Times.{delay_governed}
-use Rattle.casa_laws.proofs.GoodTick.{competing}
+use Rattle.casa_laws.proofs.Choice.{subject-later}
+use Rattle.casa_laws.proofs.GoodTick.{competing, KeepsSpan, span_kept}
 use Rattle.casa_laws.proofs.GoodRegs.{next-good}
-use Rattle.casa_laws.proofs.ChangeMessages.{message_cases, each_message, governed_by, free_of, StaysOpen, message_none}
+use Rattle.casa_laws.proofs.ChangeMessages.{message_cases, each_message, governed_name, governed_by, free_of, TakesTimes, StaysOpen, stays, message_none}
 use Rattle.casa_laws.proofs.EnterAll.{row-enter_all, plan-enter_all, clock-enter_all, regs-enter_all, not_taken}
+use Rattle.casa_laws.proofs.SwapMessages.{swap_comes}
 use Rattle.casa_laws.proofs.CallMessages.{Comes, no_message, not_outside, not_due, was_due, file_comes, amend_comes, cancel_comes, exempt_comes, revise_comes, show_comes, list_comes}
-
--- only regulations of one span take new rates, so each stays open as it was
-rates_stay : (m : State) (id : Text) (measure : Measure) (profile : List Period) → measure_of m id ≡ Some measure → has_span profile measure.profile ≡ true → (by : Text) → StaysOpen m (record m { regs = put m.regs id (record measure { profile = profile }) }) by
-rates_stay m id measure profile found span by a opened =
-    let new : Measure = record measure { profile = profile } in
-    elim (is_eq (text_cmp by id)) as (λ t. is_eq (text_cmp by id) ≡ t → (b : Measure) × (at_name (put m.regs id new) by ≡ Some b) × (regulation by a ≡ regulation by b)) [
-      | true ↦ λ t.
-          let here : by ≡ id = same_name by id t in
-          let measures : Some a ≡ Some measure = sym opened ∙ ap (λ (q : Text). at_name m.regs q) here ∙ found in
-          let same : a ≡ measure = cc in
-          let parts = and_parts (start_of profile == start_of measure.profile) (end_of profile == end_of measure.profile) span in
-          let s : start_of profile ≡ start_of measure.profile = eqb-true _ _ parts.0 in
-          let e : end_of profile ≡ end_of measure.profile = eqb-true _ _ parts.1 in
-          let spans : regulation by measure ≡ regulation by new = λ i. record { id = by; loc = measure.loc; start = sym s i; end = sym e i } in
-          (new, subst (λ (q : Text). at_name (put m.regs id new) q ≡ Some new) (sym here) (at-put_same id new m.regs), ap (regulation by) same ∙ spans)
-      | false ↦ λ t. (a, at-put_other by id new m.regs t ∙ opened, refl)
-    ] refl
-
-rates_if_comes : (m : State) (id : Text) (measure : Measure) (profile : List Period) (b : Bool) → measure_of m id ≡ Some measure → has_span profile measure.profile ≡ b → IsGood m → Comes m (Rates id profile) (rates_if m id measure profile b)
-rates_if_comes m id measure profile false found span good = All-nil (CanCome m (Rates id profile))
-rates_if_comes m id measure profile true found span good =
-    no_message (CanCome m (Rates id profile)) m (record m { regs = put m.regs id (record measure { profile = profile }) }) good good.rows_in_order
-    (rates_stay m id measure profile found span) (λ key row there. there)
-
-rates_comes : (m : State) (id : Text) (profile : List Period) (o : Option Measure) → IsGood m → measure_of m id ≡ o → Comes m (Rates id profile) (rates m id profile o)
-rates_comes m id profile None good found = All-nil (CanCome m (Rates id profile))
-rates_comes m id profile (Some measure) good found = rates_if_comes m id measure profile (has_span profile measure.profile) found refl good
 
 -- a flight that is to be issued is governed, and not issued
 pub to_issue_parts : (g : Option Text) (i : Option ℕ) (d : Bool) → (is_some g && (not (is_some i) && d)) ≡ true → i ≡ None
@@ -102,8 +78,8 @@ ctot_stays m n key id row good same sorted found later governs waits =
 
 -- nothing is the message of a flight whose row stays
 stays_silent : (Q : Message → Type 0) (m n : State) (key : Text) (row : Row) (x : Message) → IsGood m → AreInOrder n.rows → ((id : Text) → row.governing ≡ Some id → StaysOpen m n id) → row_of m key ≡ Some row → row_of n key ≡ Some row → message m n key row ≡ Some x → Q x
-stays_silent Q m n key row x good sorted stays before found h =
-    let none : None ≡ Some x = sym (message_none m n key row good sorted stays before found) ∙ h in cc
+stays_silent Q m n key row x good sorted lasts before found h =
+    let none : None ≡ Some x = sym (message_none m n key row good sorted lasts before found) ∙ h in cc
 
 -- whose row passes a test, once it is known
 passes : (m : State) (key : Text) (row : Row) (test : Row → Bool) → row_of m key ≡ Some row → test row ≡ true → Passes m key test
@@ -116,7 +92,7 @@ governs_it id row governs = ap (λ (w : Option Text). option_map_or (same_text i
 tick_message : (m : State) (at : ℕ) (key : Text) (old : Row) (x : Message) (b : Bool) → let t : State = record m { clock = at } in let n : State = issue_due t in
     IsGood m → AreInOrder n.rows → is_to_issue at old ≡ b → row_of m key ≡ Some old → row_of n key ≡ Some (issue_if b t key old) → message m n key (issue_if b t key old) ≡ Some x → CanCome m (Tick at) x
 tick_message m at key old x false good sorted is before found h =
-    stays_silent (CanCome m (Tick at)) m (issue_due (record m { clock = at })) key old x good sorted (λ id governs a opened. (a, opened, refl)) before found h
+    stays_silent (CanCome m (Tick at)) m (issue_due (record m { clock = at })) key old x good sorted (λ id governs. stays m (issue_due (record m { clock = at })) id (λ a opened. opened)) before found h
 tick_message m at key old x true good sorted is before found h =
     let n : State = issue_due (record m { clock = at }) in
     let row : Row = issued_in m key old in
@@ -176,23 +152,21 @@ competes false false (Some id) h = cc
 competes false true g h = cc
 competes true b g h = cc
 
--- other regulations stay open beside an opened one
-open_stays : (m n : State) (id : Text) (measure : Measure) → measure_of m id ≡ None → n.regs ≡ put m.regs id measure → (by : Text) → StaysOpen m n by
-open_stays m n id measure absent regs by a opened =
-    elim (is_eq (text_cmp by id)) as (λ t. is_eq (text_cmp by id) ≡ t → (b : Measure) × (measure_of n by ≡ Some b) × (regulation by a ≡ regulation by b)) [
-      | true ↦ λ t. let none : None ≡ Some a = sym absent ∙ ap (λ (q : Text). at_name m.regs q) (sym (same_name by id t)) ∙ opened in absurd (let no : ⊥ = cc in no)
-      | false ↦ λ t. (a, ap (λ (es : List (Text × Measure)). at_name es by) regs ∙ at-put_other by id measure m.regs t ∙ opened, refl)
-    ] refl
+-- a regulation that opens or ends later takes flights in: neither the clock nor another regulation changes
+pub regs-take_in : (m : State) (id : Text) (measure : Measure) → (take_in m id measure).regs ≡ put m.regs id measure
+regs-take_in m id measure = regs-enter_all (record m { regs = put m.regs id measure }) (flights_over (may_compete m.clock) (regulation id measure) m.rows)
 
--- a flight that may not compete keeps its row when a regulation opens
-pub row-opened : (m : State) (id : Text) (measure : Measure) (key : Text) → IsGood m → option_map_or (may_compete m.clock) (row_of m key) false ≡ false
-    → row_of (enter_all (record m { regs = put m.regs id measure }) (flights_over (may_compete m.clock) (regulation id measure) m.rows)) key ≡ row_of m key
-row-opened m id measure key good t =
+pub clock-take_in : (m : State) (id : Text) (measure : Measure) → (take_in m id measure).clock ≡ m.clock
+clock-take_in m id measure = clock-enter_all (record m { regs = put m.regs id measure }) (flights_over (may_compete m.clock) (regulation id measure) m.rows)
+
+-- a flight that may not compete keeps its row
+pub row-take_in : (m : State) (id : Text) (measure : Measure) (key : Text) → IsGood m → option_map_or (may_compete m.clock) (row_of m key) false ≡ false → row_of (take_in m id measure) key ≡ row_of m key
+row-take_in m id measure key good t =
     row-enter_all (record m { regs = put m.regs id measure }) key (flights_over (may_compete m.clock) (regulation id measure) m.rows) (not_taken m key (may_compete m.clock) (regulation id measure) good t)
 
--- what governs a flight that was outside is the opened regulation
-pub opened_governs : (m n : State) (id : Text) (measure : Measure) (row old : Row) (reg : Text) → n.regs ≡ put m.regs id measure → IsOutside m.regs old.plan → row.plan ≡ old.plan → IsGoverned n.clock n.regs row reg → reg ≡ id
-opened_governs m n id measure row old reg regs out plans g =
+-- what governs a flight that was outside is that regulation
+pub take_in_governs : (m n : State) (id : Text) (measure : Measure) (row old : Row) (reg : Text) → n.regs ≡ put m.regs id measure → IsOutside m.regs old.plan → row.plan ≡ old.plan → IsGoverned n.clock n.regs row reg → reg ≡ id
+take_in_governs m n id measure row old reg regs out plans g =
     elim (is_eq (text_cmp reg id)) as (λ t. is_eq (text_cmp reg id) ≡ t → reg ≡ id) [
       | true ↦ λ t. same_name reg id t
       | false ↦ λ t.
@@ -200,48 +174,46 @@ opened_governs m n id measure row old reg regs out plans g =
           absurd (not_outside m.regs old.plan reg g.measure g.eto out there (ap (λ p. subject p (regulation reg g.measure)) (sym plans) ∙ g.is_subject))
     ] refl
 
-open_message : (m : State) (id loc : Text) (profile : List Period) (key : Text) (row : Row) (x : Message) → let measure : Measure = record { loc = loc; profile = profile } in
-    let s : State = record m { regs = put m.regs id measure } in let cs : List Comp = flights_over (may_compete m.clock) (regulation id measure) m.rows in let n : State = enter_all s cs in
-    measure_of m id ≡ None → IsGood m → IsGood n → row_of n key ≡ Some row → message m n key row ≡ Some x → CanCome m (OpenReg id loc profile) x
-open_message m id loc profile key row x absent good later found h = by (option_map_or test (row_of m key) false) refl
+-- the message of a flight: one that is taken in may be issued at once
+take_in_message : (Q : Message → Type 0) (m : State) (id : Text) (measure : Measure) (key : Text) (row : Row) (x : Message) → let n : State = take_in m id measure in
+    IsGood m → IsGood n → ((by : Text) → StaysOpen m n by)
+    → ((ctot : ℕ) (reg : Text) → reg ≡ id → Passes m key (λ r. may_compete m.clock r && is_due m.clock r.plan) → Q (Sam key ctot reg))
+    → row_of n key ≡ Some row → message m n key row ≡ Some x → Q x
+take_in_message Q m id measure key row x good later lasts sam found h = by (option_map_or test (row_of m key) false) refl
   where
-    measure : Measure
-    measure = record { loc = loc; profile = profile }
-
-    s : State
-    s = record m { regs = put m.regs id measure }
-
     test : Row → Bool
     test = may_compete m.clock
 
-    cs : List Comp
-    cs = flights_over test (regulation id measure) m.rows
-
     n : State
-    n = enter_all s cs
-
-    Q : Message → Type 0
-    Q = CanCome m (OpenReg id loc profile)
+    n = take_in m id measure
 
     by : (b : Bool) → option_map_or test (row_of m key) false ≡ b → Q x
     by false t =
-        stays_silent Q m n key row x good later.rows_in_order (λ by _. open_stays m n id measure absent (regs-enter_all s cs) by)
-        (sym (row-opened m id measure key good t) ∙ found) found h
+        stays_silent Q m n key row x good later.rows_in_order (λ by _. lasts by)
+        (sym (row-take_in m id measure key good t) ∙ found) found h
     by true t =
         let old = passing_row m key test t in
         let parts = competes (is_exempt old.0) (is_gone m.clock old.0.plan) old.0.governing old.2 in
         let free : IsFree m.clock m.regs old.0 = free_of m key old.0 good old.1 parts.2 in
-        let plans : row.plan ≡ old.0.plan = was_there s cs key row old.0 found old.1 in
+        let plans : row.plan ≡ old.0.plan = was_there (record m { regs = put m.regs id measure }) (flights_over test (regulation id measure) m.rows) key row old.0 found old.1 in
         let not_issued : is_issued (row_of m key) ≡ false = ap is_issued old.1 ∙ ap is_some free.not_issued in
         message_cases Q key row.governing (is_issued (row_of m key)) (is_some row.issued) (ctot_before m key) (ctot_of n key row)
         (λ reg governs was now.
         let g : IsGoverned n.clock n.regs row reg = governed_by n key row reg later found governs in
-        let due : is_due m.clock old.0.plan ≡ true = (λ i. is_due (sym (clock-enter_all s cs) i) (sym plans i)) ∙ was_due n.clock n.regs row reg g now in (
-          opened_governs m n id measure row old.0 reg (regs-enter_all s cs) (free.left parts.0 parts.1) plans g,
-          passes m key old.0 (λ r. may_compete m.clock r && is_due m.clock r.plan) old.1 (and_from _ _ old.2 due),
-        ))
-        (λ reg governs was now other. both_ways _ not_issued was)
-        (λ was now. both_ways _ not_issued was) x h
+        let due : is_due m.clock old.0.plan ≡ true = (λ i. is_due (sym (clock-take_in m id measure) i) (sym plans i)) ∙ was_due n.clock n.regs row reg g now in
+        sam (ctot_of n key row) reg (take_in_governs m n id measure row old.0 reg (regs-take_in m id measure) (free.left parts.0 parts.1) plans g)
+        (passes m key old.0 (λ r. may_compete m.clock r && is_due m.clock r.plan) old.1 (and_from _ _ old.2 due)))
+        (λ reg governs was now other. absurd (both_ways _ not_issued was))
+        (λ was now. absurd (both_ways _ not_issued was)) x h
+
+-- other regulations stay open beside an opened one
+pub open_stays : (m : State) (id : Text) (measure : Measure) → measure_of m id ≡ None → (by : Text) → StaysOpen m (take_in m id measure) by
+open_stays m id measure absent by a opened =
+    let n : State = take_in m id measure in
+    elim (is_eq (text_cmp by id)) as (λ t. is_eq (text_cmp by id) ≡ t → (b : Measure) × (measure_of n by ≡ Some b) × TakesTimes (regulation by a) (regulation by b)) [
+      | true ↦ λ t. let none : None ≡ Some a = sym absent ∙ ap (λ (q : Text). at_name m.regs q) (sym (same_name by id t)) ∙ opened in absurd (let no : ⊥ = cc in no)
+      | false ↦ λ t. (a, ap (λ (es : List (Text × Measure)). at_name es by) (regs-take_in m id measure) ∙ at-put_other by id measure m.regs t ∙ opened, λ plan eto h. h)
+    ] refl
 
 open_comes : (m : State) (id loc : Text) (profile : List Period) (o : Option Measure) (full : Bool) → let measure : Measure = record { loc = loc; profile = profile } in
     measure_of m id ≡ o → IsGood m → IsGood (after m (open_regulation m id measure o full)) → Comes m (OpenReg id loc profile) (open_regulation m id measure o full)
@@ -249,9 +221,46 @@ open_comes m id loc profile (Some old) full found good later = All-nil (CanCome 
 open_comes m id loc profile None true found good later = All-nil (CanCome m (OpenReg id loc profile))
 open_comes m id loc profile None false found good later =
     let measure : Measure = record { loc = loc; profile = profile } in
-    each_message (CanCome m (OpenReg id loc profile)) m
-    (enter_all (record m { regs = put m.regs id measure }) (flights_over (may_compete m.clock) (regulation id measure) m.rows)) later.rows_in_order
-    (λ key row x there h. open_message m id loc profile key row x found good later there h)
+    each_message (CanCome m (OpenReg id loc profile)) m (take_in m id measure) later.rows_in_order
+    (λ key row x there h. take_in_message (CanCome m (OpenReg id loc profile)) m id measure key row x good later
+    (open_stays m id measure found) (λ ctot reg is passing. (is, passing)) there h)
+
+-- with new rates each regulation stays open
+pub rates_stay : (m n : State) (id : Text) (measure : Measure) (profile : List Period) → measure_of m id ≡ Some measure → KeepsSpan profile measure.profile → n.regs ≡ put m.regs id (record measure { profile = profile }) → (by : Text) → StaysOpen m n by
+rates_stay m n id measure profile found k regs by a opened =
+    let new : Measure = record measure { profile = profile } in
+    elim (is_eq (text_cmp by id)) as (λ t. is_eq (text_cmp by id) ≡ t → (b : Measure) × (measure_of n by ≡ Some b) × TakesTimes (regulation by a) (regulation by b)) [
+      | true ↦ λ t.
+          let here : by ≡ id = same_name by id t in
+          let measures : Some a ≡ Some measure = sym opened ∙ ap (λ (q : Text). at_name m.regs q) here ∙ found in
+          let same : a ≡ measure = cc in (
+            new,
+            ap (λ (es : List (Text × Measure)). at_name es by) regs ∙ subst (λ (q : Text). at_name (put m.regs id new) q ≡ Some new) (sym here) (at-put_same id new m.regs),
+            λ plan eto h. subst (λ s. subject plan (record { id = by; loc = measure.loc; start = s; end = end_of profile }) ≡ Some eto) (sym k.start)
+                (subject-later plan by measure.loc (start_of measure.profile) (end_of measure.profile) (end_of profile) eto k.end (subst (λ (y : Measure). subject plan (regulation by y) ≡ Some eto) same h)),
+          )
+      | false ↦ λ t. (a, ap (λ (es : List (Text × Measure)). at_name es by) regs ∙ at-put_other by id new m.regs t ∙ opened, λ plan eto h. h)
+    ] refl
+
+rates_if_comes : (m : State) (id : Text) (measure : Measure) (profile : List Period) (b later : Bool) → let new : Measure = record measure { profile = profile } in
+    measure_of m id ≡ Some measure → keeps_span profile measure.profile ≡ b → ends_later profile measure.profile ≡ later → IsGood m → IsGood (after m (rates_if m id new b later)) → Comes m (Rates id profile) (rates_if m id new b later)
+rates_if_comes m id measure profile false later found span after good next = All-nil (CanCome m (Rates id profile))
+rates_if_comes m id measure profile true false found span after good next =
+    let n : State = record m { regs = put m.regs id (record measure { profile = profile }) } in
+    no_message (CanCome m (Rates id profile)) m n good good.rows_in_order
+    (rates_stay m n id measure profile found (span_kept profile measure.profile span) refl) (λ key row there. there)
+rates_if_comes m id measure profile true true found span after good next =
+    let new : Measure = record measure { profile = profile } in
+    let n : State = take_in m id new in
+    let extended : extends m id profile ≡ true = ap (λ (w : Option Measure). option_map_or (λ (y : Measure). ends_later profile y.profile) w false) found ∙ after in
+    each_message (CanCome m (Rates id profile)) m n next.rows_in_order
+    (λ key row x there h. take_in_message (CanCome m (Rates id profile)) m id new key row x good next
+    (rates_stay m n id measure profile found (span_kept profile measure.profile span) (regs-take_in m id new))
+    (λ ctot reg is passing. (is, extended, passing)) there h)
+
+rates_comes : (m : State) (id : Text) (profile : List Period) (o : Option Measure) → IsGood m → IsGood (after m (rates m id profile o)) → measure_of m id ≡ o → Comes m (Rates id profile) (rates m id profile o)
+rates_comes m id profile None good next found = All-nil (CanCome m (Rates id profile))
+rates_comes m id profile (Some measure) good next found = rates_if_comes m id measure profile (keeps_span profile measure.profile) (ends_later profile measure.profile) found refl refl good next
 
 -- what a closed regulation did not govern keeps its row, and its regulation
 freed_row : (id : Text) (w : Option Row) → option_map_or (is_governed_by id) w false ≡ false → option_map (λ (r : Row). freed (is_governed_by id r) r) w ≡ w
@@ -267,16 +276,11 @@ row-closed m id measure key good t =
 close_stays : (m n : State) (id : Text) (row : Row) → n.regs ≡ without m.regs id → is_governed_by id row ≡ false → (by : Text) → row.governing ≡ Some by → StaysOpen m n by
 close_stays m n id row regs not_its by governs a opened =
     let unlike : same_text id by ≡ false = ap (λ (w : Option Text). option_map_or (same_text id) w false) (sym governs) ∙ not_its in
-    (a, ap (λ (es : List (Text × Measure)). at_name es by) regs ∙ at-without_other by id m.regs (apart id by unlike) ∙ opened, refl)
+    (a, ap (λ (es : List (Text × Measure)). at_name es by) regs ∙ at-without_other by id m.regs (apart id by unlike) ∙ opened, λ plan eto h. h)
 
 pub freed_plan : (b : Bool) (row : Row) → (freed b row).plan ≡ row.plan
 freed_plan true row = refl
 freed_plan false row = refl
-
--- whom a regulation governs
-pub governed_name : (id : Text) (g : Option Text) → option_map_or (same_text id) g false ≡ true → g ≡ Some id
-governed_name id None h = cc
-governed_name id (Some by) h = ap (λ (q : Text). Some q) (sym (named id by h))
 
 close_message : (m : State) (id : Text) (measure : Measure) (key : Text) (row : Row) (x : Message) → let cs : List Comp = flights_over (is_governed_by id) (regulation id measure) m.rows in let n : State = enter_all (closed m id) cs in
     IsGood m → IsGood n → row_of n key ≡ Some row → message m n key row ≡ Some x → CanCome m (CloseReg id) x
@@ -343,19 +347,25 @@ call_kinds m (Revise key) good = revise_comes m key (row_of m key) good refl
 call_kinds m (Exempt key) good = exempt_comes m key (row_of m key) good
 call_kinds m (OpenReg id loc profile) good = open_comes m id loc profile (measure_of m id) (nat_le most_regulations (length m.regs)) refl good (next-good m (OpenReg id loc profile) good)
 call_kinds m (CloseReg id) good = close_comes m id (measure_of m id) good (next-good m (CloseReg id) good)
-call_kinds m (Rates id profile) good = rates_comes m id profile (measure_of m id) good refl
+call_kinds m (Rates id profile) good = rates_comes m id profile (measure_of m id) good (next-good m (Rates id profile) good) refl
 call_kinds m (Tick at) good = tick_comes m at (nat_lt at m.clock) good (next-good m (Tick at) good)
 call_kinds m (Show key) good = show_comes m key (row_of m key) good
 call_kinds m (ListOf id) good = list_comes m id (measure_of m id) good
+call_kinds m (Swap key other) good = swap_comes m key other good
 
 -- where nothing can come, nothing comes
 nothing : (P : Message → Type 0) → ((x : Message) → P x → ⊥) → (xs : List Message) → All P xs → xs ≡ []
 nothing P never [] h = refl
 nothing P never (x ∷ xs) h = absurd (never x (h 0 x (omega arith)))
 
-pub call_silent : (m : State) (call : Call) → IsGood m → is_silent call ≡ true → messages_in (reply m call) ≡ []
+rates_nothing : (m : State) (id : Text) (profile : List Period) → extends m id profile ≡ false → (x : Message) → CanCome m (Rates id profile) x → ⊥
+rates_nothing m id profile same (Sam key ctot reg) h = both_ways (extends m id profile) same h.1
+rates_nothing m id profile same (Srm key ctot reg) h = h
+rates_nothing m id profile same (Slc key) h = h
+
+pub call_silent : (m : State) (call : Call) → IsGood m → is_silent m call ≡ true → messages_in (reply m call) ≡ []
 call_silent m (Cancel key) good is = nothing (CanCome m (Cancel key)) (λ x h. h) (messages_in (reply m (Cancel key))) (call_kinds m (Cancel key) good)
-call_silent m (Rates id profile) good is = nothing (CanCome m (Rates id profile)) (λ x h. h) (messages_in (reply m (Rates id profile))) (call_kinds m (Rates id profile) good)
+call_silent m (Rates id profile) good is = nothing (CanCome m (Rates id profile)) (rates_nothing m id profile (not-true _ is)) (messages_in (reply m (Rates id profile))) (call_kinds m (Rates id profile) good)
 call_silent m (Show key) good is = nothing (CanCome m (Show key)) (λ x h. h) (messages_in (reply m (Show key))) (call_kinds m (Show key) good)
 call_silent m (ListOf id) good is = nothing (CanCome m (ListOf id)) (λ x h. h) (messages_in (reply m (ListOf id))) (call_kinds m (ListOf id) good)
 call_silent m call good is = cc

@@ -3,8 +3,8 @@ use Rattle.std.specs.Prelude.{◌≡◌, ℕ, ◌+◌, ◌/◌, ◌%◌, List, [
 use Rattle.std.specs.List.{range_with_len}
 use Rattle.casa_grid.specs.declared.period.Period.{Period}
 use Rattle.casa_flight.specs.declared.call.Call.{Call}
-use Rattle.casa_flight.specs.declared.call.Call.TheVariants.{File, Amend, Cancel, Revise, Exempt, OpenReg, CloseReg, Rates, Tick, Show, List as ListOf}
-use Rattle.casa_flight.specs.declared.call.Refusal.TheVariants.{Duplicate, NoFlight, Late, AlreadyExempt, DuplicateRegulation, NoRegulation, TooManyRegulations, SpanChanged, BackInTime}
+use Rattle.casa_flight.specs.declared.call.Call.TheVariants.{File, Amend, Cancel, Revise, Exempt, OpenReg, CloseReg, Rates, Tick, Show, List as ListOf, Swap}
+use Rattle.casa_flight.specs.declared.call.Refusal.TheVariants.{Duplicate, NoFlight, Late, AlreadyExempt, DuplicateRegulation, NoRegulation, TooManyRegulations, SpanChanged, BackInTime, NotIssued, OtherRegulation, TooEarly}
 use Rattle.casa_flight.specs.declared.plan.Crossing.{Crossing}
 use Rattle.casa_flight.specs.declared.plan.Sts.TheVariants.{Plain, Head}
 use Rattle.casa_flight.specs.declared.reply.Answer.TheVariants.{Done, Flight, List as ListAnswer}
@@ -256,6 +256,69 @@ rated_listed = refl
 rated_shorter : after rated (Rates r1 (period 36000 36900 15)) ≡ Refused SpanChanged
 rated_shorter = refl
 
+-- a later end takes in the flights that it reaches and that nothing governs: E is due and issued at once, D waits. The
+-- issued time of C, at the old end, blocks the slot that lies there now
+abbrev D : Text
+D = codes "D"
+
+abbrev E : Text
+E = codes "E"
+
+abbrev short : List Call
+short =
+    OpenReg r1 la (period 36000 36240 30) ∷
+    file A 30000 (over la 36010 ∷ []) ∷ file B 30000 (over la 36020 ∷ []) ∷ file C 10000 (over la 36030 ∷ []) ∷ []
+
+short_issued : after short (Tick 2800) ≡ Answered Done (Sam C 10810 r1 ∷ [])
+short_issued = refl
+
+abbrev beyond : List Call
+beyond = short ++ Tick 2800 ∷ file D 30000 (over la 36300 ∷ []) ∷ file E 10000 (over la 36400 ∷ []) ∷ []
+
+beyond_waits : after beyond (Show E) ≡ flight E 10000 0 false false None []
+beyond_waits = refl
+
+abbrev later : Call
+later = Rates r1 (period 36000 36600 30)
+
+ends_later : after beyond later ≡ Answered Done (Sam E 10680 r1 ∷ [])
+ends_later = refl
+
+later_listed : after (beyond ++ later ∷ []) (ListOf r1)
+    ≡ listed1 36600 5 (pre A 36010 36010 (Some 0) ∷ pre B 36020 36120 (Some 1) ∷ issued C 36030 36240 (Some 2) ∷ pre D 36300 36360 (Some 3) ∷ issued E 36400 36480 (Some 4) ∷ [])
+later_listed = refl
+
+-- then the old end is too early, and another start is none of it
+later_back : after (beyond ++ later ∷ []) (Rates r1 (period 36000 36240 30)) ≡ Refused SpanChanged
+later_back = refl
+
+later_elsewhere : after (beyond ++ later ∷ []) (Rates r1 (period 36060 36600 30)) ≡ Refused SpanChanged
+later_elsewhere = refl
+
+-- with the end that the regulation has nobody enters, and no message comes
+same_end : after beyond (Rates r1 (period 36000 36240 15)) ≡ Answered Done []
+same_end = refl
+
+same_end_waits : after (beyond ++ Rates r1 (period 36000 36240 15) ∷ []) (Show E) ≡ flight E 10000 0 false false None []
+same_end_waits = refl
+
+same_later_end : after (beyond ++ later ∷ []) (Rates r1 (period 36000 36600 15)) ≡ Answered Done []
+same_later_end = refl
+
+-- a flight that is governed elsewhere is forced where the later end reaches it, and keeps its regulation
+abbrev elsewhere : List Call
+elsewhere = beyond ++ open2 ∷ file Q 30000 (over lb 39600 ∷ []) ∷ file X 30000 (over la 36250 ∷ over lb 39600 ∷ []) ∷ []
+
+elsewhere_later : after elsewhere later ≡ Answered Done (Sam E 10680 r1 ∷ [])
+elsewhere_later = refl
+
+elsewhere_shown : after (elsewhere ++ later ∷ []) (Show X) ≡ flight X 30000 300 false false (Some r2) []
+elsewhere_shown = refl
+
+elsewhere_listed : after (elsewhere ++ later ∷ []) (ListOf r1)
+    ≡ listed1 36600 5 (pre A 36010 36010 (Some 0) ∷ pre B 36020 36120 (Some 1) ∷ issued C 36030 36240 (Some 2) ∷ pre D 36300 36360 (Some 3) ∷ issued E 36400 36480 (Some 4) ∷ forced X 36250 36550 ∷ [])
+elsewhere_listed = refl
+
 -- a revision takes an earlier slot that became free, and then holds no better one
 abbrev freed : List Call
 freed = open1 ∷ file A 10000 (over la 36005 ∷ []) ∷ file B 10000 (over la 36010 ∷ []) ∷ Tick 2800 ∷ Cancel A ∷ []
@@ -293,6 +356,86 @@ after_amended = refl
 exempted : after (amended ++ Amend (plan A 20000 (over la 36605 ∷ [])) ∷ file B 10000 (over la 36005 ∷ []) ∷ []) (Exempt B)
     ≡ flight B 10000 0 true false None (Slc B ∷ [])
 exempted = refl
+
+-- two issued flights exchange their times: P holds slot 0, A slot 1 and B slot 2
+abbrev F : Text
+F = codes "F"
+
+abbrev Z : Text
+Z = codes "Z"
+
+abbrev filed : List Call
+filed = open1 ∷ file P 10000 (over la 36001 ∷ []) ∷ file A 10000 (over la 36002 ∷ []) ∷ file B 10000 (over la 36003 ∷ []) ∷ []
+
+filed_issued : after filed (Tick 2800) ≡ Answered Done (Sam A 10718 r1 ∷ Sam B 10837 r1 ∷ Sam P 10600 r1 ∷ [])
+filed_issued = refl
+
+abbrev held : List Call
+held = filed ++ Tick 2800 ∷ []
+
+swapped : after held (Swap A B) ≡ Answered Done (Srm A 10838 r1 ∷ Srm B 10717 r1 ∷ [])
+swapped = refl
+
+swapped_other_way : after held (Swap B A) ≡ Answered Done (Srm A 10838 r1 ∷ Srm B 10717 r1 ∷ [])
+swapped_other_way = refl
+
+swapped_back : after (held ++ Swap A B ∷ []) (Swap A B) ≡ Answered Done (Srm A 10718 r1 ∷ Srm B 10837 r1 ∷ [])
+swapped_back = refl
+
+-- nobody else moves
+swapped_listed : after (held ++ file F 30000 (over la 36300 ∷ []) ∷ Swap A B ∷ []) (ListOf r1)
+    ≡ listed1 37200 10 (issued P 36001 36001 (Some 0) ∷ issued B 36003 36120 (Some 1) ∷ issued A 36002 36240 (Some 2) ∷ pre F 36300 36360 (Some 3) ∷ [])
+swapped_listed = refl
+
+-- each gets exactly the other's time, also within a slot: E that of Z, 36010, which is later than its own time over
+swapped_inside : after (open1 ∷ file Z 10000 (over la 36010 ∷ []) ∷ Tick 2800 ∷ file (codes "E") 9000 (over la 36001 ∷ []) ∷ []) (Swap (codes "E") Z)
+    ≡ Answered Done (Srm (codes "E") 9609 r1 ∷ Srm Z 10710 r1 ∷ [])
+swapped_inside = refl
+
+-- a flight with itself
+swapped_alone : after held (Swap A A) ≡ Answered Done []
+swapped_alone = refl
+
+swapped_alone_early : after (held ++ Tick 10719 ∷ []) (Swap A A) ≡ Refused TooEarly
+swapped_alone_early = refl
+
+-- whom it is refused to, in the order of the refusals: one that is not there, one that is not issued, one of another
+-- regulation, one that would pass before its time over or leave before the clock
+abbrev waiting : List Call
+waiting = held ++ file F 30000 (over la 36300 ∷ []) ∷ open2 ∷ file Q 10000 (over lb 39600 ∷ []) ∷ []
+
+swap_nobody : after waiting (Swap A Z) ≡ Refused NoFlight
+swap_nobody = refl
+
+swap_from_nobody : after waiting (Swap Z F) ≡ Refused NoFlight
+swap_from_nobody = refl
+
+swap_waiting : after waiting (Swap A F) ≡ Refused NotIssued
+swap_waiting = refl
+
+swap_waiting_elsewhere : after waiting (Swap F Q) ≡ Refused NotIssued
+swap_waiting_elsewhere = refl
+
+swap_waiting_alone : after waiting (Swap F F) ≡ Refused NotIssued
+swap_waiting_alone = refl
+
+swap_elsewhere : after waiting (Swap A Q) ≡ Refused OtherRegulation
+swap_elsewhere = refl
+
+swap_elsewhere_early : after (waiting ++ Tick 10839 ∷ []) (Swap A Q) ≡ Refused OtherRegulation
+swap_elsewhere_early = refl
+
+swap_before_eto : after waiting (Swap P A) ≡ Refused TooEarly
+swap_before_eto = refl
+
+swap_before_eto_of_other : after waiting (Swap A P) ≡ Refused TooEarly
+swap_before_eto_of_other = refl
+
+swap_at_the_clock : after (waiting ++ Swap A B ∷ Tick 10718 ∷ []) (Swap A B) ≡ Answered Done (Srm A 10718 r1 ∷ Srm B 10837 r1 ∷ [])
+swap_at_the_clock = refl
+
+swap_before_the_clock : after (waiting ++ Swap A B ∷ Tick 10719 ∷ []) (Swap A B) ≡ Refused TooEarly
+swap_before_the_clock = refl
 
 -- refusals in their order
 abbrev L : Text

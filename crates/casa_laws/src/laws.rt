@@ -42,7 +42,7 @@ ghost use Rattle.casa_flight.specs.Listing.{ctot_of};
 ghost use Rattle.casa_grid.specs.declared.period.Period.{Period};
 ghost use Rattle.casa_flight.specs.declared.plan.Crossing.{Crossing};
 ghost use Rattle.casa_flight.specs.declared.call.Call.{Call};
-ghost use Rattle.casa_flight.specs.declared.call.Call.TheVariants.{OpenReg, Tick};
+ghost use Rattle.casa_flight.specs.declared.call.Call.TheVariants.{OpenReg, Rates, Tick, Swap};
 ghost use Rattle.casa_flight.specs.declared.call.Refusal.{Refusal};
 ghost use Rattle.casa_flight.specs.declared.reply.Message.{Message};
 
@@ -192,6 +192,17 @@ pub fn issue_moves_nobody()
         filter (λ (a : Assigned). not (same_text key a.comp.key)) (places l) }
 {}
 
+/// Two issued flights that exchange their times move nobody, wherever these times lie: in a list whose flights are in
+/// order, the places are those of before. So an exchange on a good state moves nobody in any list.
+pub fn exchange_moves_nobody()
+    ensures places { (l : Listing) (key other : Text) (eto cto its_eto its_cto : ℕ) → AreInOrder l.flights →
+        stance_of l key ≡ Some (Issued eto cto) → stance_of l other ≡ Some (Issued its_eto its_cto) →
+        places (record l { flights = put (put l.flights key (Issued eto its_cto)) other (Issued its_eto cto) }) ≡
+        places l }
+    ensures lists { (m : State) (key other id : Text) → IsGood m →
+        option_map places (list_of (next m (Swap key other)) id) ≡ option_map places (list_of m id) }
+{}
+
 /// The empty state is good, and every call leads from a good state to a good one.
 pub fn good_states_are_kept()
     ensures opening { IsGood empty }
@@ -212,19 +223,21 @@ pub fn messages_of_calls()
         IsStrictlySortedBy (slice_cmp nat_cmp) (map flight_of (messages_in (reply m call))) }
 {}
 
-/// No message comes of a refused call; nor, on a good state, of a cancellation, new rates, or a call that only looks.
+/// No message comes of a refused call; nor, on a good state, of a cancellation, of new rates that move no end later,
+/// or of a call that only looks.
 pub fn calls_without_messages()
     ensures refusals { (m : State) (call : Call) (r : Refusal) →
         step m call ≡ refused r → messages_in (reply m call) ≡ [] }
     ensures silent { (m : State) (call : Call) → IsGood m →
-        is_silent call ≡ true → messages_in (reply m call) ≡ [] }
+        is_silent m call ≡ true → messages_in (reply m call) ≡ [] }
 {}
 
-/// An issued time is not moved for another flight. A call on a good state that is neither a flight's own revision,
-/// amendment, exemption or cancellation nor the close of the regulation that governs it leaves the flight as it is (plan,
-/// mark, governing regulation and issued time) where it is issued, and as it is but for its issue where it is governed. If
-/// the call also opens no regulation and does not move the clock, it leaves the flight as it is, governed or not. A
-/// refused call changes nothing at all.
+/// An issued time is not moved for another flight, but where the two are told to exchange their times. A call on a
+/// good state that is neither a flight's own revision, amendment, exemption or cancellation nor its exchange with
+/// another flight nor the close of the regulation that governs it leaves the flight as it is (plan, mark, governing
+/// regulation and issued time) where it is issued, and as it is but for its issue where it is governed. If the call
+/// also opens no regulation, moves no end later and does not move the clock, it leaves the flight as it is, governed
+/// or not. A refused call changes nothing at all.
 pub fn issued_times_stay()
     ensures issued { (m : State) (call : Call) (key : Text) (row : Row) → IsGood m →
         row_of m key ≡ Some row → may_free call key row ≡ false → is_some row.issued ≡ true →
@@ -233,18 +246,23 @@ pub fn issued_times_stay()
         row_of m key ≡ Some row → may_free call key row ≡ false → is_some row.governing ≡ true →
         (issued : Option ℕ) × (row_of (next m call) key ≡ Some (record row { issued = issued })) }
     ensures others { (m : State) (call : Call) (key : Text) (row : Row) → IsGood m →
-        row_of m key ≡ Some row → may_free call key row ≡ false → may_serve call ≡ false →
+        row_of m key ≡ Some row → may_free call key row ≡ false → may_serve m call ≡ false →
         row_of (next m call) key ≡ Some row }
     ensures refusals { (m : State) (call : Call) (r : Refusal) → step m call ≡ refused r → next m call ≡ m }
 {}
 
-/// What an opened regulation and the clock give on a good state, they give to flights that had none: the regulation
-/// governs only flights that nothing governed, and issues those of them that are due; the clock issues only flights that
-/// were governed and not issued, at the calculated time over that they have. Each other flight stays as it is.
+/// What a regulation that opens or ends later and the clock give on a good state, they give to flights that had none:
+/// the regulation governs only flights that nothing governed, and issues those of them that are due; the clock issues
+/// only flights that were governed and not issued, at the calculated time over that they have. Each other flight
+/// stays as it is.
 pub fn only_waiting_flights_are_served()
     ensures opened { (m : State) (id loc key : Text) (profile : List Period) (row : Row) → IsGood m →
         row_of m key ≡ Some row →
         (new : Row) × (row_of (next m (OpenReg id loc profile)) key ≡ Some new) ×
+        ((new ≡ row) ⊎ IsTakenIn m.clock id row new) }
+    ensures extended { (m : State) (id key : Text) (profile : List Period) (row : Row) → IsGood m →
+        row_of m key ≡ Some row →
+        (new : Row) × (row_of (next m (Rates id profile)) key ≡ Some new) ×
         ((new ≡ row) ⊎ IsTakenIn m.clock id row new) }
     ensures ticked { (m : State) (at : ℕ) (key : Text) (row : Row) → IsGood m →
         row_of m key ≡ Some row →

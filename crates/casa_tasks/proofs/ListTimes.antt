@@ -27,7 +27,7 @@ use Rattle.casa_tasks.specs.Listed.{list_in}
 use Rattle.casa_flight.proofs.Entries.{all-filter_map}
 use Rattle.casa_laws.proofs.Choice.{cto-between, eto-before_end}
 use Rattle.casa_flight.proofs.PutBy.{all-fold}
-use Rattle.casa_laws.proofs.RegMessages.{governed_name}
+use Rattle.casa_laws.proofs.ChangeMessages.{governed_name}
 
 abbrev pub IsNotEarly : ListRow → Type 0
 IsNotEarly row = row.eto ≤ row.cto
