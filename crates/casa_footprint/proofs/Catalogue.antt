@@ -11,19 +11,17 @@ use Rattle.casa_flight.specs.FlightPlan.{FlightPlan}
 use Rattle.casa_flight.specs.State.{row_of, measure_of, regulation, catalogue, subject}
 use Rattle.casa_flight.specs.Listing.{listing, list_of}
 use Rattle.casa_flight.proofs.Entries.{text_cmp, same_name}
+use Rattle.casa_footprint.specs.Finding.{by_id}
 use Rattle.casa_footprint.specs.Footprint.{is_subject, is_list_of}
 
-found_in : List Regulation → Text → Option Regulation
-found_in [] id = None
-found_in (r ∷ rs) id = cond (is_eq (text_cmp id r.id)) (Some r) (found_in rs id)
-
-found_in-catalogue : (regs : List (Text × Measure)) (id : Text) → found_in (map (λ (e : Text × Measure). regulation e.0 e.1) regs) id ≡ option_map (regulation id) (at_name regs id)
-unfolding found_in
-found_in-catalogue [] id = refl
-found_in-catalogue (e ∷ regs) id =
-    elim (is_eq (text_cmp id e.0)) as (λ b. is_eq (text_cmp id e.0) ≡ b → cond b (Some (regulation e.0 e.1)) (found_in (map (λ (e : Text × Measure). regulation e.0 e.1) regs) id) ≡ option_map (regulation id) (cond b (Some e.1) (at_name regs id))) [
+-- what the catalogue has under an identifier is the regulation of the measure that is open there
+pub at-catalogue : (regs : List (Text × Measure)) (id : Text) → at_name (by_id (map (λ (e : Text × Measure). regulation e.0 e.1) regs)) id ≡ option_map (regulation id) (at_name regs id)
+at-catalogue [] id = refl
+at-catalogue (e ∷ regs) id =
+    let others : Option Regulation = at_name (by_id (map (λ (e : Text × Measure). regulation e.0 e.1) regs)) id in
+    elim (is_eq (text_cmp id e.0)) as (λ b. is_eq (text_cmp id e.0) ≡ b → cond b (Some (regulation e.0 e.1)) others ≡ option_map (regulation id) (cond b (Some e.1) (at_name regs id))) [
       | true ↦ λ t. ap (λ (q : Text). Some (regulation q e.1)) (sym (same_name id e.0 t))
-      | false ↦ λ t. found_in-catalogue regs id
+      | false ↦ λ t. at-catalogue regs id
     ] refl
 
 -- the regulation under an identifier, as the catalogue has it
@@ -31,7 +29,7 @@ abbrev pub regulation_of : State → Text → Option Regulation
 regulation_of m id = option_map (regulation id) (measure_of m id)
 
 pub regulation_same : (m n : State) (id : Text) → catalogue m ≡ catalogue n → regulation_of m id ≡ regulation_of n id
-regulation_same m n id c = sym (found_in-catalogue m.regs id) ∙ ap (λ rs. found_in rs id) c ∙ found_in-catalogue n.regs id
+regulation_same m n id c = sym (at-catalogue m.regs id) ∙ ap (λ rs. at_name (by_id rs) id) c ∙ at-catalogue n.regs id
 
 subject_by : (plan : FlightPlan) (id : Text) (w : Option Measure) → option_map_or (λ (r : Regulation). is_some (subject plan r)) (option_map (regulation id) w) false ≡ option_map_or (λ (y : Measure). is_some (subject plan (regulation id y))) w false
 subject_by plan id None = refl

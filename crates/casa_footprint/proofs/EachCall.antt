@@ -1,7 +1,6 @@
 -- the laws, call by call
-use Rattle.std.proofs.Common.{◌≡◌, ◌&&◌}
 use Rattle.casa_flight.specs.declared.call.Call.{Call}
-use Rattle.casa_flight.specs.declared.call.Call.TheVariants.{File, Amend, Cancel, Revise, Exempt, OpenReg, CloseReg, Rates, Tick, Show, List as ListOf}
+use Rattle.casa_flight.specs.declared.call.Call.TheVariants.{File, Amend, Cancel, Revise, Exempt, OpenReg, CloseReg, Rates, Tick, Show, List as ListOf, Swap}
 use Rattle.casa_footprint.proofs.Forms.{DecidesReads, Spares}
 use Rattle.casa_footprint.proofs.FileAmend.{file_reads, file_spares, amend_reads, amend_spares}
 use Rattle.casa_footprint.proofs.ExemptCancel.{exempt_reads, exempt_spares, cancel_reads, cancel_spares}
@@ -10,6 +9,7 @@ use Rattle.casa_footprint.proofs.ShowList.{show_reads, show_spares, list_reads, 
 use Rattle.casa_footprint.proofs.Rates.{rates_reads, rates_spares}
 use Rattle.casa_footprint.proofs.Whole.{tick_reads, tick_spares, open_reads, close_reads}
 use Rattle.casa_footprint.proofs.OpenClose.{open_spares, close_spares}
+use Rattle.casa_footprint.proofs.Swap.{swap_reads, swap_spares}
 
 pub reads_same : (call : Call) → DecidesReads call
 reads_same (File plan) = file_reads plan
@@ -23,6 +23,7 @@ reads_same (Rates id profile) = rates_reads id profile
 reads_same (Tick at) = tick_reads at
 reads_same (Show key) = show_reads key
 reads_same (ListOf id) = list_reads id
+reads_same (Swap key other) = swap_reads key other
 
 pub spares : (call : Call) → Spares call
 spares (File plan) = file_spares plan
@@ -36,3 +37,4 @@ spares (Rates id profile) = rates_spares id profile
 spares (Tick at) = tick_spares at
 spares (Show key) = show_spares key
 spares (ListOf id) = list_spares id
+spares (Swap key other) = swap_spares key other

@@ -1,5 +1,5 @@
 -- File and Amend
-use Rattle.std.proofs.Common.{◌≡◌, Bool, true, false, refl, sym, ap, subst, ◌∙◌, Option, None, Some, ◌&&◌, ◌||◌, nat_lt}
+use Rattle.std.proofs.Common.{◌≡◌, Bool, true, false, refl, sym, ap, subst, Option, None, Some, ◌&&◌, ◌||◌, nat_lt}
 use Rattle.std.specs.Option.{option_map_or}
 use Rattle.std.proofs.lemmas.Bool.{or_parts}
 use Rattle.casa_flight.specs.declared.call.Call.TheVariants.{File, Amend}

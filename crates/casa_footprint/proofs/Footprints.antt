@@ -2,7 +2,7 @@
 use Rattle.std.specs.Prelude.{◌≡◌, ℕ, List, [], ◌∷◌, ◌++◌, map, Bool, true, false, not, ◌||◌, ◌==◌, refl, codes}
 use Rattle.std.specs.List.{list_all}
 use Rattle.casa_flight.specs.declared.call.Call.{Call}
-use Rattle.casa_flight.specs.declared.call.Call.TheVariants.{File, Cancel, OpenReg, Tick, Show, List as ListOf}
+use Rattle.casa_flight.specs.declared.call.Call.TheVariants.{File, Cancel, OpenReg, Rates, Tick, Show, List as ListOf, Swap}
 use Rattle.casa_flight.specs.declared.plan.Crossing.{Crossing}
 use Rattle.casa_flight.specs.declared.plan.Sts.TheVariants.{Plain}
 use Rattle.casa_flight.specs.declared.reply.Reply.{Reply}
@@ -70,6 +70,55 @@ refused_writes = refl
 tick_writes : map (writes (state_after busy) (Tick 22800)) items ≡ true ∷ false ∷ true ∷ true ∷ false ∷ true ∷ true ∷ true ∷ false ∷ []
 tick_writes = refl
 
+-- B and C have places in R2, C before B; with A and D they are issued
+abbrev due : List (Entry Call Reply)
+due = busy ++ entries (state_after busy) (File (plan (codes "C") (over lb 36602 ∷ [])) ∷ Tick 22800 ∷ [])
+
+swap_reads : map (reads (state_after due) (Swap (codes "C") (codes "B"))) items ≡ true ∷ false ∷ false ∷ true ∷ true ∷ false ∷ false ∷ true ∷ false ∷ []
+swap_reads = refl
+
+swap_writes : map (writes (state_after due) (Swap (codes "C") (codes "B"))) items ≡ false ∷ false ∷ false ∷ true ∷ true ∷ false ∷ false ∷ true ∷ false ∷ []
+swap_writes = refl
+
+-- R1 governs A
+apart_reads : map (reads (state_after due) (Swap (codes "A") (codes "B"))) items ≡ true ∷ false ∷ true ∷ true ∷ false ∷ false ∷ true ∷ true ∷ false ∷ []
+apart_reads = refl
+
+apart_writes : map (writes (state_after due) (Swap (codes "A") (codes "B"))) items ≡ false ∷ false ∷ false ∷ false ∷ false ∷ false ∷ false ∷ false ∷ false ∷ []
+apart_writes = refl
+
+-- C crosses LA after the end of R1
+abbrev beyond : List (Entry Call Reply)
+beyond = busy ++ entries (state_after busy) (File (plan (codes "C") (over la 37300 ∷ [])) ∷ [])
+
+-- twice the rate for R1
+abbrev rates : ℕ → ℕ → Call
+rates from until = Rates r1 (record { begin = from; until = until; rate = 60 } ∷ [])
+
+same_end_reads : map (reads (state_after beyond) (rates 36000 37200)) items ≡ false ∷ true ∷ false ∷ false ∷ false ∷ false ∷ true ∷ false ∷ false ∷ []
+same_end_reads = refl
+
+same_end_writes : map (writes (state_after beyond) (rates 36000 37200)) items ≡ false ∷ false ∷ false ∷ false ∷ false ∷ false ∷ true ∷ false ∷ false ∷ []
+same_end_writes = refl
+
+-- with a later end C enters
+later_end_reads : map (reads (state_after beyond) (rates 36000 38400)) items ≡ true ∷ true ∷ true ∷ true ∷ true ∷ true ∷ true ∷ true ∷ true ∷ []
+later_end_reads = refl
+
+later_end_writes : map (writes (state_after beyond) (rates 36000 38400)) items ≡ false ∷ true ∷ false ∷ false ∷ true ∷ false ∷ true ∷ false ∷ false ∷ []
+later_end_writes = refl
+
+-- and none where C's time over is the new end
+at_the_end_writes : map (writes (state_after beyond) (rates 36000 37300)) items ≡ false ∷ true ∷ false ∷ false ∷ false ∷ false ∷ true ∷ false ∷ false ∷ []
+at_the_end_writes = refl
+
+-- an earlier end, and another start, are refused
+earlier_end_writes : map (writes (state_after beyond) (rates 36000 37140)) items ≡ false ∷ false ∷ false ∷ false ∷ false ∷ false ∷ false ∷ false ∷ false ∷ []
+earlier_end_writes = refl
+
+other_start_writes : map (writes (state_after beyond) (rates 36060 38400)) items ≡ false ∷ false ∷ false ∷ false ∷ false ∷ false ∷ false ∷ false ∷ false ∷ []
+other_start_writes = refl
+
 stamps : map (stamp busy) items ≡ 0 ∷ 2 ∷ 3 ∷ 5 ∷ 0 ∷ 4 ∷ 5 ∷ 5 ∷ 0 ∷ []
 stamps = refl
 
@@ -101,3 +150,20 @@ elsewhere = refl
 
 at_the_same : is_unmoved_by busy (File (plan (codes "C") (over lb 36650 ∷ [])) ∷ []) (File (plan (codes "E") (over lb 36700 ∷ []))) ≡ false
 at_the_same = refl
+
+-- so it is with a swap: an equal Tick moves its view, and of the filings only one at its location
+swap_later : is_unmoved_by due (Tick 22800 ∷ []) (Swap (codes "C") (codes "B")) ≡ false
+swap_later = refl
+
+swap_elsewhere : is_unmoved_by due (File (plan (codes "E") (over la 36300 ∷ [])) ∷ []) (Swap (codes "C") (codes "B")) ≡ true
+swap_elsewhere = refl
+
+swap_there : is_unmoved_by due (File (plan (codes "E") (over lb 36700 ∷ [])) ∷ []) (Swap (codes "C") (codes "B")) ≡ false
+swap_there = refl
+
+-- a filing without crossings leaves a view for new rates with the same end unmoved, and one for a later end it does not
+same_end_aside : is_unmoved_by busy (plain ∷ []) (rates 36000 37200) ≡ true
+same_end_aside = refl
+
+later_end_moved : is_unmoved_by busy (plain ∷ []) (rates 36000 38400) ≡ false
+later_end_moved = refl

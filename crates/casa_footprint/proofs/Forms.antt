@@ -1,5 +1,5 @@
 -- what is proved of each call
-use Rattle.std.proofs.Common.{◌≡◌, false, ◌∙◌}
+use Rattle.std.proofs.Common.{◌≡◌, false}
 use Rattle.casa_flight.specs.declared.call.Call.{Call}
 use Rattle.casa_flight.specs.declared.state.State.{State}
 use Rattle.casa_flight.specs.Steps.{next}

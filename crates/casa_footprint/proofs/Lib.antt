@@ -8,10 +8,11 @@ pub mod FileAmend
 pub mod ExemptCancel
 pub mod Revise
 pub mod ShowList
-pub mod Rates
 pub mod Whole
 pub mod EnterAll
 pub mod OpenClose
+pub mod Rates
+pub mod Swap
 pub mod EachCall
 pub mod Stamps
 mod Footprints

@@ -9,7 +9,7 @@ use Rattle.casa_flight.specs.Text.{Text}
 use Rattle.casa_flight.specs.State.{row_of, measure_of, regulation, catalogue}
 use Rattle.casa_flight.specs.Replies.{messages}
 use Rattle.casa_flight.specs.Good.{AreInOrder, IsGood, IsGoverned}
-use Rattle.casa_laws.proofs.ChangeMessages.{governed_by, StaysOpen, messages_unchanged}
+use Rattle.casa_laws.proofs.ChangeMessages.{governed_by, StaysOpen, same_times, messages_unchanged}
 use Rattle.casa_footprint.specs.Footprint.{is_subject}
 use Rattle.casa_footprint.proofs.Catalogue.{regulation_same}
 use Rattle.casa_footprint.proofs.Entering.{IsOwn, subject_at}
@@ -29,7 +29,9 @@ other_measure id y None e = cc
 other_measure id y (Some z) e = (z, refl, ap (λ (w : Option Regulation). unwrap_or w (regulation id y)) e)
 
 pub stays_open : (m n : State) (id : Text) → catalogue m ≡ catalogue n → StaysOpen m n id
-stays_open m n id c a opened = other_measure id a (measure_of n id) (sym (ap (option_map (regulation id)) opened) ∙ regulation_same m n id c)
+stays_open m n id c a opened =
+    let o = other_measure id a (measure_of n id) (sym (ap (option_map (regulation id)) opened) ∙ regulation_same m n id c) in
+    (o.0, o.1, same_times (regulation id a) (regulation id o.0) o.2)
 
 -- where each row that is there afterwards was there before, no message comes
 pub messages_none : (m n : State) → IsGood m → AreInOrder n.rows → catalogue m ≡ catalogue n → ((key : Text) (row : Row) → row_of n key ≡ Some row → row_of m key ≡ Some row) → messages m n ≡ []

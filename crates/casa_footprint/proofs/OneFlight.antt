@@ -1,5 +1,5 @@
 -- a call that writes the row of one flight
-use Rattle.std.proofs.Common.{◌≡◌, ℕ, ◌+◌, false, refl, sym, ap, ◌∙◌, Option, None, Some, is_some}
+use Rattle.std.proofs.Common.{◌≡◌, ℕ, false, refl, sym, ap, ◌∙◌, Option, None, Some, is_some}
 use Rattle.std.specs.Option.{option_map, option_and_then, option_map_or}
 use Rattle.casa_flight.specs.declared.regulation.Measure.{Measure}
 use Rattle.casa_flight.specs.declared.row.Row.{Row}

@@ -7,7 +7,6 @@ use Rattle.std.specs.List.Sorted.{IsStrictlySortedBy}
 use Rattle.std.proofs.lemmas.Bool.{and_from, or_parts}
 use Rattle.casa_grid.specs.declared.period.Period.{Period}
 use Rattle.casa_flight.specs.declared.call.Call.TheVariants.{OpenReg, CloseReg}
-use Rattle.casa_flight.specs.declared.comp.Comp.{Comp}
 use Rattle.casa_flight.specs.declared.regulation.Regulation.{Regulation}
 use Rattle.casa_flight.specs.declared.regulation.Measure.{Measure}
 use Rattle.casa_flight.specs.declared.row.Row.{Row}
@@ -18,13 +17,13 @@ use Rattle.casa_flight.specs.FlightPlan.{FlightPlan}
 use Rattle.casa_flight.specs.State.{row_of, measure_of, regulation, subject, is_exempt, is_gone, is_governed_by, ungoverned}
 use Rattle.casa_flight.specs.Listing.{listing, list_of, stance, stance_in, kept}
 use Rattle.casa_flight.specs.Entry.{enter_all}
-use Rattle.casa_flight.specs.Steps.{most_regulations, flights_over, may_compete, open_regulation, freed, closed, close_regulation, after}
+use Rattle.casa_flight.specs.Steps.{most_regulations, flights_over, may_compete, take_in, open_regulation, freed, closed, close_regulation, after}
 use Rattle.casa_flight.specs.Good.{IsGood, IsGoodRow, IsFree, IsGoverned}
 use Rattle.casa_flight.proofs.Entries.{text_cmp, all_at, all-each, all-both, each_found, at-map, at-put_other, at-without_other, keys-map, sorted-put, sorted-remove, apart}
 use Rattle.casa_laws.proofs.EnterAll.{row-enter_all, clock-enter_all, all-flights_over, others}
-use Rattle.casa_laws.proofs.RegMessages.{competes, freed_plan}
+use Rattle.casa_laws.proofs.RegMessages.{clock-take_in, competes, freed_plan}
 use Rattle.casa_footprint.specs.Items.{ItemName, the_clock, the_catalogue, a_row, a_list, moment, row_or_none, list_or_none, contents}
-use Rattle.casa_footprint.specs.Footprint.{is_subject, is_list_of, governs, enters, would_write, is_accepted}
+use Rattle.casa_footprint.specs.Footprint.{is_subject, is_list_of, governs, enters, enters_at, would_write, is_accepted}
 use Rattle.casa_footprint.proofs.EnterAll.{IsOrdered, list-enter_all}
 use Rattle.casa_footprint.proofs.Forms.{Spares}
 
@@ -40,50 +39,42 @@ subject_to_none m key row id good found h =
     by out None e = refl
     by out (Some measure) e = ap is_some (all_at (λ (e : Text × Measure). subject row.plan (regulation e.0 e.1) ≡ None) id measure m.regs out e)
 
+-- what the entry of the flights leaves as it was, where a regulation opens or ends later
+pub row_taken : (m : State) (id : Text) (measure : Measure) (key : Text) → IsGood m → enters_at m (regulation id measure) key ≡ false → row_of (take_in m id measure) key ≡ row_of m key
+row_taken m id measure key good n =
+    let r : Regulation = regulation id measure in
+    row-enter_all (record m { regs = put m.regs id measure }) key (flights_over (may_compete m.clock) r m.rows)
+    (all-flights_over (λ k. same_text k key ≡ false) (may_compete m.clock) r m.rows
+    (all-each (λ (e : Text × Row). enters m r e.1 ≡ true → same_text e.0 key ≡ false) (λ (e : Text × Row). may_compete m.clock e.1 ≡ true → is_some (subject e.1.plan r) ≡ true → same_text e.0 key ≡ false)
+    (λ e f a b. f (and_from _ _ a b)) m.rows (others m key (enters m r) good n)))
+
+pub list_taken : (m : State) (id : Text) (measure : Measure) (other : Text) → IsGood m → same_text id other ≡ false → list_of (take_in m id measure) other ≡ list_of m other
+list_taken m id measure other good n =
+    let widened : State = record m { regs = put m.regs id measure } in
+    let r : Regulation = regulation id measure in
+    let measures : measure_of widened other ≡ measure_of m other = at-put_other other id measure m.regs (apart id other n) in
+    list-enter_all widened other (flights_over (may_compete m.clock) r m.rows) (good.rows_in_order, sorted-put id measure m.regs good.regs_in_order)
+    (all-flights_over (λ k. is_list_of widened k other ≡ false) (may_compete m.clock) r m.rows
+    (all-each (λ (e : Text × Row). row_of m e.0 ≡ Some e.1) (λ (e : Text × Row). may_compete m.clock e.1 ≡ true → is_some (subject e.1.plan r) ≡ true → is_list_of widened e.0 other ≡ false)
+    (λ e f a b. ap (λ (w : Option Row). option_map_or (λ (row : Row). is_subject widened row.plan other) w false) f
+    ∙ ap (λ (w : Option Measure). option_map_or (λ (y : Measure). is_some (subject e.1.plan (regulation other y))) w false) measures
+    ∙ subject_to_none m e.0 e.1 other good f a)
+    m.rows (each_found m.rows good.rows_in_order)))
+    ∙ ap (option_map (listing m.rows other)) measures
+
 pub open_spares : (id loc : Text) (profile : List Period) → Spares (OpenReg id loc profile)
 open_spares id loc profile m good i h = by (measure_of m id) (nat_le most_regulations (length m.regs)) i h
   where
     measure : Measure
     measure = record { loc = loc; profile = profile }
 
-    r : Regulation
-    r = regulation id measure
-
-    opened : State
-    opened = record m { regs = put m.regs id measure }
-
-    cs : List Comp
-    cs = flights_over (may_compete m.clock) r m.rows
-
-    ordered : IsOrdered opened
-    ordered = (good.rows_in_order, sorted-put id measure m.regs good.regs_in_order)
-
-    measures : (other : Text) → same_text id other ≡ false → measure_of opened other ≡ measure_of m other
-    measures other n = at-put_other other id measure m.regs (apart id other n)
-
-    row : (key : Text) → option_map_or (enters m r) (row_of m key) false ≡ false → row_of (enter_all opened cs) key ≡ row_of m key
-    row key n = row-enter_all opened key cs
-        (all-flights_over (λ k. same_text k key ≡ false) (may_compete m.clock) r m.rows
-        (all-each (λ (e : Text × Row). enters m r e.1 ≡ true → same_text e.0 key ≡ false) (λ (e : Text × Row). may_compete m.clock e.1 ≡ true → is_some (subject e.1.plan r) ≡ true → same_text e.0 key ≡ false)
-        (λ e f a b. f (and_from _ _ a b)) m.rows (others m key (enters m r) good n)))
-
-    list : (other : Text) → same_text id other ≡ false → list_of (enter_all opened cs) other ≡ list_of m other
-    list other n = list-enter_all opened other cs ordered
-        (all-flights_over (λ k. is_list_of opened k other ≡ false) (may_compete m.clock) r m.rows
-        (all-each (λ (e : Text × Row). row_of m e.0 ≡ Some e.1) (λ (e : Text × Row). may_compete m.clock e.1 ≡ true → is_some (subject e.1.plan r) ≡ true → is_list_of opened e.0 other ≡ false)
-        (λ e f a b. ap (λ (w : Option Row). option_map_or (λ (row : Row). is_subject opened row.plan other) w false) f
-        ∙ ap (λ (w : Option Measure). option_map_or (λ (y : Measure). is_some (subject e.1.plan (regulation other y))) w false) (measures other n)
-        ∙ subject_to_none m e.0 e.1 other good f a)
-        m.rows (each_found m.rows good.rows_in_order)))
-        ∙ ap (option_map (listing m.rows other)) (measures other n)
-
     by : (w : Option Measure) (full : Bool) (i : ItemName) → (is_accepted (open_regulation m id measure w full) && would_write m (OpenReg id loc profile) i) ≡ false → contents (after m (open_regulation m id measure w full)) i ≡ contents m i
     by (Some old) full i h = refl
     by None true i h = refl
-    by None false the_clock h = ap moment (clock-enter_all opened cs)
+    by None false the_clock h = ap moment (clock-take_in m id measure)
     by None false the_catalogue h = cc
-    by None false (a_row key) h = ap row_or_none (row key h)
-    by None false (a_list other) h = ap list_or_none (list other h)
+    by None false (a_row key) h = ap row_or_none (row_taken m id measure key good h)
+    by None false (a_list other) h = ap list_or_none (list_taken m id measure other good h)
 
 none_from_any : {X : Type 0} (p : X → Bool) (xs : List X) → list_any p xs ≡ false → AllByRecursion (λ x. p x ≡ false) xs
 none_from_any p [] h = tt

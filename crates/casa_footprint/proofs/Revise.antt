@@ -1,5 +1,5 @@
 -- Revise
-use Rattle.std.proofs.Common.{◌≡◌, Bool, true, false, refl, sym, ap, subst, ◌∙◌, Option, None, Some, ◌&&◌, ◌||◌}
+use Rattle.std.proofs.Common.{◌≡◌, Bool, true, false, refl, sym, ap, subst, ◌∙◌, Option, None, Some, ◌&&◌}
 use Rattle.std.specs.Option.{option_map_or}
 use Rattle.casa_flight.specs.declared.call.Call.TheVariants.{Revise}
 use Rattle.casa_flight.specs.declared.row.Row.{Row}

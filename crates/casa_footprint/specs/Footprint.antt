@@ -1,8 +1,9 @@
-use Rattle.std.specs.Prelude.{Bool, true, false, ◌&&◌, ◌||◌, is_some}
+use Rattle.std.specs.Prelude.{List, Bool, true, false, ◌&&◌, ◌||◌, is_some}
 use Rattle.std.specs.Option.{option_map_or}
 use Rattle.std.specs.List.{list_any}
+use Rattle.casa_grid.specs.declared.period.Period.{Period}
 use Rattle.casa_flight.specs.declared.call.Call.{Call}
-use Rattle.casa_flight.specs.declared.call.Call.TheVariants.{File, Amend, Cancel, Revise, Exempt, OpenReg, CloseReg, Rates, Tick, Show, List as ListOf}
+use Rattle.casa_flight.specs.declared.call.Call.TheVariants.{File, Amend, Cancel, Revise, Exempt, OpenReg, CloseReg, Rates, Tick, Show, List as ListOf, Swap}
 use Rattle.casa_flight.specs.declared.regulation.Regulation.{Regulation}
 use Rattle.casa_flight.specs.declared.regulation.Measure.{Measure}
 use Rattle.casa_flight.specs.declared.row.Row.{Row}
@@ -14,7 +15,7 @@ use Rattle.casa_flight.specs.FlightPlan.{FlightPlan}
 use Rattle.casa_flight.specs.State.{row_of, measure_of, regulation, subject, is_governed_by, ungoverned}
 use Rattle.casa_flight.specs.Listing.{Listing, list_of}
 use Rattle.casa_flight.specs.Entry.{situation, entered, is_to_issue}
-use Rattle.casa_flight.specs.Steps.{Step, refused, leads, is_revised, may_compete, step}
+use Rattle.casa_flight.specs.Steps.{Step, refused, leads, is_revised, may_compete, extends, step}
 use Rattle.casa_footprint.specs.Items.{ItemName, the_clock, the_catalogue, a_row, a_list}
 
 -- whether a plan is subject to the regulation that is open under an identifier
@@ -75,10 +76,11 @@ reads m (Revise key) _ = true
 reads m (OpenReg id loc profile) _ = true
 reads m (CloseReg id) _ = true
 reads m (Tick at) _ = true
--- Rates: the catalogue, the list
+-- Rates: the catalogue, the list; with a later end all items
+reads m (Rates id profile) the_clock = extends m id profile
 reads m (Rates id profile) the_catalogue = true
-reads m (Rates id profile) (a_list other) = same_text id other
-reads m (Rates id profile) _ = false
+reads m (Rates id profile) (a_row key) = extends m id profile
+reads m (Rates id profile) (a_list other) = same_text id other || extends m id profile
 -- Show: the row, its governing list if there is one
 reads m (Show key) (a_row other) = same_text key other
 reads m (Show key) (a_list id) = governs m id key
@@ -88,15 +90,29 @@ reads m (ListOf id) the_clock = false
 reads m (ListOf id) the_catalogue = true
 reads m (ListOf id) (a_row key) = is_forced_in m id key
 reads m (ListOf id) (a_list other) = same_text id other || governs_forced m id other
+-- Swap: the clock, both rows, the lists that govern these
+reads m (Swap key other) the_clock = true
+reads m (Swap key other) the_catalogue = false
+reads m (Swap key other) (a_row flight) = same_text key flight || same_text other flight
+reads m (Swap key other) (a_list id) = governs m id key || governs m id other
 
 -- whether Revise gives the flight what it would get: always before it is issued, then only if the new slot holds
 abbrev pub holds : State → Text → Bool
 holds m key =
     option_map_or (λ (row : Row). is_revised m key row (entered (situation m) key (ungoverned row))) (row_of m key) false
 
--- whether a flight enters as this regulation opens
+-- whether a flight enters as this regulation opens or gets a later end
 abbrev pub enters : State → Regulation → Row → Bool
 enters m r row = may_compete m.clock row && is_some (subject row.plan r)
+
+abbrev pub enters_at : State → Regulation → Text → Bool
+enters_at m r key = option_map_or (enters m r) (row_of m key) false
+
+-- whether a flight enters as the regulation under an identifier gets this profile
+abbrev pub enters_with : State → Text → List Period → Text → Bool
+enters_with m id profile key =
+    option_map_or (λ (measure : Measure). enters_at m (regulation id (record measure { profile = profile })) key)
+    (measure_of m id) false
 
 -- what a call writes if it is accepted
 abbrev pub would_write : State → Call → ItemName → Bool
@@ -123,7 +139,7 @@ would_write m (Revise key) _ = false
 would_write m (OpenReg id loc profile) the_clock = false
 would_write m (OpenReg id loc profile) the_catalogue = true
 would_write m (OpenReg id loc profile) (a_row key) =
-    option_map_or (enters m (regulation id (record { loc = loc; profile = profile }))) (row_of m key) false
+    enters_at m (regulation id (record { loc = loc; profile = profile })) key
 would_write m (OpenReg id loc profile) (a_list other) = same_text id other
 -- CloseReg: the catalogue, the list, the rows that it governed, each other list to which one of these is subject
 would_write m (CloseReg id) the_clock = false
@@ -131,9 +147,11 @@ would_write m (CloseReg id) the_catalogue = true
 would_write m (CloseReg id) (a_row key) = governs m id key
 would_write m (CloseReg id) (a_list other) =
     same_text id other || list_any (λ (e : Text × Row). is_governed_by id e.1 && is_subject m e.1.plan other) m.rows
--- Rates: the list
+-- Rates: the list; with a later end also the catalogue, the rows of the flights that enter
+would_write m (Rates id profile) the_clock = false
+would_write m (Rates id profile) the_catalogue = extends m id profile
+would_write m (Rates id profile) (a_row key) = extends m id profile && enters_with m id profile key
 would_write m (Rates id profile) (a_list other) = same_text id other
-would_write m (Rates id profile) _ = false
 -- Tick: the clock, also where it is equal, the rows of the flights that become issued, their governing lists
 would_write m (Tick at) the_clock = true
 would_write m (Tick at) the_catalogue = false
@@ -142,6 +160,10 @@ would_write m (Tick at) (a_list id) = list_any (λ (e : Text × Row). is_to_issu
 -- Show and List: nothing
 would_write m (Show key) _ = false
 would_write m (ListOf id) _ = false
+-- Swap: both rows and their list
+would_write m (Swap key other) (a_row flight) = same_text key flight || same_text other flight
+would_write m (Swap key other) (a_list id) = governs m id key
+would_write m (Swap key other) _ = false
 
 -- whether a call is not refused
 abbrev pub is_accepted : Step → Bool
