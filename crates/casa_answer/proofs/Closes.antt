@@ -40,7 +40,7 @@ use Rattle.casa_answer.proofs.Messages.{messages_are}
 use Rattle.casa_answer.proofs.Entries.{lists_among, AreThere, Entries, entries, entries_ordered, enters_among}
 use Rattle.casa_answer.proofs.Among.{among_over, any_flights}
 use Rattle.casa_answer.proofs.Freed.{list-closed, row-closed, governed_in_list}
-use Rattle.casa_answer.proofs.Opens.{values-by_id}
+use Rattle.casa_answer.proofs.TakingIn.{values-by_id}
 use Rattle.casa_answer.proofs.NewRates.{measure_none, measure_some}
 
 -- the catalogue without a regulation
@@ -96,7 +96,7 @@ closes m id measure l v good is opened listed =
     λ key other row none found by a there.
     let before_too : row_of m key ≡ Some row = sym (is.row key refl) ∙ sym (ap (λ o. unwrap_or o (v.row key)) none) ∙ shows.rows key ∙ found in
     let off : is_governed_by id row ≡ false = ap (λ (o : Option Row). option_map_or (is_governed_by id) o false) (sym before_too) ∙ sym (rows key) ∙ ap is_some none in
-    (a, ap (λ es. at_name es other) regs ∙ at-without_other other id m.regs (apart id other (ap (λ (g : Option Text). option_map_or (same_text id) g false) (sym by) ∙ off)) ∙ there, refl) in
+    (a, ap (λ es. at_name es other) regs ∙ at-without_other other id m.regs (apart id other (ap (λ (g : Option Text). option_map_or (same_text id) g false) (sym by) ∙ off)) ∙ there, λ plan eto h. h) in
     let written : AreInOrder w.rows = entries_ordered m.clock rs u begin cs tt in
     subst (λ (x : Written). IsAnswer m call (done v x)) (sym change_is)
     (acceptance m call n (Answered Done (messages_shown v w)) w stepped (sym (ap (Answered Done) (messages_are m n v w good then_good.rows_in_order written before shows stays)))

@@ -2,6 +2,7 @@
 use Rattle.std.proofs.Common.{◌≡◌, ℕ, List, [], ◌∷◌, Bool, true, false, refl, sym, ap, subst, ◌∙◌, ◌||◌, Option, None, Some, is_some, if◌then◌else◌, map}
 use Rattle.std.specs.Option.{option_map_or}
 use Rattle.std.specs.List.{AllByRecursion, list_any}
+use Rattle.std.proofs.Math.Bool.{or_assoc}
 use Rattle.casa_flight.specs.declared.comp.Comp.{Comp}
 use Rattle.casa_flight.specs.declared.regulation.Measure.{Measure}
 use Rattle.casa_flight.specs.declared.regulation.Regulation.{Regulation}
@@ -18,9 +19,8 @@ use Rattle.casa_footprint.specs.Footprint.{is_subject, is_list_of}
 use Rattle.casa_answer.specs.Sight.{Sight, Written, row_with}
 use Rattle.casa_answer.specs.Write.{stances}
 use Rattle.casa_answer.specs.Enter.{situation_with, with_entry, with_reentry, with_entries}
-use Rattle.casa_answer.proofs.Changes.{at-put_by}
 use Rattle.casa_answer.proofs.Board.{Shows, row_put}
-use Rattle.casa_answer.proofs.Naming.{some_put, or_none}
+use Rattle.casa_answer.proofs.Naming.{named_put, or_none}
 use Rattle.casa_answer.proofs.Stances.{once-stances, lists_named}
 use Rattle.casa_answer.proofs.Written.{stances_named}
 use Rattle.casa_answer.proofs.Entered.{reentry_is, reentry_shown, reentry_sorted, reentry_clock, reentry_regs}
@@ -85,10 +85,6 @@ entries_from clock rs v w s c cs at is shows ordered there rest = by (row_of s c
     next : Written
     next = with_reentry clock rs v w key (row_with v w key)
 
-    assoc : (a b c : Bool) → ((a || b) || c) ≡ (a || (b || c))
-    assoc true b c = refl
-    assoc false b c = refl
-
     twice : (b : Bool) → (b || b) ≡ b
     twice true = refl
     twice false = refl
@@ -112,9 +108,9 @@ entries_from clock rs v w s c cs at is shows ordered there rest = by (row_of s c
           clock_kept = rest.clock_kept ∙ ap (λ (x : Written). x.clock) same;
           catalogue_kept = rest.catalogue_kept ∙ ap (λ (x : Written). x.catalogue) same;
           rows = λ q. rest.rows q ∙ ap (λ (x : Written). is_some (at_name x.rows q) || enters_among q cs) same
-              ∙ ap (λ o. is_some o || enters_among q cs) (at-put_by q key (Some new) w.rows) ∙ some_put q key (Some new) (at_name w.rows q) (enters_among q cs);
+              ∙ ap (λ b. b || enters_among q cs) (named_put q key (Some new) w.rows) ∙ or_assoc (is_some (at_name w.rows q)) (same_text key q) (enters_among q cs);
           lists = λ q. rest.lists q ∙ (λ i. lists_now q i || (ap (λ (t : State). lists_among t q cs) here ∙ among_stay s key row q cs found) i)
-              ∙ assoc (is_some (at_name w.lists q)) (is_list_of s key q) (lists_among s q cs);
+              ∙ or_assoc (is_some (at_name w.lists q)) (is_list_of s key q) (lists_among s q cs);
         }
 
 pub entries : (clock : ℕ) (rs : List Regulation) (v : Sight) (w : Written) (s : State) (cs : List Comp) → s.clock ≡ clock → catalogue s ≡ rs

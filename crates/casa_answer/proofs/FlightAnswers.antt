@@ -20,8 +20,9 @@ use Rattle.casa_flight.specs.Good.{IsGood}
 use Rattle.casa_flight.proofs.Entries.{at-put_same}
 use Rattle.casa_laws.proofs.ChangeMessages.{messages_one}
 use Rattle.casa_footprint.specs.Items.{ItemName, the_clock, the_catalogue, a_row, a_list, contents}
-use Rattle.casa_footprint.specs.Footprint.{is_subject, would_write, is_accepted}
+use Rattle.casa_footprint.specs.Footprint.{is_subject, governs, would_write, is_accepted}
 use Rattle.casa_footprint.proofs.Messages.{own_row, messages_self}
+use Rattle.casa_footprint.proofs.ShowList.{governs_own}
 use Rattle.casa_footprint.specs.Change.{IsChange}
 use Rattle.casa_answer.specs.Sight.{Sight, Written, says, nothing_written, IsAnswer, regulations_in, situation_in}
 use Rattle.casa_answer.specs.OneFlight.{entry_offer, with_offer, offered_delay, flight_told, flight_written, ctot_shown_if, told}
@@ -73,11 +74,20 @@ written_answer v m call key row delay r is answers written delayed = (
 abbrev pub ShowsLists : Sight → State → Option Row → FlightPlan → Type 0
 ShowsLists v m was plan = (id : Text) → (is_over_in m was id || is_subject m plan id) ≡ true → v.list id ≡ list_of m id
 
--- the take-off time before the call
+-- the list that governs a flight is shown: it is one of the flight's
 governing_shown : (v : Sight) (m : State) (was : Option Row) (plan : FlightPlan) → ShowsLists v m was plan → (w : Option Text) → IfSome w (λ id. is_over_in m was id ≡ true) → option_and_then v.list w ≡ option_and_then (list_of m) w
 governing_shown v m was plan shown None h = refl
 governing_shown v m was plan shown (Some id) h = shown id (or_left _ _ h)
 
+-- it is where each list is shown that governs the flight
+pub governing_seen : (v : Sight) (m : State) (key : Text) (row : Row) → ((id : Text) → governs m id key ≡ true → v.list id ≡ list_of m id) → row_of m key ≡ Some row → option_and_then v.list row.governing ≡ governing_list m row
+governing_seen v m key row lists found = by row.governing refl
+  where
+    by : (w : Option Text) → row.governing ≡ w → option_and_then v.list w ≡ option_and_then (list_of m) w
+    by None e = refl
+    by (Some id) e = lists id (governs_own m key row id found e)
+
+-- the take-off time before the call
 before_is : (v : Sight) (m : State) (key : Text) (plan : FlightPlan) (was : Option Row) → IsGood m → row_of m key ≡ was → ShowsLists v m was plan → ctot_shown_if v key was ≡ ctot_before m key
 before_is v m key plan None good found shown = sym (ap (λ (w : Option Row). option_map_or (ctot_of m key) w 0) found)
 before_is v m key plan (Some old) good found shown =

@@ -13,8 +13,8 @@ use Rattle.casa_flight.specs.declared.row.Row.{Row}
 use Rattle.casa_flight.specs.declared.state.State.{State}
 use Rattle.casa_flight.specs.Text.{Text, same_text}
 use Rattle.casa_flight.specs.FlightPlan.{FlightPlan, etot}
-use Rattle.casa_flight.specs.State.{row_of, with_row, catalogue, is_exempt, is_gone, is_governed_by, ungoverned}
-use Rattle.casa_flight.specs.Listing.{Listing, list_of, governing_list, delay_in, delay_of, ctot_of}
+use Rattle.casa_flight.specs.State.{row_of, with_row, catalogue, is_exempt, is_gone, ungoverned}
+use Rattle.casa_flight.specs.Listing.{Listing, governing_list, delay_in, delay_of, ctot_of}
 use Rattle.casa_flight.specs.Entry.{Offer, situation, entered}
 use Rattle.casa_flight.specs.Steps.{Step, leads, step, new_row, file, amend, cancel, is_revised, state_if, revise, exempt, exempt_if, show}
 use Rattle.casa_flight.specs.Replies.{reply_of, messages}
@@ -34,7 +34,7 @@ use Rattle.casa_answer.specs.FlightCalls as planned
 use Rattle.casa_answer.proofs.FlightOffers.{offer_found, Finds, entry_same, entered_is, entered_delay}
 use Rattle.casa_answer.proofs.FlightLists.{Rewrites, has_written, change_is}
 use Rattle.casa_answer.proofs.Written.{set_row, is_over_in}
-use Rattle.casa_answer.proofs.FlightAnswers.{ShowsLists, refused_answer, row_answer, entering_answer, led_change, governing_there, unchanged_answer, plan_kept}
+use Rattle.casa_answer.proofs.FlightAnswers.{ShowsLists, refused_answer, row_answer, entering_answer, led_change, governing_seen, governing_there, unchanged_answer, plan_kept}
 
 clock_is : (v : Sight) (m : State) (call : Call) → IsSightOf m call v → reads m call the_clock ≡ true → clock_in v ≡ m.clock
 clock_is v m call of h = ap (λ (w : Option ℕ). unwrap_or w 0) (of.clock h)
@@ -189,11 +189,6 @@ show_planned v key m good of = by (v.row key) found
     found : row_of m key ≡ v.row key
     found = sym (of.row key (text_itself key))
 
-    governing : (row : Row) → row_of m key ≡ Some row → (w : Option Text) → row.governing ≡ w → option_and_then v.list w ≡ option_and_then (list_of m) w
-    governing row e None g = refl
-    governing row e (Some id) g =
-        of.list id (ap (λ (w : Option Row). option_map_or (is_governed_by id) w false) e ∙ ap (λ (w : Option Text). option_map_or (same_text id) w false) g ∙ text_itself id)
-
     spares : (i : ItemName) → would_write m (Show key) i ≡ false
     spares the_clock = refl
     spares the_catalogue = refl
@@ -202,7 +197,7 @@ show_planned v key m good of = by (v.row key) found
 
     by : (w : Option Row) → row_of m key ≡ w → IsAnswer m (Show key) (shown v key w)
     by None e = refused_answer m (Show key) NoFlight (ap (show m) e)
-    by (Some row) e = unchanged_answer v m (Show key) key row good e (governing row e row.governing refl) (ap (show m) e) refl spares
+    by (Some row) e = unchanged_answer v m (Show key) key row good e (governing_seen v m key row of.list e) (ap (show m) e) refl spares
 
 -- the test of Revise by the view is that in the state
 revised_same : (v : Sight) (m : State) (key : Text) (row : Row) → IsGood m → row_of m key ≡ Some row → clock_in v ≡ m.clock → Finds (situation_in v) row.plan m → option_and_then v.list row.governing ≡ governing_list m row

@@ -1,43 +1,29 @@
 -- due flights issued one by one, each at the time that it has before all of them
-use Rattle.std.proofs.Common.{◌≡◌, ℕ, List, [], ◌∷◌, map, Bool, true, false, cond, refl, sym, ap, subst, ◌∙◌, ◌||◌, Option, None, Some, is_some, if◌then◌else◌, unwrap_or}
+use Rattle.std.proofs.Common.{◌≡◌, ℕ, List, [], ◌∷◌, map, Bool, true, false, cond, refl, sym, ap, subst, ◌∙◌, ◌||◌, Option, None, Some, is_some, if◌then◌else◌}
 use Rattle.std.specs.Option.{option_map, option_map_or, option_and_then}
 use Rattle.std.specs.List.{AllByRecursion, list_any, cons_option}
 use Rattle.std.specs.List.Sorted.{IsStrictlySortedBy}
 use Rattle.std.specs.Map.{keys_of}
 use Rattle.std.specs.declared.cmp.Ordering.TheVariants.{Less}
 use Rattle.std.specs.Ordering.{is_eq}
+use Rattle.std.proofs.Math.Bool.{or_assoc}
 use Rattle.std.proofs.lemmas.Cmp.{nat_list_eq_equiv}
-use Rattle.casa_flight.specs.declared.regulation.Measure.{Measure}
 use Rattle.casa_flight.specs.declared.row.Row.{Row}
-use Rattle.casa_flight.specs.declared.row.Stance.{Stance}
 use Rattle.casa_flight.specs.declared.state.State.{State}
-use Rattle.casa_flight.specs.Text.{Text, same_text, at_name, put}
-use Rattle.casa_flight.specs.State.{row_of, measure_of, with_row, regulation, subject, is_governed_by}
-use Rattle.casa_flight.specs.Listing.{Listing, listing, stance, stance_in, stance_of, eto_as, cto_of}
+use Rattle.casa_flight.specs.Text.{Text, same_text, at_name}
+use Rattle.casa_flight.specs.State.{row_of, with_row, is_governed_by}
+use Rattle.casa_flight.specs.Listing.{Listing, cto_of}
 use Rattle.casa_flight.specs.Entry.{is_to_issue, issued_in, issue_if, issue_due}
 use Rattle.casa_flight.specs.Good.{AreInOrder}
 use Rattle.casa_flight.proofs.Entries.{text_cmp, sorted-put, same_name, named, apart, at-put_other, at-map, keys-map, all-each, all-both}
-use Rattle.casa_laws.proofs.Kept.{at-kept, at_above, same_entries}
+use Rattle.casa_laws.proofs.Kept.{at_above, same_entries}
 use Rattle.casa_footprint.specs.Finding.{due_keys}
 use Rattle.casa_answer.specs.Sight.{Sight, Written, nothing_written}
-use Rattle.casa_answer.specs.Write.{Stances, write_flight}
-use Rattle.casa_answer.specs.Issue.{governed_stance, governed_stances, issued_row, with_issued_row, with_issue, with_issues}
-use Rattle.casa_answer.proofs.Changes.{test_same, at-put_by}
+use Rattle.casa_answer.specs.Issue.{issued_row, with_issued_row, with_issue, with_issues}
+use Rattle.casa_answer.proofs.Changes.{test_same}
 use Rattle.casa_answer.proofs.Board.{Shows, row_put}
-use Rattle.casa_answer.proofs.Naming.{other_text, text_turn, or_none, some_put}
-use Rattle.casa_answer.proofs.Stances.{set_in}
-use Rattle.casa_answer.proofs.Written.{flight_shown, governing_covered}
-
--- a governed flight, in its list
-pub record IsHeld (m : State) (key : Text) : Type 0 where
-  pub row : Row
-  pub found : row_of m key ≡ Some row
-  pub id : Text
-  pub governs : row.governing ≡ Some id
-  pub measure : Measure
-  pub opened : measure_of m id ≡ Some measure
-  pub eto : ℕ
-  pub over : subject row.plan (regulation id measure) ≡ Some eto
+use Rattle.casa_answer.proofs.Naming.{other_text, or_none, named_put}
+use Rattle.casa_answer.proofs.Held.{IsHeld, issue_shown, issue_named}
 
 -- a state once flights are issued as they would be in m
 abbrev pub issue_row : State → State → Text → Option Row → State
@@ -55,43 +41,12 @@ is_among q keys = list_any (λ k. same_text k q) keys
 abbrev pub governs_among : Sight → Text → List Text → Bool
 governs_among v id keys = list_any (λ k. option_map_or (is_governed_by id) (v.row k) false) keys
 
--- how the flight stands in its list once it is issued
-stance_issued : (m : State) (key : Text) (h : IsHeld m key) → Option Stance
-stance_issued m key h = Some (stance true (issued_in m key h.row).issued h.eto)
-
-stands_issued : (m : State) (key : Text) (h : IsHeld m key) (measure : Measure) → measure_of m h.id ≡ Some measure → stance_in h.id measure (issued_in m key h.row) ≡ stance_issued m key h
-unfolding stance_issued
-stands_issued m key h measure opened =
-    let both : Some measure ≡ Some h.measure = sym opened ∙ h.opened in
-    let same : measure ≡ h.measure = cc in
-    let itself : is_governed_by h.id h.row ≡ true = ap (λ (o : Option Text). option_map_or (same_text h.id) o false) h.governs ∙ nat_list_eq_equiv.refl h.id in
-    ap (λ (y : Measure). stance_in h.id y (issued_in m key h.row)) same
-    ∙ ap (option_map (stance (is_governed_by h.id h.row) (issued_in m key h.row).issued)) h.over
-    ∙ ap (λ b. Some (stance b (issued_in m key h.row).issued h.eto)) itself
-
-eto_stays : (b : Bool) (i : Option ℕ) (eto : ℕ) → eto_as (stance b i eto) ≡ eto
-eto_stays true None eto = refl
-eto_stays true (Some t) eto = refl
-eto_stays false i eto = refl
-
--- what is written of it, in a view that shows m
-written_issued : (v : Sight) (w : Written) (m : State) (key : Text) (h : IsHeld m key) → Shows v nothing_written m → AreInOrder m.rows
-    → with_issue v w key ≡ write_flight v w key (Some (issued_in m key h.row)) ((h.id, stance_issued m key h) ∷ [])
-unfolding stance_issued
-written_issued v w m key h shown sorted =
-    let new : Row = issued_in m key h.row in
-    let l : Listing = listing m.rows h.id h.measure in
-    let is : v.list h.id ≡ Some l = shown.lists h.id ∙ ap (option_map (listing m.rows h.id)) h.opened in
-    let stands : stance_of l key ≡ Some (stance (is_governed_by h.id h.row) h.row.issued h.eto) =
-    at-kept (stance_in h.id h.measure) key m.rows sorted ∙ ap (option_and_then (stance_in h.id h.measure)) h.found ∙ ap (option_map (stance (is_governed_by h.id h.row) h.row.issued)) h.over in
-    let seen : issued_row v key h.row ≡ new = λ i. record h.row { issued = option_and_then (λ (l : Listing). cto_of l key) (option_and_then (λ id. shown.lists id i) h.row.governing) } in
-    let there : governed_stances v key new ≡ (h.id, stance_issued m key h) ∷ [] =
-    ap (λ (o : Option Text). let es : Stances = option_map_or (λ (id : Text). (id, option_and_then (governed_stance key new) (v.list id)) ∷ []) o [] in es) h.governs
-    ∙ ap (λ (o : Option Listing). let es : Stances = (h.id, option_and_then (governed_stance key new) o) ∷ [] in es) is
-    ∙ ap (λ (o : Option Stance). let es : Stances = (h.id, option_map (λ (s : Stance). stance true new.issued (eto_as s)) o) ∷ [] in es) stands
-    ∙ ap (λ eto. let es : Stances = (h.id, Some (stance true new.issued eto)) ∷ [] in es) (eto_stays (is_governed_by h.id h.row) h.row.issued h.eto) in
+-- what is written of a flight that is issued, in a view that shows m
+written_issued : (v : Sight) (w : Written) (m : State) (key : Text) (h : IsHeld m key) → Shows v nothing_written m → with_issue v w key ≡ with_issued_row v w key (issued_in m key h.row)
+written_issued v w m key h shown =
+    let seen : issued_row v key h.row ≡ issued_in m key h.row = λ i. record h.row { issued = option_and_then (λ (l : Listing). cto_of l key) (option_and_then (λ id. shown.lists id i) h.row.governing) } in
     ap (λ (y : Option Row). option_map_or (λ (row : Row). with_issued_row v w key (issued_row v key row)) y w) (shown.rows key ∙ h.found)
-    ∙ ap (with_issued_row v w key) seen ∙ ap (write_flight v w key (Some new)) there
+    ∙ ap (with_issued_row v w key) seen
 
 pub rising_apart : (k q : Text) → text_cmp k q ≡ Less → same_text k q ≡ false
 rising_apart k q h = other_text q k (sym (test_same q k) ∙ ap is_eq h)
@@ -104,9 +59,6 @@ pub record Issues (v : Sight) (w : Written) (m s : State) (keys : List Text) : T
   pub rows : (q : Text) → is_some (at_name (with_issues v w keys).rows q) ≡ (is_some (at_name w.rows q) || is_among q keys)
   pub lists : (q : Text) → is_some (at_name (with_issues v w keys).lists q) ≡ (is_some (at_name w.lists q) || governs_among v q keys)
 
-some_set : {X : Type 0} (q k : Text) (x : X) (es : List (Text × X)) (rest : Bool) → (is_some (at_name (put es k x) q) || rest) ≡ (is_some (at_name es q) || (same_text k q || rest))
-some_set {X} q k x es rest = ap (λ o. is_some o || rest) (at-put_by q k x es) ∙ some_put q k x (at_name es q) rest
-
 pub issues : (v : Sight) (w : Written) (m s : State) (keys : List Text) → Shows v nothing_written m → AreInOrder m.rows → Shows v w s → AreInOrder s.rows → s.regs ≡ m.regs
     → IsStrictlySortedBy text_cmp keys → AllByRecursion (λ k. row_of s k ≡ row_of m k) keys → AllByRecursion (IsHeld m) keys → Issues v w m s keys
 unfolding IsStrictlySortedBy
@@ -114,30 +66,27 @@ issues v w m s [] shown ordered shows sorted same rising untouched held = record
 issues v w m s (key ∷ keys) shown ordered shows sorted same rising untouched held =
     let h : IsHeld m key = held.0 in
     let new : Row = issued_in m key h.row in
-    let st : Option Stance = stance_issued m key h in
-    let next : Written = write_flight v w key (Some new) ((h.id, st) ∷ []) in
     let n : State = issue_row m s key (row_of m key) in
     let here : n ≡ with_row s key new = ap (issue_row m s key) h.found in
-    let step : with_issue v w key ≡ next = written_issued v w m key h shown ordered in
+    let step : with_issue v w key ≡ with_issued_row v w key new = written_issued v w m key h shown in
     let then_shows : Shows v (with_issue v w key) n =
     subst (λ t. Shows v (with_issue v w key) t) (sym here) (subst (λ y. Shows v y (with_row s key new)) (sym step)
-    (flight_shown v w s key (Some new) ((h.id, st) ∷ []) shows sorted (refl, tt)
-    (governing_covered s key h.row new h.id st (untouched.0 ∙ h.found) refl h.governs h.governs (λ measure opened. stands_issued m key h measure (ap (λ es. at_name es h.id) (sym same) ∙ opened))))) in
+    (issue_shown v w m s key h h.row.issued new.issued (shown.lists h.id) ordered shows sorted same (untouched.0 ∙ h.found))) in
     let then_untouched : AllByRecursion (λ k. row_of n k ≡ row_of m k) keys =
     all-each (λ k. (text_cmp key k ≡ Less) × (row_of s k ≡ row_of m k)) (λ k. row_of n k ≡ row_of m k)
     (λ k f. ap (λ t. row_of t k) here ∙ at-put_other k key new s.rows (apart key k (rising_apart key k f.0)) ∙ f.1) keys
     (all-both (λ k. text_cmp key k ≡ Less) (λ k. row_of s k ≡ row_of m k) keys rising.0 untouched.1) in
     let rest : Issues v (with_issue v w key) m n keys =
     issues v (with_issue v w key) m n keys shown ordered then_shows (subst (λ (t : State). AreInOrder t.rows) (sym here) (sorted-put key new s.rows sorted)) (ap (λ (t : State). t.regs) here ∙ same) rising.1 then_untouched held.1 in
-    let governs : (q : Text) → option_map_or (is_governed_by q) (v.row key) false ≡ same_text h.id q =
-    λ q. ap (λ (y : Option Row). option_map_or (is_governed_by q) y false) (shown.rows key ∙ h.found) ∙ ap (λ (y : Option Text). option_map_or (same_text q) y false) h.governs ∙ text_turn q h.id in
     record {
       shows = rest.shows;
       clock = rest.clock ∙ ap (λ (y : Written). y.clock) step;
       catalogue = rest.catalogue ∙ ap (λ (y : Written). y.catalogue) step;
-      rows = λ q. rest.rows q ∙ ap (λ (y : Written). is_some (at_name y.rows q) || is_among q keys) step ∙ some_set q key (Some new) w.rows (is_among q keys);
+      rows = λ q. rest.rows q ∙ ap (λ (y : Written). is_some (at_name y.rows q) || is_among q keys) step
+          ∙ ap (λ b. b || is_among q keys) (named_put q key (Some new) w.rows) ∙ or_assoc (is_some (at_name w.rows q)) (same_text key q) (is_among q keys);
       lists = λ q. rest.lists q ∙ ap (λ (y : Written). is_some (at_name y.lists q) || governs_among v q keys) step
-          ∙ some_set q h.id (set_in key (unwrap_or (at_name w.lists h.id) (v.list h.id)) st) w.lists (governs_among v q keys) ∙ ap (λ b. is_some (at_name w.lists q) || (b || governs_among v q keys)) (sym (governs q));
+          ∙ ap (λ b. b || governs_among v q keys) (issue_named v w key new q) ∙ or_assoc (is_some (at_name w.lists q)) (is_governed_by q h.row) (governs_among v q keys)
+          ∙ ap (λ (y : Option Row). is_some (at_name w.lists q) || (option_map_or (is_governed_by q) y false || governs_among v q keys)) (sym (shown.rows key ∙ h.found));
     }
 
 -- the key of an entry that passes

@@ -13,11 +13,15 @@ pub mod FlightCalls
 pub mod Entered
 pub mod Entries
 pub mod Among
-pub mod Opens
+pub mod TakingIn
 pub mod NewRates
+pub mod Opens
+pub mod Held
 pub mod Issued
 pub mod Ticks
+pub mod Swaps
 pub mod Listed
 pub mod Freed
 pub mod Closes
 pub mod Newcomers
+pub mod ListOver

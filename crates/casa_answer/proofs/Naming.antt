@@ -1,13 +1,14 @@
 -- names, and what is written under them
-use Rattle.std.proofs.Common.{◌≡◌, ℕ, Bool, true, false, refl, sym, ap, subst, ◌∙◌, ◌||◌, Option, None, Some, is_some, if◌then◌else◌}
+use Rattle.std.proofs.Common.{◌≡◌, ℕ, List, Bool, true, false, refl, sym, ap, subst, ◌∙◌, ◌||◌, Option, None, Some, is_some, if◌then◌else◌}
 use Rattle.std.specs.Option.{option_map, option_map_or}
 use Rattle.std.proofs.lemmas.Bool.{both_ways}
 use Rattle.std.proofs.lemmas.Cmp.{nat_list_eq_equiv}
 use Rattle.casa_flight.specs.declared.row.Row.{Row}
-use Rattle.casa_flight.specs.Text.{Text, same_text}
+use Rattle.casa_flight.specs.Text.{Text, same_text, at_name, put}
 use Rattle.casa_flight.specs.State.{is_governed_by}
 use Rattle.casa_flight.specs.Listing.{stance}
 use Rattle.casa_flight.proofs.Entries.{named}
+use Rattle.casa_answer.proofs.Changes.{at-put_by}
 
 pub other_text : (a b : Text) → same_text a b ≡ false → same_text b a ≡ false
 other_text a b h =
@@ -37,10 +38,11 @@ pub or_none : (b : Bool) → b ≡ (b || false)
 or_none true = refl
 or_none false = refl
 
-pub some_put : {X : Type 0} (q k : Text) (x : X) (o : Option X) (rest : Bool) → (is_some (if same_text k q then Some x else o) || rest) ≡ (is_some o || (same_text k q || rest))
-some_put {X} q k x o rest = by (same_text k q) o
+-- what stands under a name once something is put in
+pub named_put : {X : Type 0} (q k : Text) (x : X) (es : List (Text × X)) → is_some (at_name (put es k x) q) ≡ (is_some (at_name es q) || same_text k q)
+named_put {X} q k x es = ap is_some (at-put_by q k x es) ∙ by (same_text k q) (at_name es q)
   where
-    by : (b : Bool) (o : Option X) → (is_some (if b then Some x else o) || rest) ≡ (is_some o || (b || rest))
+    by : (b : Bool) (o : Option X) → is_some (if b then Some x else o) ≡ (is_some o || b)
     by true None = refl
     by true (Some y) = refl
-    by false o = refl
+    by false o = or_none (is_some o)

@@ -1,24 +1,37 @@
 -- new rates
-use Rattle.std.proofs.Common.{◌≡◌, List, [], Bool, true, false, refl, sym, ap, ◌∙◌, Option, None, Some}
-use Rattle.std.specs.Option.{option_map}
+use Rattle.std.proofs.Common.{◌≡◌, List, [], Bool, true, false, refl, sym, ap, subst, ◌∙◌, ◌&&◌, Option, None, Some, if◌then◌else◌, unwrap_or}
+use Rattle.std.specs.Option.{option_map, option_map_or}
+use Rattle.std.proofs.lemmas.Bool.{or_left, or_right}
 use Rattle.casa_grid.specs.declared.period.Period.{Period}
+use Rattle.casa_grid.specs.Profile.{start_of, end_of}
+use Rattle.casa_flight.specs.declared.call.Call.{Call}
 use Rattle.casa_flight.specs.declared.call.Call.TheVariants.{Rates}
 use Rattle.casa_flight.specs.declared.call.Refusal.TheVariants.{NoRegulation, SpanChanged}
 use Rattle.casa_flight.specs.declared.regulation.Measure.{Measure}
+use Rattle.casa_flight.specs.declared.regulation.Regulation.{Regulation}
 use Rattle.casa_flight.specs.declared.reply.Answer.TheVariants.{Done}
 use Rattle.casa_flight.specs.declared.reply.Reply.TheVariants.{Answered}
 use Rattle.casa_flight.specs.declared.state.State.{State}
-use Rattle.casa_flight.specs.Text.{Text}
-use Rattle.casa_flight.specs.State.{measure_of}
+use Rattle.casa_flight.specs.Text.{Text, at_name}
+use Rattle.casa_flight.specs.State.{row_of, measure_of, regulation, catalogue}
 use Rattle.casa_flight.specs.Listing.{Listing, listing, list_of}
-use Rattle.casa_flight.specs.Steps.{rates as step_rates, rates_if as step_rates_if, has_span}
+use Rattle.casa_flight.specs.Steps.{rates as step_rates, rates_if as step_rates_if, keeps_span, ends_later, extends, take_in}
 use Rattle.casa_flight.specs.Good.{IsGood}
-use Rattle.casa_footprint.specs.Items.{the_clock, the_catalogue, a_row, a_list, list_or_none}
+use Rattle.casa_laws.proofs.GoodTick.{span_kept}
+use Rattle.casa_laws.proofs.RegMessages.{regs-take_in, rates_stay}
+use Rattle.casa_footprint.specs.Items.{ItemName, the_clock, the_catalogue, a_row, a_list, regulations, row_or_none, list_or_none}
+use Rattle.casa_footprint.specs.Finding.{by_id}
+use Rattle.casa_footprint.specs.Footprint.{reads, enters_with}
 use Rattle.casa_footprint.proofs.Names.{text_itself}
-use Rattle.casa_footprint.proofs.Rates.{rated, rates_messages, list_rated}
-use Rattle.casa_answer.specs.Sight.{Sight, IsAnswer, IsPlanned}
-use Rattle.casa_answer.specs.NewRates.{new_rates, rates_if, rates_at, rates}
+use Rattle.casa_footprint.proofs.Catalogue.{at-catalogue}
+use Rattle.casa_footprint.proofs.Rates.{rated, rates_messages, list_rated, extends_at, enters_with_at}
+use Rattle.casa_answer.specs.Sight.{Sight, IsAnswer, IsPlanned, regulations_in}
+use Rattle.casa_answer.specs.FlightCalls.{refusal as refused}
+use Rattle.casa_answer.specs.TakingIn.{taking_in}
+use Rattle.casa_answer.specs.NewRates.{new_rates, extended, rates_if, rates_at, rates}
+use Rattle.casa_answer.specs.Told.{done}
 use Rattle.casa_answer.proofs.Changes.{refusal, Says, acceptance, one_written}
+use Rattle.casa_answer.proofs.TakingIn.{TakesIn, takes_in}
 
 -- where no list is open there is no regulation, and where one is, it is that of a measure
 pub measure_none : (m : State) (id : Text) → list_of m id ≡ None → measure_of m id ≡ None
@@ -35,33 +48,83 @@ measure_some m id l e = by (measure_of m id) refl e
     by None p e = cc
     by (Some measure) p e = (measure, p, cc)
 
-rates_done : (m : State) (id : Text) (profile : List Period) (l : Listing) → IsGood m → list_of m id ≡ Some l → has_span profile l.profile ≡ true
-    → IsAnswer m (Rates id profile) (rates_if id profile l true)
-rates_done m id profile l good e h =
-    let o = measure_some m id l e in
-    let span : has_span profile o.0.profile ≡ true = ap (λ (k : Listing). has_span profile k.profile) o.2 ∙ h in
-    let is : list_of (rated m id o.0 profile) id ≡ Some (record l { profile = profile }) = list_rated m id o.0 profile span ∙ ap (λ (k : Listing). Some (record k { profile = profile })) o.2 in
-    acceptance m (Rates id profile) (rated m id o.0 profile) (Answered Done []) (new_rates id profile l)
-    (ap (step_rates m id profile) o.1 ∙ ap (step_rates_if m id o.0 profile) span)
-    (sym (ap (Answered Done) (rates_messages m id o.0 profile good o.1 span)))
-    (says (rated m id o.0 profile) is)
+-- with the same end the list is written alone
+rates_done : (m : State) (id : Text) (measure : Measure) (profile : List Period) → IsGood m → measure_of m id ≡ Some measure
+    → keeps_span profile measure.profile ≡ true → ends_later profile measure.profile ≡ false
+    → IsAnswer m (Rates id profile) (Answered Done [], new_rates id profile (listing m.rows id measure))
+rates_done m id measure profile good opened span same =
+    acceptance m (Rates id profile) (rated m id measure profile) (Answered Done []) (new_rates id profile (listing m.rows id measure))
+    (ap (step_rates m id profile) opened ∙ (λ i. step_rates_if m id (record measure { profile = profile }) (span i) (same i)))
+    (sym (ap (Answered Done) (rates_messages m id measure profile good opened (span_kept profile measure.profile span) same)))
+    (says (rated m id measure profile) (list_rated m id measure profile (span_kept profile measure.profile span) same))
   where
-    says : (n : State) → list_of n id ≡ Some (record l { profile = profile }) → Says m (Rates id profile) n (new_rates id profile l)
+    kept : Option Listing
+    kept = Some (record (listing m.rows id measure) { profile = profile })
+
+    extends_not : extends m id profile ≡ false
+    extends_not = extends_at m id measure profile opened ∙ same
+
+    says : (n : State) → list_of n id ≡ kept → Says m (Rates id profile) n (new_rates id profile (listing m.rows id measure))
     says n e the_clock = refl
-    says n e the_catalogue = refl
-    says n e (a_row key) = refl
-    says n e (a_list other) = one_written list_or_none (λ t. list_or_none (list_of n t)) id (Some (record l { profile = profile })) (ap list_or_none (sym e)) other
+    says n e the_catalogue = sym (ap (λ b. if b then Some (regulations (catalogue n)) else None) extends_not)
+    says n e (a_row key) = sym (ap (λ b. if b && enters_with m id profile key then Some (row_or_none (row_of n key)) else None) extends_not)
+    says n e (a_list other) = one_written list_or_none (λ t. list_or_none (list_of n t)) id kept (ap list_or_none (sym e)) other
+
+-- with a later end flights are taken in
+ends : (m : State) (id : Text) (measure : Measure) (profile : List Period) → measure_of m id ≡ Some measure
+    → keeps_span profile measure.profile ≡ true → ends_later profile measure.profile ≡ true → TakesIn m (Rates id profile) id (record measure { profile = profile })
+ends m id measure profile opened span later = record {
+  stepped = ap (step_rates m id profile) opened ∙ (λ i. step_rates_if m id new (span i) (later i));
+  answered = λ n. refl;
+  lasts = rates_stay m (take_in m id new) id measure profile opened (span_kept profile measure.profile span) (regs-take_in m id new);
+  all_read = read;
+  clock = refl;
+  catalogue = extended_so;
+  rows = λ key. ap (λ b. b && enters_with m id profile key) extended_so ∙ enters_with_at m id measure profile key opened;
+  lists = λ other. refl;
+}
+  where
+    new : Measure
+    new = record measure { profile = profile }
+
+    extended_so : extends m id profile ≡ true
+    extended_so = extends_at m id measure profile opened ∙ later
+
+    read : (i : ItemName) → reads m (Rates id profile) i ≡ true
+    read the_clock = extended_so
+    read the_catalogue = refl
+    read (a_row key) = extended_so
+    read (a_list other) = or_right _ _ extended_so
 
 pub rates_planned : (v : Sight) (id : Text) (profile : List Period) → IsPlanned v (Rates id profile) (rates v id profile)
-rates_planned v id profile m good is = by (v.list id) (sym (is.list id (text_itself id)))
+rates_planned v id profile m good is = by (v.list id) (sym (is.list id (or_left _ _ (text_itself id))))
   where
-    spanned : (l : Listing) → list_of m id ≡ Some l → (b : Bool) → has_span profile l.profile ≡ b → IsAnswer m (Rates id profile) (rates_if id profile l b)
-    spanned l e true h = rates_done m id profile l good e h
-    spanned l e false h =
-        let o = measure_some m id l e in
-        refusal m (Rates id profile) SpanChanged
-        (ap (step_rates m id profile) o.1 ∙ ap (step_rates_if m id o.0 profile) (ap (λ (k : Listing). has_span profile k.profile) o.2 ∙ h))
+    call : Call
+    call = Rates id profile
 
-    by : (w : Option Listing) → list_of m id ≡ w → IsAnswer m (Rates id profile) (rates_at id profile w)
-    by None e = refusal m (Rates id profile) NoRegulation (ap (step_rates m id profile) (measure_none m id e))
-    by (Some l) e = spanned l e (has_span profile l.profile) refl
+    -- the regulation with its later end, as the catalogue has it
+    later_is : (measure : Measure) → keeps_span profile measure.profile ≡ true → record (regulation id measure) { end = end_of profile } ≡ regulation id (record measure { profile = profile })
+    later_is measure span =
+        let start : start_of profile ≡ start_of measure.profile = (span_kept profile measure.profile span).start in
+        λ i. record { id = id; loc = measure.loc; start = sym start i; end = end_of profile }
+
+    found : (measure : Measure) → measure_of m id ≡ Some measure → at_name (by_id (regulations_in v)) id ≡ Some (regulation id measure)
+    found measure opened =
+        ap (λ w. at_name (by_id (unwrap_or w [])) id) (is.catalogue refl) ∙ at-catalogue m.regs id ∙ ap (option_map (regulation id)) opened
+
+    spanned : (measure : Measure) → measure_of m id ≡ Some measure → (b later : Bool) → keeps_span profile measure.profile ≡ b → ends_later profile measure.profile ≡ later
+        → IsAnswer m call (rates_if v id profile (listing m.rows id measure) b later)
+    spanned measure opened false later h t =
+        refusal m call SpanChanged
+        (ap (step_rates m id profile) opened ∙ ap (λ b. step_rates_if m id (record measure { profile = profile }) b (ends_later profile measure.profile)) h)
+    spanned measure opened true false h t = rates_done m id measure profile good opened h t
+    spanned measure opened true true h t =
+        subst (λ (w : Option Regulation). IsAnswer m call (option_map_or (extended v profile) w (refused NoRegulation))) (sym (found measure opened))
+        (subst (λ (r : Regulation). IsAnswer m call (done v (taking_in v r profile))) (sym (later_is measure h))
+        (takes_in m call id (record measure { profile = profile }) v good is (ends m id measure profile opened h t)))
+
+    by : (w : Option Listing) → list_of m id ≡ w → IsAnswer m call (rates_at v id profile w)
+    by None e = refusal m call NoRegulation (ap (step_rates m id profile) (measure_none m id e))
+    by (Some l) e =
+        let o = measure_some m id l e in
+        subst (λ (k : Listing). IsAnswer m call (rates_at v id profile (Some k))) o.2 (spanned o.0 o.1 (keeps_span profile o.0.profile) (ends_later profile o.0.profile) refl refl)

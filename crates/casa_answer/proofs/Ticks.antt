@@ -13,10 +13,10 @@ use Rattle.casa_flight.specs.Text.{Text, at_name}
 use Rattle.casa_flight.specs.State.{row_of, is_governed_by, is_due}
 use Rattle.casa_flight.specs.Entry.{is_to_issue, issue_if, issue_due}
 use Rattle.casa_flight.specs.Steps.{tick as step_tick}
-use Rattle.casa_flight.specs.Good.{AreInOrder, IsGood, IsGoverned}
+use Rattle.casa_flight.specs.Good.{AreInOrder, IsGood}
 use Rattle.casa_flight.proofs.Entries.{text_cmp, sorted-put, all-each, all-filter_map, each_found, keys-map}
+use Rattle.casa_laws.proofs.ChangeMessages.{stays}
 use Rattle.casa_laws.proofs.InOrder.{all-always}
-use Rattle.casa_laws.proofs.ChangeMessages.{governed_by}
 use Rattle.casa_footprint.specs.Items.{moment, regulations}
 use Rattle.casa_footprint.specs.Finding.{due_keys}
 use Rattle.casa_answer.specs.Sight.{Sight, Written, nothing_written, clock_in, IsSightOf, IsAnswer, IsPlanned}
@@ -25,7 +25,8 @@ use Rattle.casa_answer.specs.Issue.{issued_row, with_issued_row, with_issue, wit
 use Rattle.casa_answer.proofs.Changes.{refusal, acceptance}
 use Rattle.casa_answer.proofs.Board.{Shows, says_shown}
 use Rattle.casa_answer.proofs.Messages.{messages_are}
-use Rattle.casa_answer.proofs.Issued.{IsHeld, Issues, issues, issue_each, governs_among, key_if, at_once, among_due, due_rising}
+use Rattle.casa_answer.proofs.Held.{IsHeld, held_by}
+use Rattle.casa_answer.proofs.Issued.{Issues, issues, issue_each, governs_among, key_if, at_once, among_due, due_rising}
 
 -- the rows of a change stay in the order of their keys
 pub issues_ordered : (v : Sight) (w : Written) (keys : List Text) → AreInOrder w.rows → AreInOrder (with_issues v w keys).rows
@@ -42,11 +43,6 @@ due_held m at good =
     all-filter_map (λ (e : Text × Row). row_of m e.0 ≡ Some e.1) (IsHeld (record m { clock = at })) (λ (e : Text × Row). key_if (is_to_issue at e.1) e.0)
     (λ e k found h. by e k found e.1.governing refl h) m.rows (each_found m.rows good.rows_in_order)
   where
-    held : (e : Text × Row) (id : Text) → row_of m e.0 ≡ Some e.1 → e.1.governing ≡ Some id → IsHeld (record m { clock = at }) e.0
-    held e id found governs =
-        let g : IsGoverned m.clock m.regs e.1 id = governed_by m e.0 e.1 id good found governs in
-        record { row = e.1; found = found; id = id; governs = governs; measure = g.measure; opened = g.is_open; eto = g.eto; over = g.is_subject }
-
     same_key : (e : Text × Row) (k : Text) (b : Bool) → IsHeld (record m { clock = at }) e.0 → key_if b e.0 ≡ Some k → IsHeld (record m { clock = at }) k
     same_key e k true x h = let same : e.0 ≡ k = cc in subst (IsHeld (record m { clock = at })) same x
     same_key e k false x h = cc
@@ -54,7 +50,7 @@ due_held m at good =
     by : (e : Text × Row) (k : Text) → row_of m e.0 ≡ Some e.1 → (g : Option Text) → e.1.governing ≡ g → key_if (is_to_issue at e.1) e.0 ≡ Some k → IsHeld (record m { clock = at }) k
     by e k found None governs h =
         let none : None ≡ Some k = sym (ap (λ (w : Option Text). key_if (is_some w && (not (is_some e.1.issued) && is_due at e.1.plan)) e.0) governs) ∙ h in cc
-    by e k found (Some id) governs h = same_key e k (is_to_issue at e.1) (held e id found governs) h
+    by e k found (Some id) governs h = same_key e k (is_to_issue at e.1) (held_by m at e.0 id e.1 good found governs) h
 
 -- whose list is written
 due_governed : (v : Sight) (at : ℕ) (id : Text) (rows : List (Text × Row)) → AllByRecursion (λ (e : Text × Row). v.row e.0 ≡ Some e.1) rows
@@ -84,7 +80,7 @@ ticks m at v good is back =
     let ends : issue_each start start keys ≡ n = ap (issue_each start start) (sym same_keys) ∙ at_once start good.rows_in_order (subst (AllByRecursion (IsHeld start)) (sym same_keys) held) in
     let shows : Shows v w n = subst (Shows v w) ends all.shows in
     let sorted : AreInOrder n.rows = subst (IsStrictlySortedBy text_cmp) (sym (keys-map (λ (e : Text × Row). issue_if (is_to_issue at e.1) start e.0 e.1) m.rows)) good.rows_in_order in
-    let told = messages_are m n v w good sorted (issues_ordered v (clock_written at) keys tt) before shows (λ key id row none found governs a opened. (a, opened, refl)) in
+    let told = messages_are m n v w good sorted (issues_ordered v (clock_written at) keys tt) before shows (λ key id row none found governs. stays m n id (λ a opened. opened)) in
     acceptance m (Tick at) n (Answered Done (messages_shown v w)) w (ap (step_tick m at) back) (sym (ap (Answered Done) told))
     (says_shown m (Tick at) v w n shows (ap (option_map moment) all.clock) (ap (option_map regulations) all.catalogue)
     (λ q. all.rows q ∙ among_due at q v.rows ordered ∙ ap (λ (r : Option Row). option_map_or (is_to_issue at) r false) (sym (found q rows) ∙ is.row q refl))

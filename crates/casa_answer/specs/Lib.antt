@@ -4,8 +4,10 @@ pub mod OneFlight
 pub mod FlightCalls
 pub mod Told
 pub mod Enter
+pub mod TakingIn
 pub mod Opening
 pub mod NewRates
 pub mod Issue
+pub mod Swapping
 pub mod Look
 pub mod Closing

@@ -1,27 +1,40 @@
 use Rattle.std.specs.Prelude.{List, [], ◌∷◌, Bool, true, false, Option, None, Some}
+use Rattle.std.specs.Option.{option_map_or}
 use Rattle.casa_grid.specs.declared.period.Period.{Period}
+use Rattle.casa_grid.specs.Profile.{end_of}
 use Rattle.casa_flight.specs.declared.call.Refusal.TheVariants.{NoRegulation, SpanChanged}
+use Rattle.casa_flight.specs.declared.regulation.Regulation.{Regulation}
 use Rattle.casa_flight.specs.declared.reply.Answer.TheVariants.{Done}
 use Rattle.casa_flight.specs.declared.reply.Reply.{Reply}
-use Rattle.casa_flight.specs.declared.reply.Reply.TheVariants.{Refused, Answered}
-use Rattle.casa_flight.specs.Text.{Text}
+use Rattle.casa_flight.specs.declared.reply.Reply.TheVariants.{Answered}
+use Rattle.casa_flight.specs.Text.{Text, at_name}
 use Rattle.casa_flight.specs.Listing.{Listing}
-use Rattle.casa_flight.specs.Steps.{has_span}
-use Rattle.casa_answer.specs.Sight.{Sight, Written, nothing_written}
+use Rattle.casa_flight.specs.Steps.{keeps_span, ends_later}
+use Rattle.casa_footprint.specs.Finding.{by_id}
+use Rattle.casa_answer.specs.Sight.{Sight, Written, nothing_written, regulations_in}
+use Rattle.casa_answer.specs.FlightCalls.{refusal}
+use Rattle.casa_answer.specs.TakingIn.{taking_in}
+use Rattle.casa_answer.specs.Told.{done}
 
 -- the list of a regulation with its new profile
 abbrev pub new_rates : Text → List Period → Listing → Written
 new_rates id profile l = record nothing_written { lists = (id, Some (record l { profile = profile })) ∷ [] }
 
--- new rates keep the span of the regulation, and no message comes of them
-abbrev pub rates_if : Text → List Period → Listing → Bool → Reply × Written
-rates_if id profile l false = (Refused SpanChanged, nothing_written)
-rates_if id profile l true = (Answered Done [], new_rates id profile l)
+-- the regulation with the later end of this profile takes flights in
+abbrev pub extended : Sight → List Period → Regulation → Reply × Written
+extended v profile r = done v (taking_in v (record r { end = end_of profile }) profile)
 
-abbrev pub rates_at : Text → List Period → Option Listing → Reply × Written
-rates_at id profile None = (Refused NoRegulation, nothing_written)
-rates_at id profile (Some l) = rates_if id profile l (has_span profile l.profile)
+-- new rates keep the start of the regulation; with its end no message comes of them, with a later one flights enter
+abbrev pub rates_if : Sight → Text → List Period → Listing → Bool → Bool → Reply × Written
+rates_if v id profile l false later = refusal SpanChanged
+rates_if v id profile l true false = (Answered Done [], new_rates id profile l)
+rates_if v id profile l true true =
+    option_map_or (extended v profile) (at_name (by_id (regulations_in v)) id) (refusal NoRegulation)
+
+abbrev pub rates_at : Sight → Text → List Period → Option Listing → Reply × Written
+rates_at v id profile None = refusal NoRegulation
+rates_at v id profile (Some l) = rates_if v id profile l (keeps_span profile l.profile) (ends_later profile l.profile)
 
 -- the answer to new rates
 abbrev pub rates : Sight → Text → List Period → Reply × Written
-rates v id profile = rates_at id profile (v.list id)
+rates v id profile = rates_at v id profile (v.list id)

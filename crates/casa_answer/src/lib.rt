@@ -10,6 +10,6 @@ mod regulation_laws;
 pub use flight_laws::{best_offer_is_the_choice, flight_calls_are_answered};
 pub use laws::nothing_is_said;
 pub use opening_laws::{
-    close_is_planned, new_list_has_all_forced, newcomers_are_among_all, open_is_planned,
+    close_is_planned, list_has_each_flight_over, newcomers_are_among_all, open_is_planned,
 };
-pub use regulation_laws::{list_is_planned, rates_is_planned, tick_is_planned};
+pub use regulation_laws::{list_is_planned, rates_is_planned, swap_is_planned, tick_is_planned};

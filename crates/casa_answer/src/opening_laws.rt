@@ -1,4 +1,4 @@
-//! Laws of the answers to the calls that open and close a regulation.
+//! Laws of the answers to the calls that open and close a regulation, and of what a regulation takes in.
 
 ghost use Rattle.std.specs.Prelude.{◌≡◌, List, Bool, true, false, Option, Some};
 ghost use Rattle.std.specs.Option.{option_map_or};
@@ -10,10 +10,11 @@ ghost use Rattle.casa_flight.specs.declared.regulation.Regulation.{Regulation};
 ghost use Rattle.casa_flight.specs.declared.row.Row.{Row};
 ghost use Rattle.casa_flight.specs.Text.{Text};
 ghost use Rattle.casa_flight.specs.Good.{AreInOrder};
-ghost use Rattle.casa_flight.specs.Listing.{kept};
+ghost use Rattle.casa_flight.specs.Listing.{kept, stance_over};
 ghost use Rattle.casa_flight.specs.Steps.{flights_over};
 ghost use Rattle.casa_answer.specs.Sight.{Sight, IsPlanned};
-ghost use Rattle.casa_answer.specs.Opening.{forced_over, all_forced, open_reg};
+ghost use Rattle.casa_answer.specs.TakingIn.{stances_by};
+ghost use Rattle.casa_answer.specs.Opening.{open_reg};
 ghost use Rattle.casa_answer.specs.Closing.{close_reg};
 
 /// The answer to a regulation that opens.
@@ -35,8 +36,9 @@ pub fn newcomers_are_among_all()
         ≡ flights_over test r rows }
 {}
 
-/// The flights over a regulation, by keys and each forced, are those of its list when it governs nobody yet.
-pub fn new_list_has_all_forced()
-    ensures { (r : Regulation) (rows : List (Text × Row)) → AreInOrder rows →
-        all_forced (flights_over (λ (row : Row). true) r rows) ≡ kept (forced_over r) rows }
+/// The flights over a regulation, by keys and each as it stands by its row, are those of its list.
+pub fn list_has_each_flight_over()
+    ensures { (at : Text → Option Row) (r : Regulation) (rows : List (Text × Row)) → AreInOrder rows →
+        AllByRecursion (λ (e : Text × Row). at e.0 ≡ Some e.1) rows →
+        stances_by r.id at (flights_over (λ (row : Row). true) r rows) ≡ kept (stance_over r) rows }
 {}

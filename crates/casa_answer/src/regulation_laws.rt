@@ -1,4 +1,5 @@
-//! Laws of the answers to new rates, to the clock and to the question for a list, each on a function that does nothing.
+//! Laws of the answers to new rates, to the clock, to an exchange of slots and to the question for a list, each on a
+//! function that does nothing.
 
 ghost use Rattle.std.specs.Prelude.{ℕ, List};
 ghost use Rattle.casa_grid.specs.declared.period.Period.{Period};
@@ -8,6 +9,7 @@ ghost use Rattle.casa_answer.specs.Sight.{Sight, IsPlanned};
 ghost use Rattle.casa_answer.specs.NewRates.{rates};
 ghost use Rattle.casa_answer.specs.Issue.{tick};
 ghost use Rattle.casa_answer.specs.Look.{list};
+ghost use Rattle.casa_answer.specs.Swapping.{swap};
 
 /// What is answered to new rates, by what a view shows, is the answer in every good state of which the view shows what
 /// the call reads.
@@ -24,4 +26,9 @@ pub fn tick_is_planned()
 /// And so is what is answered to the question for a list.
 pub fn list_is_planned()
     ensures { (v : Sight) (id : Text) → IsPlanned v (Call.List id) (list v id) }
+{}
+
+/// And so is what is answered to an exchange of slots: each flight is issued at the time that the other had.
+pub fn swap_is_planned()
+    ensures { (v : Sight) (key other : Text) → IsPlanned v (Call.Swap key other) (swap v key other) }
 {}

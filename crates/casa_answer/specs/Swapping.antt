@@ -1,0 +1,38 @@
+use Rattle.std.specs.Prelude.{ℕ, Bool, true, false, Option, None, Some}
+use Rattle.std.specs.Option.{option_and_then}
+use Rattle.casa_flight.specs.declared.call.Refusal.TheVariants.{NoFlight, NotIssued, OtherRegulation, TooEarly}
+use Rattle.casa_flight.specs.declared.reply.Reply.{Reply}
+use Rattle.casa_flight.specs.declared.row.Row.{Row}
+use Rattle.casa_flight.specs.Text.{Text}
+use Rattle.casa_flight.specs.Steps.{Exchange, are_too_early, reissued, is_shared}
+use Rattle.casa_answer.specs.Sight.{Sight, Written, nothing_written, clock_in}
+use Rattle.casa_answer.specs.FlightCalls.{refusal}
+use Rattle.casa_answer.specs.Issue.{with_issued_row}
+use Rattle.casa_answer.specs.Told.{done}
+
+-- each of two issued flights is written at the other's time, in the list that governs it
+abbrev pub exchanged : Sight → Exchange → Written
+exchanged v x =
+    with_issued_row v (with_issued_row v nothing_written x.key (reissued x.row x.time)) x.other (reissued x.mate x.cto)
+
+abbrev pub swap_if : Sight → Exchange → Bool → Bool → Reply × Written
+swap_if v x false early = refusal OtherRegulation
+swap_if v x true true = refusal TooEarly
+swap_if v x true false = done v (exchanged v x)
+
+abbrev pub swap_issued : Sight → Text → Row → Text → Row → Option ℕ → Option ℕ → Reply × Written
+swap_issued v key row other mate None time = refusal NotIssued
+swap_issued v key row other mate (Some cto) None = refusal NotIssued
+swap_issued v key row other mate (Some cto) (Some time) =
+    let x : Exchange = record { key = key; row = row; cto = cto; other = other; mate = mate; time = time } in
+    swap_if v x (is_shared row mate)
+    (are_too_early (clock_in v) (option_and_then v.list row.governing) (option_and_then v.list mate.governing) x)
+
+abbrev pub swapped : Sight → Text → Text → Option Row → Option Row → Reply × Written
+swapped v key other None mate = refusal NoFlight
+swapped v key other (Some row) None = refusal NoFlight
+swapped v key other (Some row) (Some mate) = swap_issued v key row other mate row.issued mate.issued
+
+-- the answer to an exchange of slots
+abbrev pub swap : Sight → Text → Text → Reply × Written
+swap v key other = swapped v key other (v.row key) (v.row other)
