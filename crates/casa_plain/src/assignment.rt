@@ -6,7 +6,7 @@ ghost use Rattle.std.specs.Option.{option_map_or};
 ghost use Rattle.casa_grid.specs.Slots.{slots, wanted, is_within};
 ghost use Rattle.casa_flight.specs.declared.comp.Assigned.{Assigned};
 ghost use Rattle.casa_flight.specs.Assignment.{assignment, is_blocked, is_free, is_from, is_open, is_taken};
-ghost use Rattle.casa_flight.specs.Assignment.{place_after, place_from};
+ghost use Rattle.casa_flight.specs.Assignment.{place_after};
 ghost use Rattle.casa_flight.specs.Text.{same_text};
 
 use casa_flight::{Assigned, Comp, Key};
@@ -79,21 +79,14 @@ fn first_free(grid: &Grid, issued: &[Moment], earlier: &[Assigned], eto: Moment)
     (0..grid.len()).find(|k| is_free(grid, issued, earlier, asked, *k))
 }
 
-/// The place at a slot; over without one.
-fn place_from(slot: Option<usize>) -> Place
-    ensures { result ≡ place_from slot }
-{
-    match slot {
-        Some(k) => Place::Slot(k),
-        None => Place::Over,
-    }
-}
-
-/// The place of a flight after those of the earlier competitors.
+/// The place of a flight after those of the earlier competitors: the earliest free slot, and over without one.
 fn place_after(grid: &Grid, issued: &[Moment], earlier: &[Assigned], eto: Moment) -> Place
     ensures { result ≡ place_after (record { slots = slots grid.now; issued = issued.now }) earlier.now eto }
 {
-    place_from(first_free(grid, issued, earlier, eto))
+    match first_free(grid, issued, earlier, eto) {
+        Some(k) => Place::Slot(k),
+        None => Place::Over,
+    }
 }
 
 /// The assignment of these competitors, in their order.

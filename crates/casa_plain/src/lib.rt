@@ -13,5 +13,6 @@ mod plain;
 mod plain_list;
 mod replies;
 mod steps;
+mod swapping;
 
 pub use plain::Plain;

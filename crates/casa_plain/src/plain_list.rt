@@ -2,10 +2,9 @@
 
 ghost use Rattle.std.specs.Prelude.{◌≡◌, ◌-◌, ◌≤◌, IfOk, OnOk, length};
 ghost use Rattle.std.specs.List.{filter_map};
+ghost use Rattle.std.specs.Option.{option_map_or};
 ghost use Rattle.casa_time.specs.Moment.{last_moment};
-ghost use Rattle.casa_grid.specs.Profile.{end_of};
 ghost use Rattle.casa_grid.specs.Slots.{slots, window_of};
-ghost use Rattle.casa_grid.specs.TimeOver.{cto as time_over};
 ghost use Rattle.casa_flight.specs.declared.row.Stance.{Stance};
 ghost use Rattle.casa_flight.specs.Text.{Text};
 ghost use Rattle.casa_flight.specs.Listing.{listing, kept, stance_in, competitor, issued_cto, in_order, is_before};
@@ -87,19 +86,6 @@ fn issued_times(alloc: Global, flights: &BTreeMap<Key, Stance>) -> Result<Vec<Mo
         .collect(alloc)
 }
 
-/// The places of the competitors among these flights, in the slots of this grid.
-fn places(
-    alloc: Global,
-    grid: &Grid,
-    flights: &BTreeMap<Key, Stance>,
-) -> Result<Vec<Assigned>, AllocError>
-    ensures { IfOk result (λ all. all.items ≡ places (record { profile = grid.now; flights = flights.now.entries })) }
-{
-    let issued = issued_times(alloc, flights)?;
-    let comps = competitors(alloc, flights)?;
-    assignment(alloc, grid, issued.as_slice(), comps.as_slice())
-}
-
 impl PlainList {
     /// The list of a regulation, among these flights.
     pub fn of(
@@ -148,7 +134,9 @@ impl PlainList {
     fn places(&self, alloc: Global) -> Result<Vec<Assigned>, AllocError>
         ensures { IfOk result (λ all. all.items ≡ places self.now) }
     {
-        places(alloc, &self.grid, &self.flights)
+        let issued = issued_times(alloc, &self.flights)?;
+        let comps = competitors(alloc, &self.flights)?;
+        assignment(alloc, &self.grid, issued.as_slice(), comps.as_slice())
     }
 
     /// The flight's place.
@@ -166,11 +154,15 @@ impl PlainList {
         self.flights.get(&key).copied()
     }
 
-    /// The calculated time over at a place in the list.
-    fn cto_at(&self, eto: Moment, place: Place) -> Moment
-        ensures { result ≡ time_over (slots self.now.profile) (end_of self.now.profile) eto place }
+    /// The flight's estimated time over, in seconds; 0 where it is not subject to the regulation.
+    pub fn eto_of(&self, key: Key) -> u32
+        ensures value { result ≡ option_map_or eto_as (stance_of self.now key) 0 }
+        ensures in_range { result ≤ last_moment }
     {
-        self.grid.cto(eto, place)
+        match self.stance_of(key) {
+            Some(stance) => stance.eto().secs(),
+            None => 0,
+        }
     }
 
     /// The calculated time over of the flight where it stands so.
@@ -178,7 +170,7 @@ impl PlainList {
         ensures { IfOk result (λ cto. cto ≡ cto_as self.now key stance.now) }
     {
         match stance {
-            Stance::Competing { eto } => Ok(self.cto_at(*eto, self.place_of(alloc, key)?)),
+            Stance::Competing { eto } => Ok(self.grid.cto(*eto, self.place_of(alloc, key)?)),
             Stance::Issued { cto, .. } => Ok(*cto),
             Stance::Forced { eto } => Ok(*eto),
         }

@@ -5,13 +5,14 @@ ghost use Rattle.casa_flight.specs.State.{measure_of, row_of, with_row};
 ghost use Rattle.casa_flight.specs.Listing.{ctot_of};
 ghost use Rattle.casa_flight.specs.Steps.{amend, cancel, close_regulation, exempt, file, list};
 ghost use Rattle.casa_flight.specs.Steps.{most_regulations, open_regulation, rates, revise, revise_to};
-ghost use Rattle.casa_flight.specs.Steps.{is_revised, show, step, tick, closed};
+ghost use Rattle.casa_flight.specs.Steps.{is_revised, show, step, take_in, tick, closed};
 ghost use Rattle.casa_plain.specs.Outcome.{step_of};
 
 use crate::flights::{freed_rows, governed_flights, newcomers};
 use crate::plain::Plain;
 use casa_flight::{
-    Call, Key, Loc, MAX_REGULATIONS, Measure, Plan, Refusal, RegId, Regulation, Row, has_span,
+    Call, Key, Loc, MAX_REGULATIONS, Measure, Plan, Refusal, RegId, Regulation, Row, ends_later,
+    keeps_span,
 };
 use casa_grid::Profile;
 use casa_time::Moment;
@@ -133,7 +134,20 @@ impl Plain {
         Ok(Outcome::Leads(new))
     }
 
-    /// An opened regulation takes in the flights that nothing governs and that may compete.
+    /// The state with a regulation of this measure, which opens or ends later than before: it takes in the flights that
+    /// nothing governs and that may compete.
+    fn take_in(&self, alloc: Global, id: RegId, measure: Measure) -> Result<Plain, AllocError>
+        ensures { IfOk result (λ m. m ≡ take_in self.now id measure) }
+    {
+        let regulation = Regulation::of(id, &measure);
+        let comps = newcomers(alloc, self.rows(), self.clock(), &regulation)?;
+        let mut new = self.copied()?;
+        new.put_measure(id, measure)?;
+        new.enter_all(alloc, comps.as_slice())?;
+        Ok(new)
+    }
+
+    /// An opened regulation takes in the flights that may compete.
     fn open_regulation(
         &self,
         alloc: Global,
@@ -155,16 +169,7 @@ impl Plain {
             loc,
             profile: profile.clone()?,
         };
-        let comps = newcomers(
-            alloc,
-            self.rows(),
-            self.clock(),
-            &Regulation::of(id, &measure),
-        )?;
-        let mut new = self.copied()?;
-        new.put_measure(id, measure)?;
-        new.enter_all(alloc, comps.as_slice())?;
-        Ok(Outcome::Leads(new))
+        Ok(Outcome::Leads(self.take_in(alloc, id, measure)?))
     }
 
     /// The state without a regulation, and the flights that it governed free.
@@ -191,20 +196,23 @@ impl Plain {
         Ok(Outcome::Leads(new))
     }
 
-    /// New rates replace the profile.
-    fn rates(&self, id: RegId, profile: &Profile) -> Result<Outcome, AllocError>
+    /// New rates replace the profile, and a later end takes flights in.
+    fn rates(&self, alloc: Global, id: RegId, profile: &Profile) -> Result<Outcome, AllocError>
         ensures { IfOk result (λ o. step_of o ≡ rates self.now id profile.now (measure_of self.now id)) }
     {
-        let Some(measure) = self.measure(id) else {
+        let Some(old) = self.measure(id) else {
             return Ok(Outcome::Refused(Refusal::NoRegulation));
         };
-        if !has_span(profile, &measure.profile) {
+        if !keeps_span(profile, &old.profile) {
             return Ok(Outcome::Refused(Refusal::SpanChanged));
         }
         let measure = Measure {
-            loc: measure.loc,
+            loc: old.loc,
             profile: profile.clone()?,
         };
+        if ends_later(profile, &old.profile) {
+            return Ok(Outcome::Leads(self.take_in(alloc, id, measure)?));
+        }
         let mut new = self.copied()?;
         new.put_measure(id, measure)?;
         Ok(Outcome::Leads(new))
@@ -255,10 +263,11 @@ impl Plain {
             Call::Exempt(key) => self.exempt(*key),
             Call::OpenReg(id, loc, profile) => self.open_regulation(alloc, *id, *loc, profile),
             Call::CloseReg(id) => self.close_regulation(alloc, *id),
-            Call::Rates(id, profile) => self.rates(*id, profile),
+            Call::Rates(id, profile) => self.rates(alloc, *id, profile),
             Call::Tick(at) => self.tick(alloc, *at),
             Call::Show(key) => self.show(*key),
             Call::List(id) => self.list(*id),
+            Call::Swap(key, other) => self.swap(alloc, *key, *other),
         }
     }
 }
