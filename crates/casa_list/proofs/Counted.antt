@@ -32,7 +32,7 @@ swapped : (a b n : ℕ) → a + (b + n) ≡ b + (a + n)
 swapped a b n = omega arith
 
 -- a time among those of the entries counts as one in front
-count_by-put : {S : Type 0} (p : ℕ → Bool) (kind : Text × S → Option ℕ) (k : Text) (v : S) (t : ℕ) → kind (k, v) ≡ Some t → (es : List (Text × S)) → IsAbsent k es → count_by p (filter_map kind (put es k v)) ≡ count_by p (t ∷ filter_map kind es)
+pub count_by-put : {S : Type 0} (p : ℕ → Bool) (kind : Text × S → Option ℕ) (k : Text) (v : S) (t : ℕ) → kind (k, v) ≡ Some t → (es : List (Text × S)) → IsAbsent k es → count_by p (filter_map kind (put es k v)) ≡ count_by p (t ∷ filter_map kind es)
 count_by-put p kind k v t is [] h = ap (λ (o : Option ℕ). count_by p (cons_option o [])) is
 count_by-put {S} p kind k v t is (e ∷ es) h =
     elim (text_cmp k e.0) as (λ r. text_cmp k e.0 ≡ r → count_by p (filter_map kind (match_ordering r ((k, v) ∷ e ∷ es) ((e.0, v) ∷ es) (e ∷ put es k v))) ≡ count_by p (t ∷ filter_map kind (e ∷ es))) [

@@ -1,8 +1,9 @@
 -- what a row of seats says of competitors and issued flights, once a seat is put into it or taken out
-use Rattle.std.proofs.Common.{◌≡◌, ℕ, ◌+◌, ◌<◌, ◌≤◌, List, length, drop, refl, sym, ◌∙◌, ap, subst, arith}
+use Rattle.std.proofs.Common.{◌≡◌, ℕ, ◌+◌, ◌<◌, ◌≤◌, List, length, drop, set, refl, sym, ◌∙◌, ap, subst, arith}
 use Rattle.std.specs.List.{All, insert, remove}
-use Rattle.std.proofs.lemmas.List.{length-take-le, length-drop, length-map}
+use Rattle.std.proofs.lemmas.List.{length-take-le, length-drop, length-map, length-set, drop-set-add}
 use Rattle.std.proofs.lemmas.List.Edits.{length-insert, length-remove}
+use Rattle.std.proofs.lemmas.List.Elements.{All-set}
 use Rattle.casa_flight.specs.declared.comp.Assigned.{Assigned}
 use Rattle.casa_list.specs.Governing.{Governing, HoldsTime, AreGoverning, governing, issued_in}
 use Rattle.casa_list.proofs.Seated.{drop-put_front, drop-out_front, drop-put_behind, drop-out_behind, All-insert, All-remove}
@@ -53,4 +54,14 @@ governs_out_behind n i xs ys lt out h =
     (record {
       within = omega (arith, size, lt);
       times = subst (All HoldsTime) (sym (drop-out_behind n i xs h.within)) (All-remove HoldsTime (drop n xs) i h.times);
+    })
+
+pub governs_set_behind : (n i : ℕ) (xs ys : List Assigned) (x : Assigned) → HoldsTime x → ys ≡ set xs (n + i) x → AreGoverning n xs → AreGoverning n ys
+governs_set_behind n i xs ys x time is h =
+    let within : n ≤ length xs = h.within in
+    let size : length (set xs (n + i) x) ≡ length xs = length-set xs (n + i) x in
+    subst (AreGoverning n) (sym is)
+    (record {
+      within = omega (arith, size, within);
+      times = subst (All HoldsTime) (sym (drop-set-add n xs i x)) (All-set HoldsTime (drop n xs) i x time h.times);
     })

@@ -1,6 +1,6 @@
 //! The flights that a regulation governs, as a list keeps them.
 
-ghost use Rattle.std.specs.Prelude.{◌≡◌, ◌∷◌, ◌++◌, ◌+◌, ◌<◌, ◌≤◌, [], Some, IfOk, OnOk, drop, length, map, take};
+ghost use Rattle.std.specs.Prelude.{◌≡◌, ◌∷◌, ◌++◌, ◌+◌, ◌<◌, ◌≤◌, [], Some, IfOk, OnOk, drop, length, map, set, take};
 ghost use Rattle.std.specs.List.{All, filter_map, insert, remove, slice_get};
 ghost use Rattle.std.specs.List.Sorted.{IsSortedBy};
 ghost use Rattle.casa_grid.specs.Slots.{slots};
@@ -229,6 +229,19 @@ impl Governed {
     {
         let at = index_of(self.issued(), comp);
         self.seats.remove(self.competitors + at);
+    }
+
+    /// Writes this flight, with this calculated time over, in place of the issued one that stands where it would go among
+    /// them; they are in their order.
+    pub fn reissue(&mut self, comp: &Comp, cto: Moment)
+        requires within { index_in self.old.issued comp.now < length self.old.issued }
+        requires sorted { IsSortedBy is_flight_before self.old.issued }
+        ensures competitors { self.new.competitors ≡ self.old.competitors }
+        ensures issued { self.new.issued ≡
+            set self.old.issued (index_in self.old.issued comp.now) (comp.now, Standing.Issued cto) }
+    {
+        let at = index_of(self.issued(), comp);
+        self.seats[self.competitors + at] = Seat::held(*comp, cto);
     }
 
     /// Takes the competitor at number `at` out and puts this flight among the issued ones, which are in their order, with

@@ -6,12 +6,12 @@ ghost use Rattle.casa_grid.specs.Slots.{slots, window_of};
 ghost use Rattle.casa_flight.specs.declared.row.Stance.{Stance};
 ghost use Rattle.casa_flight.specs.Text.{Text, at_name, put, without, same_text};
 ghost use Rattle.casa_flight.specs.Assignment.{place_from};
-ghost use Rattle.casa_flight.specs.Listing.{place_of, cto_of, cto_as, stance_of};
+ghost use Rattle.casa_flight.specs.Listing.{places, place_of, cto_of, cto_as, stance_of};
 ghost use Rattle.casa_flight.specs.Entry.{with_competitor};
 ghost use Rattle.casa_flight.specs.Good.{AreInOrder};
 ghost use Rattle.casa_list.specs.Walk.{IsWithin};
 ghost use Rattle.casa_flight.specs.IssuedTimes.{with_issued};
-ghost use Rattle.casa_list.specs.Standings.{standings, count_governed, governed_place, governed_cto, issue_cto, is_forced, competing_eto, forced_eto};
+ghost use Rattle.casa_list.specs.Standings.{standings, count_governed, governed_place, governed_cto, issue_cto, is_forced, competing_eto, forced_eto, issued_times, can_exchange, exchanged};
 
 use crate::blocked::{Blocked, block, counted, slot_of, unblock};
 use crate::copies::copied;
@@ -21,7 +21,7 @@ use crate::grid::SharedGrid;
 use crate::member::Member;
 use crate::order::{forced_entry, free_flight, index_of, put_forced, take_forced};
 use crate::stances::Stances;
-use crate::standing::Standing;
+use crate::standing::{Standing, Times};
 use crate::walk::{cto_at, place_behind, place_from};
 use casa_flight::{Comp, Key, Stance};
 use casa_grid::{Grid, Place};
@@ -176,6 +176,17 @@ impl SlotList {
     {
         match self.stance_of(key)? {
             Stance::Forced { eto } => Some(eto),
+            _ => None,
+        }
+    }
+
+    /// The estimated and the calculated time over of an issued flight.
+    fn issued_at(&self, key: &Key) -> Option<Times>
+        ensures value { result ≡ issued_times self.now key.now }
+        ensures found { IfSome result (λ times. stance_of self.now key.now ≡ Some (Stance.Issued times.eto times.cto)) }
+    {
+        match self.stance_of(key)? {
+            Stance::Issued { eto, cto } => Some(Times { eto, cto }),
             _ => None,
         }
     }
@@ -338,6 +349,40 @@ impl SlotList {
         Some(cto)
     }
 
+    /// Has two issued flights exchange their slots: each gets exactly the other's calculated time over. True where both are
+    /// issued in this list and neither new time is before the flight's own estimated time over (profile); else false, and
+    /// the list is as it was.
+    ///
+    /// Nobody else moves, and no memory is taken. A flight and itself exchange nothing, under the same conditions.
+    pub fn swap(&mut self, key: &Key, other: &Key) -> bool
+        ensures answer { result ≡ can_exchange self.old key.now other.now }
+        ensures exchanged { self.new ≡ (if result then exchanged self.old key.now other.now else self.old) }
+        ensures nobody_moves { places self.new ≡ places self.old }
+    {
+        let Some(one) = self.issued_at(key) else {
+            return false;
+        };
+        let Some(two) = self.issued_at(other) else {
+            return false;
+        };
+        if two.cto < one.eto || one.cto < two.eto {
+            return false;
+        }
+        let comp = Comp {
+            eto: one.eto,
+            key: *key,
+        };
+        let mate = Comp {
+            eto: two.eto,
+            key: *other,
+        };
+        write_issued(&mut self.flights, &comp, two.cto);
+        write_issued(&mut self.flights, &mate, one.cto);
+        self.governed.reissue(&comp, two.cto);
+        self.governed.reissue(&mate, one.cto);
+        true
+    }
+
     /// The place of a governed flight: what `leave` would give.
     pub fn place_of(&self, key: &Key) -> Option<Place>
         ensures { result ≡ governed_place self.now key.now }
@@ -445,9 +490,9 @@ impl SlotList {
     }
 }
 
-/// Writes a competitor as issued at this time, which takes no memory.
+/// Writes a flight that is there as issued, with these times over, which takes no memory.
 fn write_issued(flights: &mut Stances, comp: &Comp, cto: Moment)
-    requires { at_name flights.old comp.now.key ≡ Some (Stance.Competing comp.now.eto) }
+    requires { is_some (at_name flights.old comp.now.key) ≡ true }
     ensures { flights.new ≡ put flights.old comp.now.key (Stance.Issued comp.now.eto cto) }
 {
     let stance = Stance::Issued { eto: comp.eto, cto };

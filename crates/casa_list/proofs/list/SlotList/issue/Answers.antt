@@ -1,4 +1,4 @@
-use Rattle.std.proofs.Common.{◌≡◌, ◌∙◌, ◌+◌, ◌<◌, ◌≤◌, Some, true, ap, subst, length, rules, arith}
+use Rattle.std.proofs.Common.{◌≡◌, ◌∙◌, ◌+◌, ◌<◌, ◌≤◌, Some, true, is_some, ap, subst, length, rules, arith}
 use Rattle.std.specs.List.{remove}
 use Rattle.std.below.core.specs.declared.int.usize.TheConstants.{MAX}
 use Rattle.std.proofs.lemmas.Bool.{both_ways}
@@ -26,7 +26,7 @@ issue-requires-clause-within c =
     rw at (search rules)
 
 pub write_issued-requires : goal.write_issued-requires
-write_issued-requires c = stands _ _ c.args.key.now (Some (Competing c.in_ok-eto.eto)) c.self.view_is c.in_ok-eto.ensures.found
+write_issued-requires c = ap is_some (stands _ _ c.args.key.now (Some (Competing c.in_ok-eto.eto)) c.self.view_is c.in_ok-eto.ensures.found)
 
 pub issue-requires-clause-sorted : goal.issue-requires-clause-sorted
 issue-requires-clause-sorted c = sorted_issued c.self.invariant
