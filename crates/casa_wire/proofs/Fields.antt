@@ -3,7 +3,7 @@ use Rattle.std.proofs.Common.{◌≡◌, ◌++◌, refl}
 use Rattle.std.specs.Prelude.{codes}
 use Rattle.serde_json.proofs.OnLiterals.{serde_json_on_literals}
 use Rattle.casa_wire.specs.declared.fault.Field.{Field}
-use Rattle.casa_wire.specs.declared.fault.Field.TheVariants.{Key, Eobt, Taxi, Via, Sts, Reg, Loc, Periods, At}
+use Rattle.casa_wire.specs.declared.fault.Field.TheVariants.{Key, Eobt, Taxi, Via, Sts, Reg, Loc, Periods, At, Other}
 use Rattle.casa_wire.specs.declared.fault.WireFault.TheVariants.{BadField}
 use Rattle.casa_wire.specs.Fields.{field_name}
 use Rattle.casa_wire.specs.LineTexts.{fault_text}
@@ -19,3 +19,4 @@ field_text_is Reg = refl
 field_text_is Loc = refl
 field_text_is Periods = refl
 field_text_is At = refl
+field_text_is Other = refl

@@ -17,14 +17,14 @@ use Rattle.casa_flight.specs.declared.plan.PlanFault.{PlanFault}
 use Rattle.casa_flight.specs.declared.plan.PlanFault.TheVariants.{BadKey, TaxiTooLong, TooManyCrossings, SameLocation, EtoBeforeTakeOff, OutOfRange}
 use Rattle.casa_flight.specs.declared.plan.Sts.{Sts}
 use Rattle.casa_flight.specs.declared.call.Call.{Call}
-use Rattle.casa_flight.specs.declared.call.Call.TheVariants.{File as FileCall, Amend as AmendCall, Cancel as CancelCall, Revise as ReviseCall, Exempt as ExemptCall, Show as ShowCall, OpenReg as OpenCall, CloseReg as CloseCall, Rates as RatesCall, List as ListCall, Tick as TickCall}
-use Rattle.casa_wire.specs.declared.fault.Field.TheVariants.{Key, Eobt, Taxi, Via, Sts as Status, Reg, Loc, Periods, At}
+use Rattle.casa_flight.specs.declared.call.Call.TheVariants.{File as FileCall, Amend as AmendCall, Cancel as CancelCall, Revise as ReviseCall, Exempt as ExemptCall, Show as ShowCall, OpenReg as OpenCall, CloseReg as CloseCall, Rates as RatesCall, List as ListCall, Tick as TickCall, Swap as SwapCall}
+use Rattle.casa_wire.specs.declared.fault.Field.TheVariants.{Key, Eobt, Taxi, Via, Sts as Status, Reg, Loc, Periods, At, Other}
 use Rattle.casa_wire.specs.declared.fault.WireFault.{WireFault}
 use Rattle.casa_wire.specs.declared.fault.WireFault.TheVariants.{NotJson, NoCommand, BadField}
 use Rattle.casa_wire.specs.declared.reading.Command.{Command}
-use Rattle.casa_wire.specs.declared.reading.Command.TheVariants.{File, Amend, Cancel, Revise, Exempt, Show, Open, Close, Rates, List as Listing, Tick}
+use Rattle.casa_wire.specs.declared.reading.Command.TheVariants.{File, Amend, Cancel, Revise, Exempt, Show, Open, Close, Rates, List as Listing, Tick, Swap}
 use Rattle.casa_wire.specs.Members.{name_of, number_of, moment_of, via_of, periods_of, status_of, part}
-use Rattle.casa_wire.specs.Commands.{◌>>=◌, or_fault, checked_plan, plan_wire_fault, checked_profile, profile_wire_fault, plan_member, profile_member, file_call, amend_call, cancel_call, revise_call, exempt_call, show_call, open_call, close_call, rates_call, list_call, tick_call, call_of, command_of, line_value, line_call}
+use Rattle.casa_wire.specs.Commands.{◌>>=◌, or_fault, checked_plan, plan_wire_fault, checked_profile, profile_wire_fault, plan_member, profile_member, file_call, amend_call, cancel_call, revise_call, exempt_call, show_call, open_call, close_call, rates_call, list_call, tick_call, swap_call, call_of, command_of, line_value, line_call}
 use Rattle.casa_wire.specs.Checks.{Check, first_fault, plan_checks, command_checks, value_checks, line_checks, call_with, said_call}
 
 -- a meaning is the first fault of the checks or, where none holds, the call that is said
@@ -126,8 +126,17 @@ open_agrees None loc o = refl
 open_agrees (Some r) None o = refl
 open_agrees (Some r) (Some l) o = profile_agrees (OpenCall r l) o
 
+-- two keys
+swap_agrees : (key other : Option Text)
+    → Agrees (or_fault (BadField Key) key >>= (λ k. or_fault (BadField Other) other >>= (λ o. Ok (SwapCall k o))))
+    ((is_none key, BadField Key) ∷ (is_none other, BadField Other) ∷ [])
+    (option_and_then (λ k. option_and_then (λ o. Some (SwapCall k o)) other) key)
+swap_agrees None other = refl
+swap_agrees (Some k) None = refl
+swap_agrees (Some k) (Some o) = (refl, refl)
+
 command_agrees : (d : Data) (command : Command) → Agrees (call_of command d) (command_checks d command) (call_with d command)
-unfolding plan_member profile_member file_call amend_call cancel_call revise_call exempt_call show_call open_call close_call rates_call list_call tick_call
+unfolding plan_member profile_member file_call amend_call cancel_call revise_call exempt_call show_call open_call close_call rates_call list_call tick_call swap_call
 command_agrees d File = filing_agrees FileCall (part (codes "key") as_str d) (part (codes "eobt") moment_of d) (part (codes "taxi") number_of d) (part (codes "via") via_of d) (status_of (get (codes "sts") d))
 command_agrees d Amend = filing_agrees AmendCall (part (codes "key") as_str d) (part (codes "eobt") moment_of d) (part (codes "taxi") number_of d) (part (codes "via") via_of d) (status_of (get (codes "sts") d))
 command_agrees d Cancel = one_member (BadField Key) CancelCall (part (codes "key") name_of d)
@@ -139,6 +148,7 @@ command_agrees d Close = one_member (BadField Reg) CloseCall (part (codes "reg")
 command_agrees d Rates = rates_agrees (part (codes "reg") name_of d) (part (codes "periods") periods_of d)
 command_agrees d Listing = one_member (BadField Reg) ListCall (part (codes "reg") name_of d)
 command_agrees d Tick = one_member (BadField At) TickCall (part (codes "at") moment_of d)
+command_agrees d Swap = swap_agrees (part (codes "key") name_of d) (part (codes "other") name_of d)
 
 -- what is no object has no command
 value_agrees : (d : Data) (o : Option Command) → (as_object d ≡ None → o ≡ None)

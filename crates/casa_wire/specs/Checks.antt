@@ -9,13 +9,13 @@ use Rattle.casa_flight.specs.Text.{is_name}
 use Rattle.casa_flight.specs.FlightPlan.{FlightPlan, longest_taxi, most_crossings, etot}
 use Rattle.casa_flight.specs.PlanFaults.{has_twice, has_early}
 use Rattle.casa_flight.specs.declared.call.Call.{Call}
-use Rattle.casa_flight.specs.declared.call.Call.TheVariants.{File as FileCall, Amend as AmendCall, Cancel as CancelCall, Revise as ReviseCall, Exempt as ExemptCall, Show as ShowCall, OpenReg as OpenCall, CloseReg as CloseCall, Rates as RatesCall, List as ListCall, Tick as TickCall}
+use Rattle.casa_flight.specs.declared.call.Call.TheVariants.{File as FileCall, Amend as AmendCall, Cancel as CancelCall, Revise as ReviseCall, Exempt as ExemptCall, Show as ShowCall, OpenReg as OpenCall, CloseReg as CloseCall, Rates as RatesCall, List as ListCall, Tick as TickCall, Swap as SwapCall}
 use Rattle.casa_wire.specs.declared.fault.Field.{Field}
-use Rattle.casa_wire.specs.declared.fault.Field.TheVariants.{Key, Eobt, Taxi, Via, Sts as Status, Reg, Loc, Periods, At}
+use Rattle.casa_wire.specs.declared.fault.Field.TheVariants.{Key, Eobt, Taxi, Via, Sts as Status, Reg, Loc, Periods, At, Other}
 use Rattle.casa_wire.specs.declared.fault.WireFault.{WireFault}
 use Rattle.casa_wire.specs.declared.fault.WireFault.TheVariants.{NotJson, NoCommand, BadField}
 use Rattle.casa_wire.specs.declared.reading.Command.{Command}
-use Rattle.casa_wire.specs.declared.reading.Command.TheVariants.{File, Amend, Cancel, Revise, Exempt, Show, Open, Close, Rates, List as Listing, Tick}
+use Rattle.casa_wire.specs.declared.reading.Command.TheVariants.{File, Amend, Cancel, Revise, Exempt, Show, Open, Close, Rates, List as Listing, Tick, Swap}
 use Rattle.casa_wire.specs.Fields.{field_name}
 use Rattle.casa_wire.specs.Members.{name_of, number_of, moment_of, via_of, periods_of, status_of, part, ◌>>=◌}
 use Rattle.casa_wire.specs.Commands.{command_of, line_value}
@@ -81,6 +81,7 @@ command_checks d Close = lacks Reg name_of d ∷ []
 command_checks d Rates = lacks Reg name_of d ∷ lacks Periods periods_of d ∷ bad_profile d ∷ []
 command_checks d Listing = lacks Reg name_of d ∷ []
 command_checks d Tick = lacks At moment_of d ∷ []
+command_checks d Swap = lacks Key name_of d ∷ lacks Other name_of d ∷ []
 
 -- of a JSON value: that it is an object, that its command is known, and the checks of that
 abbrev pub value_checks : Data → List Check
@@ -112,6 +113,10 @@ call_with d Rates = do
   Some (RatesCall reg periods)
 call_with d Listing = option_map ListCall (part (codes "reg") name_of d)
 call_with d Tick = option_map TickCall (part (codes "at") moment_of d)
+call_with d Swap = do
+  key ← part (codes "key") name_of d
+  other ← part (codes "other") name_of d
+  Some (SwapCall key other)
 
 -- the call that a line says: that of the command and the members of its value
 abbrev pub said_call : List ℕ → Option Call

@@ -15,13 +15,13 @@ use Rattle.casa_flight.specs.declared.plan.PlanFault.{PlanFault}
 use Rattle.casa_flight.specs.declared.plan.PlanFault.TheVariants.{BadKey, TaxiTooLong, TooManyCrossings, SameLocation, EtoBeforeTakeOff, OutOfRange, NoMemory as NoMemoryForPlan}
 use Rattle.casa_flight.specs.declared.plan.Sts.{Sts}
 use Rattle.casa_flight.specs.declared.call.Call.{Call}
-use Rattle.casa_flight.specs.declared.call.Call.TheVariants.{File as FileCall, Amend as AmendCall, Cancel as CancelCall, Revise as ReviseCall, Exempt as ExemptCall, Show as ShowCall, OpenReg as OpenCall, CloseReg as CloseCall, Rates as RatesCall, List as ListCall, Tick as TickCall}
+use Rattle.casa_flight.specs.declared.call.Call.TheVariants.{File as FileCall, Amend as AmendCall, Cancel as CancelCall, Revise as ReviseCall, Exempt as ExemptCall, Show as ShowCall, OpenReg as OpenCall, CloseReg as CloseCall, Rates as RatesCall, List as ListCall, Tick as TickCall, Swap as SwapCall}
 use Rattle.casa_wire.specs.declared.fault.Field.{Field}
-use Rattle.casa_wire.specs.declared.fault.Field.TheVariants.{Key, Eobt, Taxi, Via, Sts as Status, Reg, Loc, Periods, At}
+use Rattle.casa_wire.specs.declared.fault.Field.TheVariants.{Key, Eobt, Taxi, Via, Sts as Status, Reg, Loc, Periods, At, Other}
 use Rattle.casa_wire.specs.declared.fault.WireFault.{WireFault}
 use Rattle.casa_wire.specs.declared.fault.WireFault.TheVariants.{NotJson, NoCommand, BadField, NoMemory}
 use Rattle.casa_wire.specs.declared.reading.Command.{Command}
-use Rattle.casa_wire.specs.declared.reading.Command.TheVariants.{File, Amend, Cancel, Revise, Exempt, Show, Open, Close, Rates, List as Listing, Tick}
+use Rattle.casa_wire.specs.declared.reading.Command.TheVariants.{File, Amend, Cancel, Revise, Exempt, Show, Open, Close, Rates, List as Listing, Tick, Swap}
 use Rattle.casa_wire.specs.Fields.{field_name}
 use Rattle.casa_wire.specs.Members.{name_of, number_of, moment_of, via_of, periods_of, status_of}
 
@@ -139,6 +139,12 @@ tick_call d = do
   at ← member At moment_of d
   Ok (TickCall at)
 
+unfoldable pub swap_call : Data → Result Call WireFault
+swap_call d = do
+  key ← member Key name_of d
+  other ← member Other name_of d
+  Ok (SwapCall key other)
+
 abbrev pub call_of : Command → Data → Result Call WireFault
 call_of File d = file_call d
 call_of Amend d = amend_call d
@@ -151,6 +157,7 @@ call_of Close d = close_call d
 call_of Rates d = rates_call d
 call_of Listing d = list_call d
 call_of Tick d = tick_call d
+call_of Swap d = swap_call d
 
 abbrev pub command_named : Text → Option Command
 command_named text =
@@ -164,7 +171,8 @@ command_named text =
     else (if bytes_eq text (codes "close") then Some Close
     else (if bytes_eq text (codes "rates") then Some Rates
     else (if bytes_eq text (codes "list") then Some Listing
-    else (if bytes_eq text (codes "tick") then Some Tick else None))))))))))
+    else (if bytes_eq text (codes "tick") then Some Tick
+    else (if bytes_eq text (codes "swap") then Some Swap else None)))))))))))
 
 abbrev pub command_of : Data → Option Command
 command_of d = option_and_then command_named (option_and_then as_str (get (codes "cmd") d))

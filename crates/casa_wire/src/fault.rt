@@ -16,6 +16,7 @@ pub enum Field {
     Loc,
     Periods,
     At,
+    Other,
 }
 
 impl Field {
@@ -33,6 +34,7 @@ impl Field {
             Field::Loc => "loc",
             Field::Periods => "periods",
             Field::At => "at",
+            Field::Other => "other",
         }
     }
 }

@@ -3,7 +3,7 @@
 ghost use Rattle.std.specs.Prelude.{◌≡◌};
 ghost use Rattle.serde_json.specs.View.{view};
 ghost use Rattle.casa_wire.specs.declared.fault.WireFault.TheVariants.{NotJson};
-ghost use Rattle.casa_wire.specs.Commands.{Gives, GivesAs, command_named, command_of, line_call, line_value, or_fault, file_call, amend_call, cancel_call, revise_call, exempt_call, show_call, open_call, close_call, rates_call, list_call, plan_member, plan_wire_fault, profile_member, profile_wire_fault, tick_call};
+ghost use Rattle.casa_wire.specs.Commands.{Gives, GivesAs, command_named, command_of, line_call, line_value, or_fault, file_call, amend_call, cancel_call, revise_call, exempt_call, show_call, open_call, close_call, rates_call, list_call, plan_member, plan_wire_fault, profile_member, profile_wire_fault, swap_call, tick_call};
 
 use crate::fault::{Field, WireFault};
 use crate::member::{
@@ -29,6 +29,7 @@ enum Command {
     Rates,
     List,
     Tick,
+    Swap,
 }
 
 /// The call that a line is, without its line end, or the first fault that holds, in the order of `WireFault`.
@@ -54,6 +55,7 @@ pub fn read_call(alloc: Global, line: &[u8]) -> Result<Call, WireFault>
         Command::Rates => rates_call(alloc, &value),
         Command::List => list_call(&value),
         Command::Tick => tick_call(&value),
+        Command::Swap => swap_call(&value),
     }
 }
 
@@ -103,6 +105,8 @@ fn command_named(text: &str) -> Option<Command>
         Some(Command::List)
     } else if text == "tick" {
         Some(Command::Tick)
+    } else if text == "swap" {
+        Some(Command::Swap)
     } else {
         None
     }
@@ -197,6 +201,15 @@ fn tick_call(value: &Value) -> Result<Call, WireFault>
 {
     let at = moment_member(value, Field::At)?;
     Ok(Call::Tick(at))
+}
+
+#[tactic(auto, unfolding(crate::specs::Commands::swap_call))]
+fn swap_call(value: &Value) -> Result<Call, WireFault>
+    ensures { Gives result (swap_call (view value.now)) }
+{
+    let key = key_member(value, Field::Key)?;
+    let other = key_member(value, Field::Other)?;
+    Ok(Call::Swap(key, other))
 }
 
 #[tactic(auto, unfolding(crate::specs::Commands::plan_member))]
