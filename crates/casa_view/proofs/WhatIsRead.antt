@@ -1,8 +1,8 @@
 -- what was read is what the call reads
-use Rattle.std.proofs.Common.{◌≡◌, ℕ, List, [], ◌∷◌, map, Bool, true, false, cond, ◌||◌, ◌&&◌, is_some, refl, sym, ap}
+use Rattle.std.proofs.Common.{◌≡◌, ℕ, List, [], ◌∷◌, map, Bool, true, false, cond, ◌||◌, ◌&&◌, is_some, nat_lt, refl, sym, ap}
 use Rattle.std.proofs.Common.{◌∙◌, subst, Option, None, Some}
-use Rattle.std.proofs.Math.Bool.{or-false}
-use Rattle.std.specs.Prelude.{Result, IfOk}
+use Rattle.std.proofs.Math.Bool.{or-false, or-true}
+use Rattle.std.specs.Prelude.{Result, IfOk, if◌then◌else◌}
 use Rattle.std.specs.Option.{option_map, option_map_or, option_and_then}
 use Rattle.std.specs.List.{list_any}
 use Rattle.std.specs.List.Sorted.{IsStrictlySortedBy}
@@ -10,9 +10,10 @@ use Rattle.std.specs.Ordering.{is_eq}
 use Rattle.std.proofs.lemmas.Cmp.{nat_list_eq_equiv}
 use Rattle.std.proofs.lemmas.Result.{IfOk-weaker}
 use Rattle.casa_grid.specs.declared.period.Period.{Period}
+use Rattle.casa_grid.specs.Profile.{end_of}
 use Rattle.casa_flight.specs.declared.call.Call.{Call}
 use Rattle.casa_flight.specs.declared.call.Call.TheVariants.{File, Amend, Cancel, Revise, Exempt, Rates, Show}
-use Rattle.casa_flight.specs.declared.call.Call.TheVariants.{List as ListOf}
+use Rattle.casa_flight.specs.declared.call.Call.TheVariants.{List as ListOf, Swap}
 use Rattle.casa_flight.specs.declared.regulation.Regulation.{Regulation}
 use Rattle.casa_flight.specs.declared.regulation.Measure.{Measure}
 use Rattle.casa_flight.specs.declared.row.Row.{Row}
@@ -23,19 +24,21 @@ use Rattle.casa_flight.specs.FlightPlan.{FlightPlan}
 use Rattle.casa_flight.specs.State as state
 use Rattle.casa_flight.specs.State.{regulation, subject, is_governed_by}
 use Rattle.casa_flight.specs.Listing.{Listing, list_of}
+use Rattle.casa_flight.specs.Steps.{ends_later, extends}
 use Rattle.casa_flight.specs.Good.{AreInOrder}
 use Rattle.casa_flight.proofs.Entries.{text_cmp, same_name}
 use Rattle.casa_laws.proofs.Kept.{Above, at_above, at-kept}
 use Rattle.casa_footprint.specs.Items.{ItemName, the_clock, the_catalogue, a_row, a_list}
 use Rattle.casa_footprint.specs.Footprint.{reads, is_subject, is_list_of, governs, is_forced}
+use Rattle.casa_footprint.proofs.Catalogue.{at-catalogue}
 use Rattle.casa_table.specs.declared.item.Item.{Item}
 use Rattle.casa_view.specs.declared.view.View.{View}
-use Rattle.casa_table.specs.Versions.{Versions, regulations_of, row_of, list_at, shown_state}
+use Rattle.casa_table.specs.Versions.{Versions, version_at, regulations_of, row_of, list_at, shown_state}
 use Rattle.casa_view.specs.Standing.{StandsWell, standing}
 use Rattle.casa_table.specs.Crossed.{meets}
 use Rattle.casa_view.specs.View.{IsTaken}
 use Rattle.casa_view.specs.Taking.{meets_if, meets_either, is_of, named, row_at, plan_at, governing_at, has_forced}
-use Rattle.casa_view.specs.Taking.{forced_at, governs_forced_at, IsRead}
+use Rattle.casa_view.specs.Taking.{forced_at, governs_forced_at, extends_in, read_by_rates, IsRead}
 use Rattle.casa_named.proofs.Found.{same_test}
 
 -- a view with the versions of these items, which are what the call reads
@@ -47,6 +50,30 @@ is_read item_of number vs call called is test r taken same =
     IfOk-weaker r (IsTaken vs test) (IsRead item_of number vs called)
     (λ v t. (test, t, λ well i. same well i ∙ ap (λ (c : Call). reads (shown_state item_of vs) c i) (sym is)))
     taken
+
+-- a view with the versions of items that pass one test has those that pass another that is the same
+pub taken_same : {V E : Type 0} (vs : Versions V) (t u : ItemName → Bool) (r : Result (View V) E) →
+    ((i : ItemName) → t i ≡ u i) → IfOk r (IsTaken vs t) → IfOk r (IsTaken vs u)
+taken_same vs t u r same =
+    IfOk-weaker r (IsTaken vs t) (IsTaken vs u)
+    (λ v taken i. taken i ∙ ap (λ (b : Bool). if b then Some (version_at vs i) else None) (same i))
+
+-- new rates with a later end read all items
+pub all_by_rates : (id : Text) (later : Bool) → later ≡ true → (i : ItemName) → true ≡ read_by_rates id later i
+all_by_rates id later e the_clock = sym e
+all_by_rates id later e the_catalogue = refl
+all_by_rates id later e (a_row key) = sym e
+all_by_rates id later e (a_list q) =
+    sym (or-true (same_text id q)) ∙ ap (λ (b : Bool). same_text id q || b) (sym e)
+
+-- with none they read the catalogue and the list
+pub list_by_rates : (id : Text) (later : Bool) → later ≡ false → (i : ItemName) →
+    named false true (λ q. false) (same_text id) i ≡ read_by_rates id later i
+list_by_rates id later e the_clock = sym e
+list_by_rates id later e the_catalogue = refl
+list_by_rates id later e (a_row key) = sym e
+list_by_rates id later e (a_list q) =
+    sym (or-false (same_text id q)) ∙ ap (λ (b : Bool). same_text id q || b) (sym e)
 
 first_only : (x y : Bool) → y ≡ false → ((x && true) || y) ≡ x
 first_only true y e = refl
@@ -153,13 +180,27 @@ module _ {V : Type 0} (item_of : V → Item) (number : V → ℕ) (vs : Versions
   revise_reads key (a_row q) = refl
   revise_reads key (a_list id) = or-false _ ∙ old_lists key id
 
+  -- a later end than the catalogue has is a later end than that of the open regulation
+  extends_is : (id : Text) (profile : List Period) → extends_in regs id profile ≡ extends here id profile
+  extends_is id profile =
+      ap (λ (rs : List Regulation). extends_in rs id profile) (sym well.catalogue_is)
+      ∙ ap later_than (at-catalogue here.regs id)
+      ∙ by (state.measure_of here id)
+    where
+      later_than : Option Regulation → Bool
+      later_than w = option_map_or (λ (r : Regulation). nat_lt r.end (end_of profile)) w false
+
+      by : (w : Option Measure) → later_than (option_map (regulation id) w)
+          ≡ option_map_or (λ (measure : Measure). ends_later profile measure.profile) w false
+      by None = refl
+      by (Some measure) = refl
+
   pub rates_reads : (id : Text) (profile : List Period) (i : ItemName) →
-      named false true (λ q. false) (same_text id) i
-      ≡ reads here (Rates id profile) i
-  rates_reads id profile the_clock = refl
+      read_by_rates id (extends_in regs id profile) i ≡ reads here (Rates id profile) i
+  rates_reads id profile the_clock = extends_is id profile
   rates_reads id profile the_catalogue = refl
-  rates_reads id profile (a_row q) = refl
-  rates_reads id profile (a_list q) = refl
+  rates_reads id profile (a_row q) = extends_is id profile
+  rates_reads id profile (a_list q) = ap (λ (b : Bool). same_text id q || b) (extends_is id profile)
 
   other_side : (a b : Text) → same_text a b ≡ same_text b a
   other_side a b = nat_list_eq_equiv.symm a b
@@ -186,6 +227,15 @@ module _ {V : Type 0} (item_of : V → Item) (number : V → ℕ) (vs : Versions
   show_reads key the_catalogue = refl
   show_reads key (a_row q) = refl
   show_reads key (a_list id) = governs_is key id
+
+  pub swap_reads : (key other : Text) (i : ItemName) →
+      named true false (λ q. same_text key q || same_text other q)
+      (λ q. is_of (governing_at item_of vs key) q || is_of (governing_at item_of vs other) q) i
+      ≡ reads here (Swap key other) i
+  swap_reads key other the_clock = refl
+  swap_reads key other the_catalogue = refl
+  swap_reads key other (a_row q) = refl
+  swap_reads key other (a_list id) = λ j. governs_is key id j || governs_is other id j
 
   -- the flights that are forced in a list, by the list of the state and its rows
   forced_is : (s t : Text → Bool) → ((k : Text) → s k ≡ t k) → (id : Text) →

@@ -1,6 +1,8 @@
-use Rattle.std.specs.Prelude.{◌≡◌, ℕ, List, Bool, false, ◌||◌, ◌&&◌, Option, None, Some, if◌then◌else◌}
+use Rattle.std.specs.Prelude.{◌≡◌, ℕ, List, Bool, true, false, ◌||◌, ◌&&◌, nat_lt, Option, None, Some, if◌then◌else◌}
 use Rattle.std.specs.Option.{option_map, option_map_or, option_and_then}
 use Rattle.std.specs.List.{list_any}
+use Rattle.casa_grid.specs.declared.period.Period.{Period}
+use Rattle.casa_grid.specs.Profile.{end_of}
 use Rattle.casa_flight.specs.declared.call.Call.{Call}
 use Rattle.casa_flight.specs.declared.regulation.Regulation.{Regulation}
 use Rattle.casa_flight.specs.declared.row.Row.{Row}
@@ -9,6 +11,7 @@ use Rattle.casa_flight.specs.Text.{Text, at_name, same_text}
 use Rattle.casa_flight.specs.FlightPlan.{FlightPlan}
 use Rattle.casa_flight.specs.Listing.{Listing}
 use Rattle.casa_footprint.specs.Items.{ItemName, the_clock, the_catalogue, a_row, a_list}
+use Rattle.casa_footprint.specs.Finding.{by_id}
 use Rattle.casa_footprint.specs.Footprint.{reads, is_forced}
 use Rattle.casa_table.specs.declared.item.Item.{Item}
 use Rattle.casa_view.specs.declared.view.View.{View}
@@ -68,6 +71,15 @@ forced_at item_of vs id key = has_forced (λ k. same_text k key) (list_at item_o
 abbrev pub governs_forced_at : {V : Type 0} → (V → Item) → Versions V → Text → Text → Bool
 governs_forced_at item_of vs id other =
     has_forced (λ k. is_of (governing_at item_of vs k) other) (list_at item_of vs id)
+
+-- whether a profile ends later than the regulation that a catalogue has under an identifier
+abbrev pub extends_in : List Regulation → Text → List Period → Bool
+extends_in regs id profile =
+    option_map_or (λ (r : Regulation). nat_lt r.end (end_of profile)) (at_name (by_id regs) id) false
+
+-- what new rates read, with a later end or not: all items, or the catalogue and the list
+abbrev pub read_by_rates : Text → Bool → ItemName → Bool
+read_by_rates id later = named later true (λ q. later) (λ q. same_text id q || later)
 
 -- a view with the versions of what the call reads on a board that stands well;
 -- its versions are present ones in any case

@@ -11,12 +11,14 @@ ghost use Rattle.casa_table.specs.Versions.{IsInOrder, regulations_of, row_of, l
 ghost use Rattle.casa_view.specs.View.{IsTaken};
 ghost use Rattle.casa_view.specs.Taking.{Sees, SeesAlso, meets_if, meets_either, is_of, named, IsRead};
 ghost use Rattle.casa_view.specs.Taking.{plan_at, governing_at, has_forced, forced_at, governs_forced_at};
+ghost use Rattle.casa_view.specs.Taking.{extends_in, read_by_rates};
 
 use crate::contents::list_in;
 use crate::items::Items;
 use crate::rows::row_of;
 use crate::view::{Part, View};
 use casa_flight::{Call, Key, OfFlight, OfRegulation, Plan, RegId, Row, Stance};
+use casa_grid::Profile;
 use casa_list::SlotList;
 use casa_named::Few;
 use casa_table::{Crossings, Item, Version};
@@ -55,6 +57,20 @@ fn crossed(alloc: Global, catalogue: &Item, plan: &Plan) -> Result<Crossings, Al
         Item::Catalogue(catalogue) => catalogue.crossed(alloc, plan),
         _ => Ok(Few::new(alloc)),
     }
+}
+
+/// Whether a profile ends later than the regulation that a catalogue has under this identifier.
+fn extends(catalogue: &Item, id: &RegId, profile: &Profile) -> bool
+    ensures { result ≡ extends_in (regulations_of catalogue.now) id.now profile.now }
+{
+    let Item::Catalogue(catalogue) = catalogue else {
+        return false;
+    };
+    let Some(regulation) = catalogue.get(id) else {
+        return false;
+    };
+    let (_, end) = profile.span();
+    regulation.end < end
 }
 
 /// The plan of a flight with this row, if there is one.
@@ -244,8 +260,8 @@ impl<V: Version> Items<V> {
         self.view_with(clock, true, row, lists)
     }
 
-    /// What a change of rates reads.
-    fn rates_view(&self, alloc: Global, id: &RegId) -> Result<View<V>, AllocError>
+    /// The catalogue and the list of a regulation.
+    fn regulation_view(&self, alloc: Global, id: &RegId) -> Result<View<V>, AllocError>
         ensures { IfOk result (IsTaken (versions self.now) (named false true (λ q. false) (same_text id.now))) }
     {
         let lists = self.one_list(alloc, Some(*id))?;
@@ -338,6 +354,20 @@ impl<V: Version> Items<V> {
         self.view_with(false, true, rows, lists)
     }
 
+    /// What an exchange of slots between two flights reads.
+    fn swap_view(&self, alloc: Global, key: &Key, other: &Key) -> Result<View<V>, AllocError>
+        ensures { IfOk result (IsTaken (versions self.now) (named true false
+            (λ q. same_text key.now q || same_text other.now q)
+            (λ q. is_of (governing_at V.item_of (versions self.now) key.now) q
+            || is_of (governing_at V.item_of (versions self.now) other.now) q))) }
+    {
+        let mut rows = Few::new(alloc);
+        let mut lists = Few::new(alloc);
+        self.see_flight(&mut rows, &mut lists, other)?;
+        self.see_flight(&mut rows, &mut lists, key)?;
+        self.view_with(true, false, rows, lists)
+    }
+
     /// All items: a few counts, whatever their number.
     fn whole_view(&self) -> Result<View<V>, AllocError>
         ensures { IfOk result (IsTaken (versions self.now) (λ i. true)) }
@@ -348,6 +378,24 @@ impl<V: Version> Items<V> {
             rows: Part::All(self.rows.share()?),
             lists: Part::All(self.lists.share()?),
         })
+    }
+
+    /// What new rates read: all items where they end later than the catalogue has it, for flights may then enter, and
+    /// else the catalogue and the list.
+    fn rates_view(
+        &self,
+        alloc: Global,
+        id: &RegId,
+        profile: &Profile,
+    ) -> Result<View<V>, AllocError>
+        ensures { IfOk result (IsTaken (versions self.now) (read_by_rates id.now
+            (extends_in (regulations_of (V.item_of self.now.catalogue)) id.now profile.now))) }
+    {
+        if extends(self.catalogue.item(), id, profile) {
+            self.whole_view()
+        } else {
+            self.regulation_view(alloc, id)
+        }
     }
 
     /// What a call reads.
@@ -364,9 +412,10 @@ impl<V: Version> Items<V> {
             Call::OpenReg(_, _, _) => self.whole_view(),
             Call::CloseReg(_) => self.whole_view(),
             Call::Tick(_) => self.whole_view(),
-            Call::Rates(id, _) => self.rates_view(alloc, id),
+            Call::Rates(id, profile) => self.rates_view(alloc, id, profile),
             Call::Show(key) => self.show_view(alloc, key),
             Call::List(id) => self.list_view(alloc, id),
+            Call::Swap(key, other) => self.swap_view(alloc, key, other),
         }
     }
 }

@@ -1,13 +1,12 @@
-use Rattle.std.proofs.Common.{◌||◌, Bool, true, false, Option, None, Some, refl, ap, ◌∙◌}
-use Rattle.std.specs.Option.{option_copied}
+use Rattle.std.proofs.Common.{◌||◌, Bool, true, false, None, Some, refl, ap, ◌∙◌}
 use Rattle.casa_flight.specs.Text.{Text, same_text}
-use Rattle.casa_flight.specs.FlightPlan.{FlightPlan}
 use Rattle.casa_footprint.specs.Items.{ItemName}
 use Rattle.casa_table.specs.Versions.{regulations_of}
 use Rattle.casa_view.specs.Board.{versions}
 use Rattle.casa_view.specs.Taking.{meets_either, is_of, named, plan_at, governing_at, forced_at, governs_forced_at}
+use Rattle.casa_view.specs.Taking.{extends_in, read_by_rates}
 use Rattle.casa_view.proofs.WhatIsRead.{is_read, file_reads, amend_reads, cancel_reads, revise_reads, exempt_reads}
-use Rattle.casa_view.proofs.WhatIsRead.{rates_reads, show_reads, list_reads}
+use Rattle.casa_view.proofs.WhatIsRead.{rates_reads, show_reads, list_reads, swap_reads}
 use Rattle.casa_view.proofs.items.Items.view.Goals as goal
 
 pub returns-in-File : goal.returns-in-File
@@ -89,10 +88,12 @@ returns-in-Rates g c =
     let vs = versions c.args.self.now in
     let item_of = g.V.Version.item_of in
     let number = g.V.Version.number in
+    let id = c.in-Rates.id in
+    let profile = c.in-Rates.profile in
     is_read item_of number vs _ _ c.in-Rates.is
-    (named false true (λ q. false) (same_text c.in-Rates.id))
+    (read_by_rates id (extends_in (regulations_of (item_of vs.catalogue)) id profile))
     _ c.rates_view.ensures
-    (λ well i. rates_reads item_of number vs c.requires.rows well c.in-Rates.id c.in-Rates.field-1 i)
+    (λ well i. rates_reads item_of number vs c.requires.rows well id profile i)
 
 pub returns-in-Show : goal.returns-in-Show
 returns-in-Show g c =
@@ -115,3 +116,16 @@ returns-in-List g c =
     (named false true (forced_at item_of vs id) (λ q. same_text id q || governs_forced_at item_of vs id q))
     _ c.list_view.ensures
     (λ well i. list_reads item_of number vs c.requires.rows well id i)
+
+pub returns-in-Swap : goal.returns-in-Swap
+returns-in-Swap g c =
+    let vs = versions c.args.self.now in
+    let item_of = g.V.Version.item_of in
+    let number = g.V.Version.number in
+    let key = c.in-Swap.key in
+    let other = c.in-Swap.other in
+    is_read item_of number vs _ _ c.in-Swap.is
+    (named true false (λ q. same_text key q || same_text other q)
+    (λ q. is_of (governing_at item_of vs key) q || is_of (governing_at item_of vs other) q))
+    _ c.swap_view.ensures
+    (λ well i. swap_reads item_of number vs c.requires.rows well key other i)
