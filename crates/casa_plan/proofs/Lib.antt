@@ -2,7 +2,7 @@ pub mod Seen
 pub mod Replayed
 pub mod Standing
 pub mod Entered
-pub mod Opened
+pub mod TakenIn
 pub mod Closed
 pub mod Answered
 pub mod Members

@@ -1,3 +1,4 @@
 pub mod Seen
 pub mod Rooms
 pub mod Rows
+pub mod TakingIn

@@ -1,17 +1,15 @@
 //! The planner of the clock.
 
-ghost use Rattle.std.specs.Prelude.{◌≡◌, IfOk, OnOk, option_copied};
+ghost use Rattle.std.specs.Prelude.{◌≡◌, IfOk, OnOk};
 ghost use Rattle.std.specs.Option.{option_and_then};
 ghost use Rattle.casa_flight.specs.Listing.{Listing, cto_of};
-ghost use Rattle.casa_answer.specs.Write.{with_stances};
-ghost use Rattle.casa_answer.specs.Issue.{governed_stance, governed_stances, with_issue, with_issues, tick};
+ghost use Rattle.casa_answer.specs.Issue.{with_issue, with_issues, tick};
 ghost use Rattle.casa_plan.specs.Seen.{sight};
 
+use crate::issuing::write_issued;
 use crate::replies::{done, refused};
 use crate::sighted::clock;
-use crate::write::stand;
-use casa_flight::{Key, Refusal, Reply, Row, Stance};
-use casa_list::SlotList;
+use casa_flight::{Key, Refusal, Reply, Row};
 use casa_time::Moment;
 use casa_view::{Change, Version, View};
 use std::alloc::{AllocError, Global};
@@ -24,33 +22,6 @@ fn time_shown<V: Version>(view: &View<V>, key: &Key, row: &Row) -> Option<Moment
     let list = view.list(&row.governing?)?;
     let stance = list.stance_of(key)?;
     Some(list.cto_of(key).unwrap_or(stance.eto()))
-}
-
-/// How a flight with this row stands in a list that governs it, by the time over that it has there.
-fn governed_stance(list: Option<&SlotList>, key: &Key, row: &Row) -> Option<Stance>
-    ensures { result ≡ option_and_then (governed_stance key.now row.now) (option_copied list.entry) }
-{
-    let stance = list?.stance_of(key)?;
-    Some(Stance::of(true, row.issued, stance.eto()))
-}
-
-/// Has a flight stand as this row says in the list that governs it. `AllocError` where there is no memory for that.
-fn stand_governed<V: Version>(
-    alloc: Global,
-    view: &View<V>,
-    draft: &mut Change,
-    key: Key,
-    row: &Row,
-) -> Result<(), AllocError>
-    ensures { OnOk result (draft.new ≡ record draft.old {
-      lists = with_stances (sight V.item_of view.now) key draft.old.lists (governed_stances (sight V.item_of view.now) key row.now);
-    }) }
-{
-    let Some(id) = row.governing else {
-        return Ok(());
-    };
-    let stance = governed_stance(view.list(&id), &key, row);
-    stand(alloc, view, draft, key, id, stance)
 }
 
 /// Issues a flight. `AllocError` where there is no memory for that.
@@ -67,8 +38,7 @@ fn issue<V: Version>(
     };
     let mut new = row.clone()?;
     new.issued = time_shown(view, &key, row);
-    stand_governed(alloc, view, draft, key, &new)?;
-    draft.set_row(key, Some(new))
+    write_issued(alloc, view, draft, key, new)
 }
 
 /// Issues these flights, one by one. `AllocError` where there is no memory for that.

@@ -6,6 +6,7 @@ mod clock_moves;
 mod closing;
 mod entering;
 mod flight_lists;
+mod issuing;
 mod laws;
 mod new_rates;
 mod offers;
@@ -16,6 +17,8 @@ mod replies;
 mod rooms;
 mod shown_list;
 mod sighted;
+mod swapping;
+mod taking_in;
 mod telling;
 mod write;
 

@@ -1,11 +1,13 @@
 //! The planner of new rates.
 
 ghost use Rattle.std.specs.Prelude.{◌≡◌, IfOk};
-ghost use Rattle.casa_answer.specs.NewRates.{new_rates, rates};
+ghost use Rattle.casa_answer.specs.NewRates.{new_rates, extended, rates};
 ghost use Rattle.casa_plan.specs.Seen.{sight};
 
-use crate::replies::{no_messages, refused};
-use casa_flight::{Answer, Refusal, RegId, Reply, has_span};
+use crate::replies::{done, no_messages, refused};
+use crate::sighted::regulation;
+use crate::taking_in::taking_in;
+use casa_flight::{Answer, Refusal, RegId, Regulation, Reply, ends_later, keeps_span};
 use casa_grid::{Grid, Profile};
 use casa_list::{SharedList, SlotList};
 use casa_view::{Change, Version, View};
@@ -27,8 +29,24 @@ fn new_rates(
     Ok(draft)
 }
 
-/// New rates replace the profile of a regulation, and keep its span. Issued times stay, and nobody is told.
-/// `AllocError` where there is no memory for the list with them.
+/// The regulation with the later end of this profile takes flights in. `AllocError` where there is no memory for the answer.
+fn extended<V: Version>(
+    alloc: Global,
+    view: &View<V>,
+    profile: &Profile,
+    regulation: &Regulation,
+) -> Result<(Reply, Change), AllocError>
+    ensures { IfOk result (λ p. p ≡ extended (sight V.item_of view.now) profile.now regulation.now) }
+{
+    let (_, end) = profile.span();
+    let later = Regulation { end, ..*regulation };
+    let draft = taking_in(alloc, view, later, profile)?;
+    done(alloc, view, draft)
+}
+
+/// New rates replace the profile of a regulation, and keep its start. Issued times stay. With the same end nobody is told;
+/// with a later one the regulation takes in the flights that nothing governs and that may compete. `AllocError` where there
+/// is no memory for the answer.
 pub(crate) fn rates<V: Version>(
     alloc: Global,
     view: &View<V>,
@@ -40,9 +58,16 @@ pub(crate) fn rates<V: Version>(
     let Some(list) = view.list(&id) else {
         return Ok(refused(alloc, Refusal::NoRegulation));
     };
-    if !has_span(profile, list.grid().profile()) {
+    let old = list.grid().profile();
+    if !keeps_span(profile, old) {
         return Ok(refused(alloc, Refusal::SpanChanged));
     }
-    let draft = new_rates(alloc, id, profile, list)?;
-    Ok((Reply::Answered(Answer::Done, no_messages(alloc)?), draft))
+    if !ends_later(profile, old) {
+        let draft = new_rates(alloc, id, profile, list)?;
+        return Ok((Reply::Answered(Answer::Done, no_messages(alloc)?), draft));
+    }
+    match regulation(view, &id) {
+        Some(regulation) => extended(alloc, view, profile, regulation),
+        None => Ok(refused(alloc, Refusal::NoRegulation)),
+    }
 }

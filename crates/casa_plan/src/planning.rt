@@ -16,6 +16,7 @@ use crate::one_flight::{amend, cancel, exempt, file, revise, show};
 use crate::opening::open_reg;
 use crate::shown_list::list;
 use crate::sighted::in_order;
+use crate::swapping::swap;
 use casa_commit::Gate;
 use casa_flight::{Call, Reply};
 use casa_view::{Board, Change, Kept, Version, View};
@@ -41,6 +42,7 @@ fn planned<V: Version>(
         Call::Tick(at) => tick(alloc, view, *at),
         Call::Show(key) => show(alloc, view, *key),
         Call::List(id) => list(alloc, view, *id),
+        Call::Swap(key, other) => swap(alloc, view, *key, *other),
     }
 }
 

@@ -1,21 +1,19 @@
 //! The planner of the question for a list.
 
-ghost use Rattle.std.specs.Prelude.{◌≡◌, ◌≤◌, IfOk, map, option_copied};
+ghost use Rattle.std.specs.Prelude.{◌≡◌, ◌≤◌, IfOk, map};
 ghost use Rattle.std.specs.Option.{option_map_or};
 ghost use Rattle.casa_time.specs.Moment.{last_moment};
 ghost use Rattle.casa_flight.specs.declared.comp.Comp.{Comp};
-ghost use Rattle.casa_flight.specs.Text.{at_name};
 ghost use Rattle.casa_flight.specs.Good.{AreInOrder};
 ghost use Rattle.casa_list.specs.declared.standing.Standing.{Standing};
 ghost use Rattle.casa_list.specs.Standings.{standings};
-ghost use Rattle.casa_answer.specs.Sight.{regulations_in};
 ghost use Rattle.casa_answer.specs.Told.{delay_by};
-ghost use Rattle.casa_footprint.specs.Finding.{by_id};
 ghost use Rattle.casa_answer.specs.Look.{rows_shown, list_shown, list};
 ghost use Rattle.casa_plan.specs.Rows.{row_as};
 ghost use Rattle.casa_plan.specs.Seen.{sight};
 
 use crate::replies::{no_messages, refused};
+use crate::sighted::regulation;
 use crate::telling::delay_shown;
 use casa_flight::{
     Answer, Comp, Key, Kind, ListReply, ListRow, Refusal, RegId, Regulation, Reply, Rows,
@@ -111,13 +109,6 @@ fn list_shown<V: Version>(
         slots: list.grid().len(),
         rows: rows_shown(alloc, view, list)?,
     })
-}
-
-/// The regulation with this identifier, as the catalogue has it.
-fn regulation<'a, V: Version>(view: &'a View<V>, id: &RegId) -> Option<&'a Regulation>
-    ensures { option_copied result ≡ at_name (by_id (regulations_in (sight V.item_of view.now))) id.now }
-{
-    view.catalogue()?.get(id)
 }
 
 /// A regulation's list as it stands. `AllocError` where there is no memory for the answer.

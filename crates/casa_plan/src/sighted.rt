@@ -3,7 +3,7 @@
 ghost use Rattle.std.specs.Prelude.{◌≡◌, IfOk, unwrap_or};
 ghost use Rattle.std.specs.Option.{option_copied};
 ghost use Rattle.casa_flight.specs.Text.{at_name};
-ghost use Rattle.casa_footprint.specs.Finding.{crossed};
+ghost use Rattle.casa_footprint.specs.Finding.{by_id, crossed};
 ghost use Rattle.casa_view.specs.Shown.{HasRowsInOrder};
 ghost use Rattle.casa_answer.specs.Sight.{clock_in, regulations_in, list_with};
 ghost use Rattle.casa_plan.specs.Seen.{sight};
@@ -33,6 +33,13 @@ pub(crate) fn regulations<V: Version>(view: &View<V>) -> &[Regulation]
         Some(catalogue) => catalogue.as_slice(),
         None => &[],
     }
+}
+
+/// The open regulation with this identifier, as the catalogue has it.
+pub(crate) fn regulation<'a, V: Version>(view: &'a View<V>, id: &RegId) -> Option<&'a Regulation>
+    ensures { option_copied result ≡ at_name (by_id (regulations_in (sight V.item_of view.now))) id.now }
+{
+    view.catalogue()?.get(id)
 }
 
 /// The regulations to which a flight with this plan is subject, by identifiers, with the plan's time over. `AllocError`

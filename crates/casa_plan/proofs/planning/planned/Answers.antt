@@ -1,16 +1,18 @@
-use Rattle.casa_flight.specs.declared.call.Call.TheVariants.{File, Amend, Cancel, Revise, Exempt, OpenReg, CloseReg, Rates, Tick, Show, List}
+use Rattle.casa_flight.specs.declared.call.Call.TheVariants.{File, Amend, Cancel, Revise, Exempt, OpenReg, CloseReg, Rates, Tick, Show, List, Swap}
 use Rattle.casa_answer.specs.FlightCalls.{file, amend, cancel, revise, exempt, show}
 use Rattle.casa_answer.specs.Opening.{open_reg}
 use Rattle.casa_answer.specs.Closing.{close_reg}
 use Rattle.casa_answer.specs.NewRates.{rates}
 use Rattle.casa_answer.specs.Issue.{tick}
 use Rattle.casa_answer.specs.Look.{list}
+use Rattle.casa_answer.specs.Swapping.{swap}
 use Rattle.casa_answer.proofs.FlightCalls.{file_planned, amend_planned, cancel_planned, revise_planned, exempt_planned, show_planned}
 use Rattle.casa_answer.proofs.Opens.{open_planned}
 use Rattle.casa_answer.proofs.Closes.{close_planned}
 use Rattle.casa_answer.proofs.NewRates.{rates_planned}
 use Rattle.casa_answer.proofs.Ticks.{tick_planned}
 use Rattle.casa_answer.proofs.Listed.{list_planned}
+use Rattle.casa_answer.proofs.Swaps.{swap_planned}
 use Rattle.casa_plan.specs.Seen.{sight}
 use Rattle.casa_plan.proofs.Answered.{answered}
 use Rattle.casa_plan.proofs.planning.planned.Goals as goal
@@ -69,3 +71,8 @@ pub returns-in-List : goal.returns-in-List
 returns-in-List g c =
     let v = sight g.V.Version.item_of c.args.view.now in
     answered v c.args.call.now (List c.in-List.id) (list v c.in-List.id) c.list.result c.in-List.is c.list.ensures (list_planned v c.in-List.id)
+
+pub returns-in-Swap : goal.returns-in-Swap
+returns-in-Swap g c =
+    let v = sight g.V.Version.item_of c.args.view.now in
+    answered v c.args.call.now (Swap c.in-Swap.key c.in-Swap.other) (swap v c.in-Swap.key c.in-Swap.other) c.swap.result c.in-Swap.is c.swap.ensures (swap_planned v c.in-Swap.key c.in-Swap.other)

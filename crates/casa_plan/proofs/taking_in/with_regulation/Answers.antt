@@ -1,8 +1,8 @@
 use Rattle.std.proofs.Common.{[], ap, ◌∙◌, unwrap_or}
 use Rattle.std.proofs.lemmas.Result.{IfOk-weaker}
-use Rattle.casa_answer.specs.Opening.{with_regulation}
-use Rattle.casa_plan.proofs.Opened.{with_as}
-use Rattle.casa_plan.proofs.opening.with_regulation.Goals as goal
+use Rattle.casa_answer.specs.TakingIn.{with_regulation}
+use Rattle.casa_plan.proofs.TakenIn.{with_as}
+use Rattle.casa_plan.proofs.taking_in.with_regulation.Goals as goal
 
 pub returns-in-Some : goal.returns-in-Some
 returns-in-Some g c =

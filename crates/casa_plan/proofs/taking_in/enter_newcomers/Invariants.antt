@@ -6,7 +6,7 @@ use Rattle.casa_flight.specs.declared.comp.Comp.{Comp}
 use Rattle.casa_flight.specs.Steps.{may_compete}
 use Rattle.casa_answer.specs.Enter.{with_entries}
 use Rattle.casa_plan.specs.Seen.{sight, ShowRows}
-use Rattle.casa_plan.proofs.opening.enter_newcomers.Given as goal
+use Rattle.casa_plan.proofs.taking_in.enter_newcomers.Given as goal
 
 abbrev pub invariant-loop-comp : goal.invariant-loop-comp
 invariant-loop-comp g l =
