@@ -317,6 +317,95 @@ An identifier is open once, or not at all.
 {code:6,n:3,refused:NoRegulation}
 {'cmd':'rates','reg':'R2','periods':[{'from':36000,'to':37200,'rate':30}]}
 {code:6,n:4,refused:NoRegulation}
+
+Two issued flights of one regulation exchange their slots.
+{'cmd':'open','reg':'R1','loc':'LA','periods':[{'from':36000,'to':37200,'rate':30}]}
+{done:true,msgs:[],n:1}
+{'cmd':'file','key':'P','eobt':10000,'taxi':600,'via':[{'loc':'LA','eto':36001}]}
+{flight:{ctot:10600,delay:0,eobt:10000,etot:10600,exempt:false,issued:false,key:P,reg:R1},msgs:[],n:2}
+{'cmd':'file','key':'A','eobt':10000,'taxi':600,'via':[{'loc':'LA','eto':36002}]}
+{flight:{ctot:10718,delay:118,eobt:10000,etot:10600,exempt:false,issued:false,key:A,reg:R1},msgs:[],n:3}
+{'cmd':'file','key':'B','eobt':10000,'taxi':600,'via':[{'loc':'LA','eto':36003}]}
+{flight:{ctot:10837,delay:237,eobt:10000,etot:10600,exempt:false,issued:false,key:B,reg:R1},msgs:[],n:4}
+{'cmd':'tick','at':2800}
+{done:true,msgs:[{ctot:10718,key:A,kind:SAM,reg:R1},{ctot:10837,key:B,kind:SAM,reg:R1},\
+    {ctot:10600,key:P,kind:SAM,reg:R1}],n:5}
+{'cmd':'swap','key':'A','other':'B'}
+{done:true,msgs:[{ctot:10838,key:A,kind:SRM,reg:R1},{ctot:10717,key:B,kind:SRM,reg:R1}],n:6}
+{'cmd':'swap','key':'A','other':'A'}
+{done:true,msgs:[],n:7}
+{'cmd':'swap','key':'P','other':'A'}
+{code:12,n:8,refused:TooEarly}
+{'cmd':'swap','key':'A','other':'Z'}
+{code:2,n:9,refused:NoFlight}
+{'cmd':'file','key':'F','eobt':30000,'taxi':600,'via':[{'loc':'LA','eto':36300}]}
+{flight:{ctot:30660,delay:60,eobt:30000,etot:30600,exempt:false,issued:false,key:F,reg:R1},msgs:[],n:10}
+{'cmd':'list','reg':'R1'}
+{list:{end:37200,loc:LA,reg:R1,rows:[{cto:36001,eto:36001,key:P,kind:issued,slot:0},\
+    {cto:36120,eto:36003,key:B,kind:issued,slot:1},{cto:36240,eto:36002,key:A,kind:issued,slot:2},\
+    {cto:36360,eto:36300,key:F,kind:pre,slot:3}],slots:10,start:36000},msgs:[],n:11}
+{'cmd':'swap','key':'A','other':'F'}
+{code:10,n:12,refused:NotIssued}
+{'cmd':'open','reg':'R2','loc':'LB','periods':[{'from':39600,'to':40800,'rate':12}]}
+{done:true,msgs:[],n:13}
+{'cmd':'file','key':'Q','eobt':10000,'taxi':600,'via':[{'loc':'LB','eto':39600}]}
+{flight:{ctot:10600,delay:0,eobt:10000,etot:10600,exempt:false,issued:true,key:Q,reg:R2},msgs:[{ctot:10600,key:Q,\
+    kind:SAM,reg:R2}],n:14}
+{'cmd':'swap','key':'A','other':'Q'}
+{code:11,n:15,refused:OtherRegulation}
+{'cmd':'tick','at':10719}
+{done:true,msgs:[],n:16}
+{'cmd':'swap','key':'A','other':'B'}
+{code:12,n:17,refused:TooEarly}
+
+A regulation that ends later takes in the flights that nothing governs; an issued time at its old end blocks a slot.
+{'cmd':'open','reg':'R1','loc':'LA','periods':[{'from':36000,'to':36240,'rate':30}]}
+{done:true,msgs:[],n:1}
+{'cmd':'file','key':'A','eobt':30000,'taxi':600,'via':[{'loc':'LA','eto':36010}]}
+{flight:{ctot:30600,delay:0,eobt:30000,etot:30600,exempt:false,issued:false,key:A,reg:R1},msgs:[],n:2}
+{'cmd':'file','key':'B','eobt':30000,'taxi':600,'via':[{'loc':'LA','eto':36020}]}
+{flight:{ctot:30700,delay:100,eobt:30000,etot:30600,exempt:false,issued:false,key:B,reg:R1},msgs:[],n:3}
+{'cmd':'file','key':'C','eobt':10000,'taxi':600,'via':[{'loc':'LA','eto':36030}]}
+{flight:{ctot:10810,delay:210,eobt:10000,etot:10600,exempt:false,issued:false,key:C,reg:R1},msgs:[],n:4}
+{'cmd':'tick','at':2800}
+{done:true,msgs:[{ctot:10810,key:C,kind:SAM,reg:R1}],n:5}
+{'cmd':'file','key':'D','eobt':30000,'taxi':600,'via':[{'loc':'LA','eto':36300}]}
+{flight:{ctot:30600,delay:0,eobt:30000,etot:30600,exempt:false,issued:false,key:D,reg:null},msgs:[],n:6}
+{'cmd':'file','key':'E','eobt':10000,'taxi':600,'via':[{'loc':'LA','eto':36400}]}
+{flight:{ctot:10600,delay:0,eobt:10000,etot:10600,exempt:false,issued:false,key:E,reg:null},msgs:[],n:7}
+{'cmd':'rates','reg':'R1','periods':[{'from':36000,'to':36600,'rate':30}]}
+{done:true,msgs:[{ctot:10680,key:E,kind:SAM,reg:R1}],n:8}
+{'cmd':'list','reg':'R1'}
+{list:{end:36600,loc:LA,reg:R1,rows:[{cto:36010,eto:36010,key:A,kind:pre,slot:0},\
+    {cto:36120,eto:36020,key:B,kind:pre,slot:1},{cto:36240,eto:36030,key:C,kind:issued,slot:2},\
+    {cto:36360,eto:36300,key:D,kind:pre,slot:3},\
+    {cto:36480,eto:36400,key:E,kind:issued,slot:4}],slots:5,start:36000},msgs:[],n:9}
+{'cmd':'rates','reg':'R1','periods':[{'from':36000,'to':36240,'rate':30}]}
+{code:8,n:10,refused:SpanChanged}
+{'cmd':'rates','reg':'R1','periods':[{'from':36060,'to':36600,'rate':30}]}
+{code:8,n:11,refused:SpanChanged}
+
+A flight that another regulation governs stands forced where a regulation ends later.
+{'cmd':'open','reg':'R1','loc':'LA','periods':[{'from':36000,'to':36240,'rate':30}]}
+{done:true,msgs:[],n:1}
+{'cmd':'open','reg':'R2','loc':'LB','periods':[{'from':39600,'to':40800,'rate':12}]}
+{done:true,msgs:[],n:2}
+{'cmd':'file','key':'Q','eobt':30000,'taxi':600,'via':[{'loc':'LB','eto':39600}]}
+{flight:{ctot:30600,delay:0,eobt:30000,etot:30600,exempt:false,issued:false,key:Q,reg:R2},msgs:[],n:3}
+{'cmd':'file','key':'X','eobt':30000,'taxi':600,'via':[{'loc':'LA','eto':36250},{'loc':'LB','eto':39600}]}
+{flight:{ctot:30900,delay:300,eobt:30000,etot:30600,exempt:false,issued:false,key:X,reg:R2},msgs:[],n:4}
+{'cmd':'file','key':'Y','eobt':10000,'taxi':600,'via':[{'loc':'LA','eto':36300},{'loc':'LB','eto':39610}]}
+{flight:{ctot:11190,delay:590,eobt:10000,etot:10600,exempt:false,issued:false,key:Y,reg:R2},msgs:[],n:5}
+{'cmd':'file','key':'W','eobt':10000,'taxi':600,'via':[{'loc':'LA','eto':36350}]}
+{flight:{ctot:10600,delay:0,eobt:10000,etot:10600,exempt:false,issued:false,key:W,reg:null},msgs:[],n:6}
+{'cmd':'tick','at':2800}
+{done:true,msgs:[{ctot:11190,key:Y,kind:SAM,reg:R2}],n:7}
+{'cmd':'rates','reg':'R1','periods':[{'from':36000,'to':36600,'rate':30}]}
+{done:true,msgs:[{ctot:10600,key:W,kind:SAM,reg:R1}],n:8}
+{'cmd':'list','reg':'R1'}
+{list:{end:36600,loc:LA,reg:R1,rows:[{cto:36350,eto:36350,key:W,kind:issued,slot:2},\
+    {cto:36550,eto:36250,key:X,kind:forced,slot:null},\
+    {cto:36890,eto:36300,key:Y,kind:forced,slot:null}],slots:5,start:36000},msgs:[],n:9}
 ";
 
 /// The examples, each from an empty board on, with an empty line between them.

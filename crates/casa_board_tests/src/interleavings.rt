@@ -1,6 +1,7 @@
 //! What comes of workers whose events are interleaved.
 
 use crate::played::comes_to;
+use casa_world::Event;
 use casa_world::Event::{Abandon, Commit, Compute, Read};
 
 /// The opening of a regulation at LA with ten slots, and of one at LB with four.
@@ -28,6 +29,28 @@ const FILE_X_EARLY: &str =
     r#"{"cmd":"file","key":"X","eobt":10000,"taxi":600,"via":[{"loc":"LA","eto":36010}]}"#;
 
 const FILE_X_NOWHERE: &str = r#"{"cmd":"file","key":"X","eobt":30000,"taxi":600,"via":[]}"#;
+
+/// Filings early in the day of two flights at LA, which are issued at once from 2800 on, and of a third one at LB.
+const FILE_A_EARLY: &str =
+    r#"{"cmd":"file","key":"A","eobt":10000,"taxi":600,"via":[{"loc":"LA","eto":36010}]}"#;
+
+const FILE_B_EARLY: &str =
+    r#"{"cmd":"file","key":"B","eobt":10000,"taxi":600,"via":[{"loc":"LA","eto":36005}]}"#;
+
+const FILE_Q_AT_LB: &str =
+    r#"{"cmd":"file","key":"Q","eobt":10000,"taxi":600,"via":[{"loc":"LB","eto":39600}]}"#;
+
+/// The clock's move to 2800.
+const TICK: &str = r#"{"cmd":"tick","at":2800}"#;
+
+/// The exchange of the two flights at LA.
+const SWAP: &str = r#"{"cmd":"swap","key":"A","other":"B"}"#;
+
+/// Other rates at LA: until the same end, and until a later one.
+const RATES: &str = r#"{"cmd":"rates","reg":"R1","periods":[{"from":36000,"to":37200,"rate":15}]}"#;
+
+const RATES_LATER: &str =
+    r#"{"cmd":"rates","reg":"R1","periods":[{"from":36000,"to":37800,"rate":30}]}"#;
 
 #[test]
 fn who_was_overtaken_reads_again(rt: HostRuntime) {
@@ -125,7 +148,7 @@ fn a_clock_that_moved_meanwhile_refuses_a_filing(rt: HostRuntime) {
         Commit(0),
         Read(1, FILE_X_EARLY),
         Compute(1),
-        Read(2, r#"{"cmd":"tick","at":2800}"#),
+        Read(2, TICK),
         Compute(2),
         Commit(2),
         Commit(1),
@@ -212,4 +235,96 @@ clock 20
 1023 {"done":true,"msgs":[],"n":1}
 "#;
     comes_to(&rt, rt.alloc(), &events, told);
+}
+
+/// Two flights are issued over LA. An exchange of their slots is overtaken by the clock, and then by what is done at LB.
+const EXCHANGED: [Event<&str>; 27] = [
+    Read(0, OPEN_R1),
+    Compute(0),
+    Commit(0),
+    Read(0, TICK),
+    Compute(0),
+    Commit(0),
+    Read(0, FILE_A_EARLY),
+    Compute(0),
+    Commit(0),
+    Read(0, FILE_B_EARLY),
+    Compute(0),
+    Commit(0),
+    Read(1, SWAP),
+    Compute(1),
+    Read(2, TICK),
+    Compute(2),
+    Commit(2),
+    Commit(1),
+    Read(1, SWAP),
+    Compute(1),
+    Read(2, OPEN_R2),
+    Compute(2),
+    Commit(2),
+    Read(2, FILE_Q_AT_LB),
+    Compute(2),
+    Commit(2),
+    Commit(1),
+];
+
+/// An exchange reads the clock, which is written too where it stays, but neither the catalogue nor another list.
+#[test]
+fn a_clock_that_was_written_meanwhile_refuses_a_swap(rt: HostRuntime) {
+    let told = r#"0 Some(Accepted(1))
+0 Some(Accepted(2))
+0 Some(Accepted(3))
+0 Some(Accepted(4))
+2 Some(Accepted(5))
+1 Some(Refused)
+2 Some(Accepted(6))
+2 Some(Accepted(7))
+1 Some(Accepted(8))
+clock 2800
+0 {"done":true,"msgs":[],"n":1}
+0 {"done":true,"msgs":[],"n":2}
+0 {"flight":{"ctot":10600,"delay":0,"eobt":10000,"etot":10600,"exempt":false,"issued":true,"key":"A","reg":"R1"},"msgs":[{"ctot":10600,"key":"A","kind":"SAM","reg":"R1"}],"n":3}
+0 {"flight":{"ctot":10715,"delay":115,"eobt":10000,"etot":10600,"exempt":false,"issued":true,"key":"B","reg":"R1"},"msgs":[{"ctot":10715,"key":"B","kind":"SAM","reg":"R1"}],"n":4}
+2 {"done":true,"msgs":[],"n":5}
+2 {"done":true,"msgs":[],"n":6}
+2 {"flight":{"ctot":10600,"delay":0,"eobt":10000,"etot":10600,"exempt":false,"issued":true,"key":"Q","reg":"R2"},"msgs":[{"ctot":10600,"key":"Q","kind":"SAM","reg":"R2"}],"n":7}
+1 {"done":true,"msgs":[{"ctot":10710,"key":"A","kind":"SRM","reg":"R1"},{"ctot":10605,"key":"B","kind":"SRM","reg":"R1"}],"n":8}
+"#;
+    comes_to(&rt, rt.alloc(), &EXCHANGED, told);
+}
+
+/// New rates at LA, with the same end and with a later one, are overtaken by a filing that crosses nothing.
+const EXTENDED: [Event<&str>; 15] = [
+    Read(0, OPEN_R1),
+    Compute(0),
+    Commit(0),
+    Read(1, RATES_LATER),
+    Compute(1),
+    Read(3, RATES),
+    Compute(3),
+    Read(2, FILE_X_NOWHERE),
+    Compute(2),
+    Commit(2),
+    Commit(1),
+    Commit(3),
+    Read(1, RATES_LATER),
+    Compute(1),
+    Commit(1),
+];
+
+/// Rates read all flights where the end is later, and else none.
+#[test]
+fn a_flight_that_was_filed_meanwhile_refuses_a_later_end(rt: HostRuntime) {
+    let told = r#"0 Some(Accepted(1))
+2 Some(Accepted(2))
+1 Some(Refused)
+3 Some(Accepted(3))
+1 Some(Accepted(4))
+clock 0
+0 {"done":true,"msgs":[],"n":1}
+2 {"flight":{"ctot":30600,"delay":0,"eobt":30000,"etot":30600,"exempt":false,"issued":false,"key":"X","reg":null},"msgs":[],"n":2}
+3 {"done":true,"msgs":[],"n":3}
+1 {"done":true,"msgs":[],"n":4}
+"#;
+    comes_to(&rt, rt.alloc(), &EXTENDED, told);
 }

@@ -1,7 +1,7 @@
 //! The replies to scripts, of the planners and of the slow sequential allocator.
 
 use crate::both::transcript;
-use crate::chance::script;
+use crate::chance::{later_ends, script};
 use crate::examples::examples;
 use std::test::Fail;
 
@@ -36,7 +36,14 @@ kind:SRM
 kind:SLC
 'close' kind:SRM
 'revise' kind:SRM
-'revise' issued:true msgs:[]";
+'revise' issued:true msgs:[]
+'swap' {done: kind:SRM
+'swap' {done: msgs:[]
+'swap' refused:NoFlight}
+'swap' refused:NotIssued}
+'swap' refused:OtherRegulation}
+'swap' 'key':'G 'other':'G refused:TooEarly}
+'swap' 'key':'H 'other':'H refused:TooEarly}";
 
 /// How often all of these words stand in a command line and its reply.
 fn count(transcript: &str, words: &str) -> usize {
@@ -60,12 +67,42 @@ fn planners_equal_plain(rt: HostRuntime) -> Result<(), Fail> {
     }
     let script = script(alloc)?;
     let transcript = transcript(alloc, script.as_str()).ok_or("memory")?;
-    assert_eq!(rt; transcript.lines().count(), 600);
+    assert_eq!(rt; transcript.lines().count(), 900);
     for words in REACHED.lines() {
         assert!(rt;
             count(transcript.as_str(), &words) > 0,
             "{words:?} do not come"
         );
+    }
+    Ok(())
+}
+
+/// What comes where a regulation ends later: as only the list of before ends at 36600, only that of after has these
+/// flights.
+const TAKEN_IN: &str = "\
+end:36600 {done: D,kind:SAM,reg:T0
+end:36600 {done: E,kind:pre
+end:36600 {done: G,kind:forced
+'from':36060 refused:SpanChanged}
+'to':36500 refused:SpanChanged}";
+
+/// Whether all of these words come in a half of a step.
+fn come(transcript: &str, words: &str) -> bool {
+    for half in transcript.split("\n\n") {
+        if words.split_whitespace().all(|word| half.contains(word)) {
+            return true;
+        }
+    }
+    false
+}
+
+#[test]
+fn planners_take_flights_in_as_plain_does(rt: HostRuntime) -> Result<(), Fail> {
+    let script = later_ends(rt.alloc())?;
+    let transcript = transcript(rt.alloc(), script.as_str()).ok_or("memory")?;
+    assert_eq!(rt; transcript.lines().count(), 960);
+    for words in TAKEN_IN.lines() {
+        assert!(rt; come(transcript.as_str(), &words));
     }
     Ok(())
 }

@@ -172,6 +172,10 @@ view {"cmd":"close","reg":"R1"}
 =...
 view {"cmd":"file","key":"B","eobt":30000,"taxi":600,"via":[]}
 =....
+view {"cmd":"rates","reg":"R1","periods":[{"from":36000,"to":37200,"rate":15}]}
+=.....
+view {"cmd":"rates","reg":"R1","periods":[{"from":36000,"to":37260,"rate":30}]}
+=......
 held 0
 = clock catalogue A R1
 held 1
@@ -180,6 +184,12 @@ held 2
 = clock catalogue A R1
 held 3
 = clock catalogue
+held 4
+= catalogue R1
+held 5
+= clock catalogue A R1
+over 5
+= A 36010
 "#;
 
 /// A change writes the last of each name.
@@ -236,36 +246,42 @@ view {"cmd":"show","key":"B"}
 =..........
 view {"cmd":"list","reg":"R1"}
 =...........
+view {"cmd":"swap","key":"A","other":"B"}
+=............
+view {"cmd":"swap","key":"C","other":"B"}
+=.............
+view {"cmd":"rates","reg":"R2","periods":[{"from":36000,"to":37260,"rate":30}]}
+=..............
 write clock
-=xx.x.xx.x..
+=xx.x.xx.x..xxx
 all views
-=...........
+=..............
 write catalogue
-=xxxxxxxxx.x
+=xxxxxxxxx.x..x
 all views
-=...........
+=..............
 write A
-=.x.x.xx.x..
+=.x.x.xx.x..x.x
 all views
-=...........
+=..............
 write B
-=..x..xx.xxx
+=..x..xx.xxxxxx
 all views
-=...........
+=..............
 write C
-=....xxx.x..
+=....xxx.x...xx
 all views
-=...........
+=..............
 write R1
-=.xxx.xx.x.x
+=.xxx.xx.x.xx.x
 all views
-=...........
+=..............
 write R2
-=xxx..xxxxxx
+=xxx..xxxxxxxxx
 all views
-=...........
+=..............
 make {"cmd":"file","key":"D","eobt":30000,"taxi":600,"via":[]}
-=x....xx.x..
+=x....xx.x....x
 "#;
 
 #[test]

@@ -1,5 +1,7 @@
 //! What desks and an engine tell after scripts of calls.
 
+ghost use Rattle.std.specs.Prelude.{◌<◌, ◌≤◌};
+
 use crate::played::{ENGINE, Script, played};
 use casa_engine::Audit;
 use std::alloc::{AllocError, Global};
@@ -171,24 +173,66 @@ fn two_threads(rt: HostRuntime) {
 }
 
 /// The commands that calls like chance have, by a number.
-const COMMANDS: [&str; 16] = [
+const COMMANDS: [&str; 18] = [
     "file", "file", "file", "file", "file", "amend", "cancel", "revise", "revise", "exempt",
-    "open", "close", "rates", "tick", "show", "list",
+    "open", "close", "rates", "tick", "show", "list", "swap", "swap",
 ];
 
-/// The lines of eight desks with 200 calls each, of all kinds and of few flights, locations and regulations, so that they
-/// meet. Each has the members of all commands, of which a command takes its own.
+/// The lines of eight desks with 200 calls each, of all kinds and of few flights, locations, regulations and ends of
+/// these, so that they meet. Each has the members of all commands, of which a command takes its own.
 fn chance(alloc: Global) -> Result<String, AllocError> {
     let mut lines = String::new(alloc);
     for number in 0..1_600u32 {
         let chance = number.wrapping_mul(2_654_435_769) >> 8;
-        let (command, rest) = (COMMANDS[chance as usize % 16], chance / 16);
-        let (desk, key, reg, loc) = (number / 200, rest % 12, rest % 3, rest / 2 % 2);
-        let (eobt, eto) = (21_000 + rest % 9_000, 36_000 + rest % 1_200);
-        let (rate, at) = (4 + rest % 30, 14_000 + rest % 9_000);
+        let (command, rest) = (COMMANDS[chance as usize % 18], chance / 18);
+        let (desk, key, other) = (number / 200, rest % 12, rest / 12 % 12);
+        let (reg, loc) = (rest % 3, rest / 2 % 2);
+        let (eobt, eto) = (21_000 + rest % 9_000, 36_000 + rest % 1_800);
+        let (rate, end) = (4 + rest % 30, 36_600 + rest / 5 % 3 * 600);
+        let at = 14_000 + rest % 9_000;
         writeln!(
             lines,
-            r#"{desk} {{"cmd":"{command}","key":"K{key}","eobt":{eobt},"taxi":600,"via":[{{"loc":"L{loc}","eto":{eto}}}],"reg":"R{reg}","loc":"L{loc}","periods":[{{"from":36000,"to":37200,"rate":{rate}}}],"at":{at}}}"#
+            r#"{desk} {{"cmd":"{command}","key":"K{key}","other":"K{other}","eobt":{eobt},"taxi":600,"via":[{{"loc":"L{loc}","eto":{eto}}}],"reg":"R{reg}","loc":"L{loc}","periods":[{{"from":36000,"to":{end},"rate":{rate}}}],"at":{at}}}"#
+        )?;
+    }
+    Ok(lines)
+}
+
+/// The opening of M, which none of those calls names.
+const OPEN_M: &str =
+    r#"0 {"cmd":"open","reg":"M","loc":"M","periods":[{"from":36000,"to":37200,"rate":30}]}"#;
+
+/// The commands of calls that mostly exchange slots, by a number.
+const EXCHANGES: [&str; 10] = [
+    "file", "file", "file", "cancel", "tick", "swap", "swap", "swap", "swap", "swap",
+];
+
+/// The commands of calls by which a regulation mostly ends later, by a number.
+const LATER_ENDS: [&str; 10] = [
+    "file", "file", "file", "cancel", "close", "close", "open", "open", "rates", "rates",
+];
+
+/// The lines of eight desks with 50 calls each, made likewise, of few flights over M, within so many seconds. Made
+/// after those calls, each filing that is not far ahead is issued at once, and the clock passes some of their times.
+fn few_flights(alloc: Global, commands: &[&str; 10], seconds: u32) -> Result<String, AllocError>
+    requires some { 0 < seconds }
+    requires few { seconds ≤ 2400 }
+{
+    let mut lines = String::new(alloc);
+    for number in 0..400u32 {
+        let chance = number.wrapping_mul(2_654_435_769) >> 8;
+        let (command, rest) = (commands[chance as usize % 10], chance / 10);
+        let (desk, key, other) = (number / 50, rest % 7, rest / 7 % 7);
+        let (eobt, eto) = (24_000 + rest % (5 * seconds), 36_000 + rest % seconds);
+        let end = if command == "rates" {
+            36_600 + rest / 7 % 10 * 200
+        } else {
+            36_600
+        };
+        let at = 23_000 + rest % 1_400;
+        writeln!(
+            lines,
+            r#"{desk} {{"cmd":"{command}","key":"X{key}","other":"X{other}","eobt":{eobt},"taxi":0,"via":[{{"loc":"M","eto":{eto}}}],"reg":"M","loc":"M","periods":[{{"from":36000,"to":{end},"rate":30}}],"at":{at}}}"#
         )?;
     }
     Ok(lines)
@@ -198,16 +242,23 @@ fn chance(alloc: Global) -> Result<String, AllocError> {
 #[test]
 fn eight_threads(rt: HostRuntime) {
     let chance = chance(rt.alloc()).expect(&rt, "memory");
+    let exchanges = few_flights(rt.alloc(), &EXCHANGES, 200).expect(&rt, "memory");
+    let later_ends = few_flights(rt.alloc(), &LATER_ENDS, 2_400).expect(&rt, "memory");
     let script = Script {
         desks: 8,
         meet: false,
-        texts: &[chance.as_str()],
+        texts: &[
+            chance.as_str(),
+            OPEN_M,
+            exchanges.as_str(),
+            later_ends.as_str(),
+        ],
         passes: 8,
     };
     for told in &played(&rt, rt.alloc(), &script) {
         assert_eq!(&rt;
             told.end.as_str(),
-            "8 Ok(Settled { desks: 8, entries: 1600 }) true"
+            "8 Ok(Settled { desks: 8, entries: 2401 }) true"
         );
     }
 }

@@ -95,7 +95,16 @@ impl Both {
         assert!(rt; are_equal(&self.list, list));
     }
 
-    /// Files flight `i` and compares.
+    /// Flights `i` and `j` exchange their slots, in both or in neither.
+    fn swap(&mut self, rt: &impl Abort, alloc: Global, i: u8, j: u8) {
+        let (one, two) = (flight(rt, i).0.key, flight(rt, j).0.key);
+        let reply = self.step(rt, alloc, &Call::Swap(one, two));
+        let done = matches!(&reply, Reply::Answered(..));
+        assert!(rt; self.list.swap(&one, &two) == done);
+    }
+
+    /// Files flight `i` and compares. An issued one first exchanges its slot with the one that was filed eight before it, if
+    /// they may.
     fn file(&mut self, rt: &impl Abort, alloc: Global, i: u8) {
         let (comp, eobt) = flight(rt, i);
         self.step(rt, alloc, &filing(rt, alloc, self.loc, comp, eobt));
@@ -103,6 +112,9 @@ impl Both {
         self.list.enter(comp).expect(rt, "memory");
         if i % 4 == 0 {
             self.list.issue(&comp.key);
+            if let Some(before) = i.checked_sub(8) {
+                self.swap(rt, alloc, i, before);
+            }
         }
         self.compare(rt, alloc);
     }

@@ -13,3 +13,5 @@ mod list;
 mod parts;
 #[cfg(test)]
 mod shared;
+#[cfg(test)]
+mod swaps;

@@ -141,7 +141,7 @@ fn list(rt: &impl Abort, alloc: Global, periods: &[Period]) -> SlotList {
 }
 
 /// The list from 36000 to 37200 with 30 flights per hour, ten slots two minutes apart, after these steps.
-fn ten_slots(rt: &impl Abort, alloc: Global, steps: &[Step]) -> SlotList {
+pub fn ten_slots(rt: &impl Abort, alloc: Global, steps: &[Step]) -> SlotList {
     let mut list = list(rt, alloc, &[period(rt, 36_000, 37_200, 30)]);
     follow(rt, &mut list, steps);
     list
@@ -215,7 +215,7 @@ fn a_refused_growth_leaves_a_flight_forced(rt: HostRuntime) {
 }
 
 #[test]
-fn ten_slots_are_taken(rt: HostRuntime) {
+pub fn ten_slots_are_taken(rt: HostRuntime) {
     for steps in [
         LEFT_FREE,
         EQUAL_TIMES,

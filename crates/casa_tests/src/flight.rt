@@ -140,6 +140,9 @@ fn refusals_have_a_code_and_a_name(rt: HostRuntime) {
     for (refusal, code, name) in [
         (Refusal::Duplicate, 1, "Duplicate"),
         (Refusal::BackInTime, 9, "BackInTime"),
+        (Refusal::NotIssued, 10, "NotIssued"),
+        (Refusal::OtherRegulation, 11, "OtherRegulation"),
+        (Refusal::TooEarly, 12, "TooEarly"),
     ] {
         equal(&rt, &(refusal.code(), refusal.name()), &(code, name));
     }

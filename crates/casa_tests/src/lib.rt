@@ -4,6 +4,8 @@
 #![tactic(auto)]
 
 #[cfg(test)]
+mod exchange;
+#[cfg(test)]
 mod flight;
 #[cfg(test)]
 mod grid;

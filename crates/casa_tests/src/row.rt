@@ -3,7 +3,7 @@
 use crate::parts::{equal, equal_at, key, loc, moment, over, period, profile, reg};
 use casa_flight::{
     FlightReply, Kind, MAX_REGULATIONS, Measure, Message, Offer, Plan, RegId, Regulation, Row,
-    Stance, Sts, has_span, is_issued, more_penalising, most_penalising, slot_number,
+    Stance, Sts, ends_later, is_issued, keeps_span, more_penalising, most_penalising, slot_number,
 };
 use casa_grid::{Period, Place};
 use casa_time::Moment;
@@ -288,22 +288,27 @@ fn a_message_tells_what_changed(rt: HostRuntime) {
     }
 }
 
-/// Whether these periods have the span from 36000 to 37200.
-fn has_whole_span(rt: &impl Abort, alloc: Global, periods: &[Period]) -> bool {
-    let whole = profile(rt, alloc, &[period(rt, 36_000, 37_200, 30)]);
-    has_span(&profile(rt, alloc, periods), &whole)
+/// Whether these periods keep the span from 36000 to 37200, and whether they end later.
+fn compared(rt: &impl Abort, alloc: Global, periods: &[Period]) -> (bool, bool) {
+    let other = profile(rt, alloc, &[period(rt, 36_000, 37_200, 30)]);
+    let profile = profile(rt, alloc, periods);
+    (keeps_span(&profile, &other), ends_later(&profile, &other))
 }
 
 #[test]
-fn spans_are_compared_at_both_ends(rt: HostRuntime) {
+fn a_span_is_kept_by_an_equal_or_later_end(rt: HostRuntime) {
     let halves = [
         period(&rt, 36_000, 36_600, 20),
         period(&rt, 36_600, 37_200, 10),
     ];
-    let shorter = [period(&rt, 36_000, 36_600, 30)];
-    let later = [period(&rt, 36_600, 37_200, 30)];
-    assert!(&rt; has_whole_span(&rt, rt.alloc(), &halves));
-    assert!(&rt; !has_whole_span(&rt, rt.alloc(), &shorter));
-    assert!(&rt; !has_whole_span(&rt, rt.alloc(), &later));
+    for (periods, wanted) in [
+        (halves.as_slice(), (true, false)),
+        (&[period(&rt, 36_000, 37_199, 30)], (false, false)),
+        (&[period(&rt, 36_000, 37_201, 30)], (true, true)),
+        (&[period(&rt, 36_600, 37_200, 30)], (false, false)),
+        (&[period(&rt, 35_400, 37_800, 30)], (false, true)),
+    ] {
+        equal(&rt, &compared(&rt, rt.alloc(), periods), &wanted);
+    }
     assert!(&rt; MAX_REGULATIONS == 256);
 }

@@ -68,6 +68,27 @@ fn a_tick_is_read(rt: HostRuntime) {
     assert!(&rt; tick(&call) == Some(22_800));
 }
 
+/// The flights of an exchange, in their order.
+fn exchanging(call: &Call) -> Option<(Key, Key)> {
+    match call {
+        Call::Swap(key, other) => Some((*key, *other)),
+        _ => None,
+    }
+}
+
+/// The members are read by their names, in whichever order they stand.
+#[test]
+fn an_exchange_is_read(rt: HostRuntime) {
+    for line in [
+        b"{\"cmd\":\"swap\",\"key\":\"A\",\"other\":\"B1\"}".as_slice(),
+        b"{\"other\":\"B1\",\"key\":\"A\",\"cmd\":\"swap\"}",
+    ] {
+        let call = read_call(rt.alloc(), line).expect(&rt, "a call");
+        let wanted = (key(&rt, b"A"), key(&rt, b"B1"));
+        assert!(&rt; exchanging(&call) == Some(wanted));
+    }
+}
+
 /// Lines, each with its first fault.
 const FAULTS: &[(&[u8], WireFault)] = &[
     (b"", WireFault::NotJson),
@@ -120,6 +141,22 @@ const FAULTS: &[(&[u8], WireFault)] = &[
     (
         b"{\"cmd\":\"tick\",\"at\":1.0}",
         WireFault::BadField(Field::At),
+    ),
+    (
+        b"{\"cmd\":\"swap\",\"other\":7}",
+        WireFault::BadField(Field::Key),
+    ),
+    (
+        b"{\"cmd\":\"swap\",\"key\":\"A\"}",
+        WireFault::BadField(Field::Other),
+    ),
+    (
+        b"{\"cmd\":\"swap\",\"key\":\"A\",\"other\":7}",
+        WireFault::BadField(Field::Other),
+    ),
+    (
+        b"{\"cmd\":\"swap\",\"key\":\"A\",\"other\":\"b\"}",
+        WireFault::BadField(Field::Other),
     ),
 ];
 

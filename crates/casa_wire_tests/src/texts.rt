@@ -29,10 +29,41 @@ fn messages<const N: usize>(rt: &impl Abort, alloc: Global, all: [Message; N]) -
     Messages::from_vec(all).expect(rt, "memory")
 }
 
+/// Refusals, each with its line at position 3.
+const REFUSALS: &[(Refusal, &[u8])] = &[
+    (
+        Refusal::Duplicate,
+        b"{\"code\":1,\"n\":3,\"refused\":\"Duplicate\"}\n",
+    ),
+    (
+        Refusal::NotIssued,
+        b"{\"code\":10,\"n\":3,\"refused\":\"NotIssued\"}\n",
+    ),
+    (
+        Refusal::OtherRegulation,
+        b"{\"code\":11,\"n\":3,\"refused\":\"OtherRegulation\"}\n",
+    ),
+    (
+        Refusal::TooEarly,
+        b"{\"code\":12,\"n\":3,\"refused\":\"TooEarly\"}\n",
+    ),
+];
+
 #[test]
 fn a_refusal_is_a_line(rt: HostRuntime) {
-    let line = line_of(&rt, rt.alloc(), Reply::Refused(Refusal::Duplicate), 3);
-    assert!(&rt; line.as_slice() == b"{\"code\":1,\"n\":3,\"refused\":\"Duplicate\"}\n".as_slice());
+    for (refusal, wanted) in REFUSALS {
+        let line = line_of(&rt, rt.alloc(), Reply::Refused(*refusal), 3);
+        assert!(&rt; line.as_slice() == *wanted);
+    }
+}
+
+/// The same as a value: a code of two digits is a number too.
+#[test]
+fn a_refusal_is_a_value(rt: HostRuntime) {
+    let receipt = receipt(&rt, rt.alloc(), Reply::Refused(Refusal::TooEarly), 3);
+    let value = reply_value(rt.alloc(), &receipt).expect(&rt, "memory");
+    let text = value.to_string(rt.alloc()).expect(&rt, "memory");
+    assert!(&rt; text.as_str() == "{\"code\":12,\"n\":3,\"refused\":\"TooEarly\"}");
 }
 
 /// Flight E, issued 119 seconds late under R1.
@@ -106,6 +137,8 @@ fn faults_are_texts(rt: HostRuntime) {
     assert!(&rt; too_long_line() == b"{\"fault\":\"LineTooLong\"}\n".as_slice());
     let field = field_text(rt.alloc(), Field::Periods).expect(&rt, "memory");
     assert!(&rt; field.as_str() == "{\"fault\":\"BadField\",\"field\":\"periods\"}");
+    let field = field_text(rt.alloc(), Field::Other).expect(&rt, "memory");
+    assert!(&rt; field.as_str() == "{\"fault\":\"BadField\",\"field\":\"other\"}");
 }
 
 /// The value of what a call of these messages is answered, as text.
