@@ -5,4 +5,5 @@ pub mod Gathered
 pub mod Progress
 pub mod Runs
 pub mod PlayedCalls
+pub mod Shown
 pub mod Alone

@@ -1,9 +1,9 @@
 //! Cuts an input into lines.
 
 ghost use Rattle.std.specs.Prelude.{◌≡◌, ◌==◌, ℕ, ◌^◌, ◌≤◌, ◌<◌, ◌++◌, List, [], true, false, IfOk, IfErr, OnOk};
-ghost use Rattle.std.specs.List.{position};
-ghost use Rattle.casa_session.specs.Lines.{HasNoLf, IsFirstPart, is_lf, is_too_long};
+ghost use Rattle.casa_session.specs.Lines.{HasNoLf, IsFirstPart, is_too_long};
 
+use memchr::memchr;
 use std::io::{ErrorKind, Read};
 
 /// The longest line, in bytes without its LF.
@@ -119,14 +119,8 @@ impl LineReader {
 fn first_part(bytes: &[u8]) -> (&[u8], bool)
     ensures { IsFirstPart bytes.now result.0.now result.1 }
 {
-    match position_of_lf(bytes) {
+    match memchr(b'\n', bytes) {
         Some(at) => (&bytes[..at], true),
         None => (bytes, false),
     }
-}
-
-fn position_of_lf(bytes: &[u8]) -> Option<usize>
-    ensures { result ≡ position is_lf bytes.now }
-{
-    bytes.iter().position(|byte| *byte == b'\n')
 }

@@ -1,16 +1,21 @@
 //! A desk that is alone on a board.
 
 ghost use Rattle.std.specs.Prelude.{◌≡◌, ◌≢◌, ◌∷◌, [], ◌++◌, Err, IfOk, OnErr};
+ghost use Rattle.std.specs.Option.{option_copied};
+ghost use Rattle.casa_flight.specs.Listing.{list_of};
+ghost use Rattle.casa_flight.specs.State.{catalogue, row_of};
 ghost use Rattle.casa_session.specs.Alone.{LoneEnds};
-ghost use Rattle.casa_session.specs.Played.{receipts_played};
+ghost use Rattle.casa_session.specs.Played.{receipts_played, state_after};
 
 use crate::fault::SessionFault;
 use crate::session::run;
 use casa_commit::{CallFault, Room};
 use casa_desk::Desk;
-use casa_flight::{Call, Reply};
+use casa_flight::{Call, Key, RegId, Regulation, Reply, Row};
 use casa_history::{Pass, Receipt};
+use casa_list::{SharedList, SlotList};
 use casa_plan::Direct;
+use casa_time::Moment;
 use casa_view::{Board, Copies};
 use std::alloc::{AllocError, Global};
 use std::io::{Read, Write};
@@ -74,6 +79,41 @@ impl Lone {
             (W.contents writer.old) (W.contents writer.new) }
     {
         run(alloc, reader, writer, self)
+    }
+
+    /// The clock after the calls.
+    pub fn clock(&self) -> Moment
+        ensures { result ≡ (state_after self.now).clock }
+    {
+        self.room.world().clock()
+    }
+
+    /// The regulations that are open after the calls, in the order of their identifiers.
+    pub fn catalogue(&self) -> &[Regulation]
+        ensures { result.now ≡ catalogue (state_after self.now) }
+    {
+        self.room.world().catalogue()
+    }
+
+    /// The flight with this key as it stands after the calls; none where there is no such flight.
+    pub fn row(&self, key: &Key) -> Option<&Row>
+        ensures { option_copied result ≡ row_of (state_after self.now) key.now }
+    {
+        self.room.world().row(key)
+    }
+
+    /// The list of the regulation with this identifier after the calls; none where it is not open.
+    pub fn list(&self, id: &RegId) -> Option<&SlotList>
+        ensures { option_copied result ≡ list_of (state_after self.now) id.now }
+    {
+        self.room.world().list(id)
+    }
+
+    /// The same list as it is shared, so that others may have it too.
+    pub fn shared_list(&self, id: &RegId) -> Option<&SharedList>
+        ensures { option_copied result ≡ list_of (state_after self.now) id.now }
+    {
+        self.room.world().shared_list(id)
     }
 
     /// The receipt of the call; where memory is refused, nothing was answered.

@@ -3,20 +3,18 @@ use Rattle.std.specs.Prelude.{IfOk}
 use Rattle.casa_flight.specs.declared.call.Call.{Call}
 use Rattle.casa_flight.specs.declared.reply.Reply.{Reply}
 use Rattle.casa_flight.specs.declared.state.State.{State}
-use Rattle.casa_flight.specs.State.{empty}
 use Rattle.casa_flight.specs.Replies.{reply}
 use Rattle.casa_history.specs.declared.entry.Entry.{Entry}
 use Rattle.casa_commit.specs.Legal.{replay}
 use Rattle.casa_commit.specs.Rooms.{entries_of}
 use Rattle.casa_view.specs.Standing.{Standing, after, opening}
-use Rattle.casa_plan.proofs.Replayed.{state_replayed}
 use Rattle.casa_session.specs.Played.{calls_in, receipts_played, state_after}
 use Rattle.casa_session.proofs.Alone.{alone-admitted, alone-answered, receipt-answered}
-use Rattle.casa_session.proofs.PlayedCalls.{state-of_calls}
+use Rattle.casa_session.proofs.Shown.{state-replayed}
 use Rattle.casa_session.proofs.lone.Lone.receipt.Goals as goal
 
 says : (es : List (Entry Call Reply)) (call : Call) → reply ((replay after opening es).state) call ≡ reply (state_after (calls_in es)) call
-says es call = ap (λ (m : State). reply m call) (state_replayed es ∙ state-of_calls empty 1 es)
+says es call = ap (λ (m : State). reply m call) (state-replayed es)
 
 pub invariant_of-self : goal.invariant_of-self
 invariant_of-self c =
