@@ -10,6 +10,7 @@ use Rattle.casa_flight.specs.declared.reply.Reply.{Reply}
 use Rattle.casa_flight.specs.declared.state.State.{State}
 use Rattle.casa_flight.specs.Text.{Text, at_name}
 use Rattle.casa_flight.specs.State.{regulation, catalogue}
+use Rattle.casa_flight.specs.Good.{AreInOrder}
 use Rattle.casa_flight.specs.Listing.{listing, list_of}
 use Rattle.casa_flight.proofs.Entries.{each_found}
 use Rattle.casa_history.specs.declared.entry.Entry.{Entry}
@@ -28,13 +29,18 @@ nth_in m (e ∷ es) zero r held found =
     sym (ap (option_map (listing m.rows e.0)) held.0) ∙ ap (list_of m) id
 nth_in m (e ∷ es) (suc i) r held found = nth_in m es i r held.1 found
 
+-- the list of a regulation has the regulation's number
+pub nth_listed : (m : State) → AreInOrder m.regs → (i : ℕ) (r : Regulation) → slice_get (catalogue m) i ≡ Some r
+    → slice_get (lists_in m) i ≡ list_of m r.id
+nth_listed m in_order i r found = nth_in m m.regs i r (each_found m.regs in_order) found
+
 -- the list that a board keeps of a regulation has the regulation's number
 pub nth_list : {history : List (Entry Call Reply)} {s : Standing} → StandsAfter history s → (i : ℕ) (r : Regulation)
     → slice_get s.catalogue i ≡ Some r → slice_get (lists_in (state_after history)) i ≡ s.list r.id
 nth_list {history} {s} stands i r found =
     let there : slice_get (catalogue s.state) i ≡ Some r = subst (λ (rs : List Regulation). slice_get rs i ≡ Some r) stands.catalogue_is found in
     ap (λ (m : State). slice_get (lists_in m) i) (sym stands.state)
-    ∙ nth_in s.state s.state.regs i r (each_found s.state.regs stands.good.regs_in_order) there ∙ sym (stands.lists r.id)
+    ∙ nth_listed s.state stands.good.regs_in_order i r there ∙ sym (stands.lists r.id)
 
 -- the first elements with the next one, if there is one
 pub take_next : {X : Type 0} → (xs : List X) (i : ℕ) → take (i + 1) xs ≡ take i xs ++ cons_option (slice_get xs i) []

@@ -39,8 +39,8 @@ pub fn audit_lists<R: Threads + Sync>(
     })
 }
 
-/// The same of shared lists.
-pub(crate) fn audit_shared<R: Threads + Sync>(
+/// The same of shared lists. `AllocError` where there is no memory for it.
+pub fn audit_shared<R: Threads + Sync>(
     rt: &R,
     alloc: Global,
     lists: &[SharedList],
