@@ -1,0 +1,7 @@
+pub mod EachOnce
+pub mod Steps
+pub mod Summed
+pub mod Told
+pub mod Flights
+pub mod Leaving
+pub mod Waiting

@@ -1,0 +1,3 @@
+pub mod Load
+pub mod Summary
+pub mod Why

@@ -1,0 +1,245 @@
+//! Why a flight waits.
+
+ghost use Rattle.std.specs.Prelude.{◌≡◌, ◌≤◌, ◌<◌, ◌++◌, ◌-◌, Some, IfOk, OnOk, length};
+ghost use Rattle.std.specs.List.{range_with_len};
+ghost use Rattle.casa_time.specs.Moment.{last_moment};
+ghost use Rattle.casa_grid.specs.Slots.{slots};
+ghost use Rattle.casa_flight.specs.declared.row.Stance.{Stance};
+ghost use Rattle.casa_flight.specs.State.{subject};
+ghost use Rattle.casa_flight.specs.Listing.{cto_as, delay_in};
+ghost use Rattle.casa_flight.specs.Entry.{most_penalising, offer_in, with_competitor};
+ghost use Rattle.casa_list.specs.Walk.{low_after};
+ghost use Rattle.casa_inquiry.specs.Why.{has_slot, held_by, holdings, holdings_at, is_tied, rule_by, rule_free, rule_of, slot_with, slots_waited};
+
+use casa_flight::{
+    Comp, FlightReply, Key, Offer, Plan, RegId, Regulation, Row, SharedSlice, most_penalising,
+};
+use casa_list::{Member, Place, SlotList};
+use casa_time::Moment;
+use std::alloc::{AllocError, Global};
+
+/// Why a flight stands as it does.
+#[derive(Drop, Debug)]
+pub struct Reasons {
+    /// The flight as it stands.
+    pub flight: FlightReply,
+    /// By which rule it is governed, or not.
+    pub rule: Rule,
+    /// What each regulation to which it is subject would offer it if it entered now, in the order of their identifiers.
+    pub offers: SharedSlice<Offer>,
+    /// Who holds each slot of the governing list from the one that it asks for to the one that it has.
+    pub holdings: SharedSlice<Holding>,
+}
+
+/// The rule by which a flight is governed, or not.
+#[derive(Clone, Copy, PartialEq, Eq, Debug)]
+pub enum Rule {
+    /// Its regulation offers more delay than any other.
+    GreatestDelay,
+    /// Its regulation has the smallest identifier of those that offer the greatest delay.
+    SmallestId,
+    /// Its regulation has governed it since it entered; by what is offered now, another one would.
+    SinceEntry,
+    /// Nothing governs it, since it is exempt.
+    Exempt,
+    /// Nothing governs it, since its take-off time is before the clock.
+    Gone,
+    /// Nothing governs it, since it is subject to no open regulation.
+    Outside,
+}
+
+/// A slot of a list, with a flight that has it.
+#[derive(Clone, Copy, Debug)]
+pub struct Holding {
+    pub slot: usize,
+    /// Where the slot begins.
+    pub begin: Moment,
+    /// The flight with how it stands; `None` where nobody has the slot.
+    pub holder: Option<Member>,
+}
+
+/// What a regulation with this list would offer a flight if it entered now, in place of how it stands there; `None` where
+/// it is not subject to that. `AllocError` where there is no memory to work it out.
+pub fn offer(
+    regulation: &Regulation,
+    list: &SlotList,
+    key: Key,
+    plan: &Plan,
+) -> Result<Option<Offer>, AllocError>
+    ensures { IfOk result (λ offer. offer ≡
+        offer_in regulation.now.id key (Some list.now) (subject plan.now regulation.now)) }
+{
+    let Some(eto) = plan.time_over(regulation) else {
+        return Ok(None);
+    };
+    let cto = time_anew(list, &Comp { eto, key })?;
+    Ok(Some(Offer::of(regulation.id, eto, cto)))
+}
+
+/// The calculated time over that a flight would have as a competitor in place of how it stands, worked out on a copy of
+/// the list.
+fn time_anew(list: &SlotList, comp: &Comp) -> Result<Moment, AllocError>
+    ensures { IfOk result (λ time. time ≡
+        cto_as (with_competitor list.now comp.now.key comp.now.eto) comp.now.key (Stance.Competing comp.now.eto)) }
+{
+    let mut rest = list.try_clone()?;
+    // What stands beside the grid: the flights are in the order of their keys.
+    let _grid = rest.grid();
+    let _place = rest.leave(&comp.key);
+    Ok(rest.would_pass(comp))
+}
+
+/// By which rule a flight is governed, or not, at this clock and with these offers, those of all regulations to which it
+/// is subject.
+pub fn rule_of(clock: Moment, row: &Row, offers: &[Offer]) -> Rule
+    ensures { result ≡ rule_of clock row.now offers.now }
+{
+    match row.governing {
+        Some(id) => rule_by(id, offers),
+        None => rule_free(clock, row),
+    }
+}
+
+/// The rule by which this regulation governs a flight with these offers.
+fn rule_by(id: RegId, offers: &[Offer]) -> Rule
+    ensures { result ≡ rule_by id offers.now (most_penalising offers.now) }
+{
+    let Some(offer) = most_penalising(offers) else {
+        return Rule::SinceEntry;
+    };
+    if offer.id() != id {
+        Rule::SinceEntry
+    } else if is_tied(offers, &offer) {
+        Rule::SmallestId
+    } else {
+        Rule::GreatestDelay
+    }
+}
+
+/// Whether another regulation offers as much delay.
+fn is_tied(offers: &[Offer], offer: &Offer) -> bool
+    ensures { result ≡ is_tied offers.now offer.now }
+{
+    offers.iter().any(|other| other.delay() == offer.delay() && other.id() != offer.id())
+}
+
+/// The rule by which nothing governs a flight.
+fn rule_free(clock: Moment, row: &Row) -> Rule
+    ensures { result ≡ rule_free clock row.now }
+{
+    if row.is_exempt() {
+        Rule::Exempt
+    } else if row.plan.is_gone(clock) {
+        Rule::Gone
+    } else {
+        Rule::Outside
+    }
+}
+
+/// The delay that a flight has in a list, in seconds; none where it is not there.
+pub fn delay_in(list: &SlotList, key: &Key) -> u32
+    ensures value { result ≡ delay_in list.now key.now }
+    ensures in_range { result ≤ last_moment }
+{
+    let Some(stance) = list.stance_of(key) else {
+        return 0;
+    };
+    let eto = stance.eto();
+    let cto = list.cto_of(key).unwrap_or(eto);
+    cto.secs().saturating_sub(eto.secs())
+}
+
+/// Who holds each slot of a list from the one that a flight asks for to the one that it has, and to the last one where it
+/// has none; nobody where the regulation does not govern it. `AllocError` where there is no memory for them.
+pub fn holdings(
+    alloc: Global,
+    list: &SlotList,
+    key: &Key,
+) -> Result<SharedSlice<Holding>, AllocError>
+    ensures { IfOk result (λ all. all ≡ holdings key.now list.now) }
+{
+    let (from, until) = waited(list, key);
+    let mut all = Vec::new(alloc);
+    for slot in from..until {
+        push_holdings(&mut all, list, slot)?;
+    }
+    SharedSlice::from_vec(all)
+}
+
+/// The slot that a flight asks for, and the first one behind those that it waits for.
+fn waited(list: &SlotList, key: &Key) -> (usize, usize)
+    ensures slots { range_with_len result.0 (result.1 - result.0) ≡ slots_waited list.now key.now }
+    ensures within { result.1 ≤ length (slots list.now.profile) }
+{
+    let Some(stance) = list.stance_of(key) else {
+        return (0, 0);
+    };
+    let Some(place) = list.place_of(key) else {
+        return (0, 0);
+    };
+    let Some(asked) = list.grid().wanted(stance.eto()) else {
+        return (0, 0);
+    };
+    (asked, behind(list.grid().len(), place))
+}
+
+/// The first slot behind a place, of so many slots.
+fn behind(count: usize, place: Place) -> usize
+    ensures slot { result ≡ low_after count place }
+    ensures within { result ≤ count }
+{
+    match place {
+        Place::Slot(slot) if slot < count => slot + 1,
+        _ => count,
+    }
+}
+
+/// Puts down who holds a slot.
+fn push_holdings(all: &mut Vec<Holding>, list: &SlotList, slot: usize) -> Result<(), AllocError>
+    requires { slot < length (slots list.now.profile) }
+    ensures { OnOk result (all.new.items ≡ all.old.items ++ holdings_at list.now slot) }
+{
+    let before = all.len();
+    for member in list.flights() {
+        if let Some(holding) = held_by(list, slot, member) {
+            all.push(holding)?;
+        }
+    }
+    if all.len() == before {
+        all.push(slot_with(list, slot, None))?;
+    }
+    Ok(())
+}
+
+/// A slot with this flight of the list, if that has it.
+fn held_by(list: &SlotList, slot: usize, member: &Member) -> Option<Holding>
+    requires { slot < length (slots list.now.profile) }
+    ensures { result ≡ held_by list.now slot member.now }
+{
+    if !has_slot(list, slot, &member.key()) {
+        return None;
+    }
+    Some(slot_with(list, slot, Some(*member)))
+}
+
+/// A slot with who has it.
+fn slot_with(list: &SlotList, slot: usize, holder: Option<Member>) -> Holding
+    requires { slot < length (slots list.now.profile) }
+    ensures { result ≡ slot_with list.now slot holder }
+{
+    Holding {
+        slot,
+        begin: list.grid().begin(slot),
+        holder,
+    }
+}
+
+/// Whether a flight of a list has a slot.
+fn has_slot(list: &SlotList, slot: usize, key: &Key) -> bool
+    ensures { result ≡ has_slot list.now slot key.now }
+{
+    match list.place_of(key) {
+        Some(Place::Slot(number)) => slot == number,
+        _ => false,
+    }
+}
