@@ -1,1 +1,4 @@
 pub mod Written
+pub mod Joined
+pub mod Parts
+pub mod Bars

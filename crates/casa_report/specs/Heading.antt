@@ -3,6 +3,6 @@ use Rattle.jiff.specs.Words.{date_text}
 use Rattle.jiff_core.specs.declared.civil.date.Date.{Date}
 use Rattle.casa_flight.specs.Text.{Text}
 
--- the line above a table: the regulation and the day
+-- the line above a table: the regulation, or the flight, and the day
 abbrev pub heading_line : Text → Date → Text
-heading_line reg day = codes "CASA " ++ (reg ++ (codes " " ++ (date_text day ++ 10 ∷ [])))
+heading_line name day = codes "CASA " ++ (name ++ (codes " " ++ (date_text day ++ 10 ∷ [])))

@@ -1,4 +1,8 @@
 pub mod Faults
 pub mod Writing
 pub mod Heading
+pub mod Columns
 pub mod Table
+pub mod LoadTable
+pub mod SummaryTable
+pub mod WhyText

@@ -4,7 +4,7 @@ ghost use Rattle.casa_report.specs.Heading.{heading_line};
 ghost use Rattle.casa_report.specs.Writing.{IsCutOff};
 
 use crate::fault::ReportFault;
-use casa_flight::RegId;
+use casa_flight::{Name, RegId};
 use casa_output::send;
 use jiff::civil::Date;
 use std::alloc::{AllocError, Global};
@@ -32,9 +32,13 @@ pub fn heading<W: Write>(
     Ok(())
 }
 
-/// The line above a regulation's table.
-fn heading_line(alloc: Global, day: Date, reg: &RegId) -> Result<String, AllocError>
-    ensures { IfOk result (λ line. string_bytes line ≡ heading_line reg.now day) }
+/// The line above what is told of a regulation or of a flight.
+pub(crate) fn heading_line<Kind>(
+    alloc: Global,
+    day: Date,
+    name: &Name<Kind>,
+) -> Result<String, AllocError>
+    ensures { IfOk result (λ line. string_bytes line ≡ heading_line name.now day) }
 {
-    format!(in alloc; "CASA {reg} {day}\n")
+    format!(in alloc; "CASA {name} {day}\n")
 }
