@@ -6,8 +6,8 @@ use Rattle.std.proofs.lemmas.Bool.Decides.{nat_tests}
 use Rattle.jiff_fmt.specs.Temporal.{DateParts}
 use Rattle.clap.specs.Words.{Row, fault_of, first_of, one_of, subcommand_of}
 use Rattle.casa_flight.specs.Text.{Text}
-use Rattle.casa_words.specs.Words.{Request, run, report, serve, wrong_reg, wrong_day, casa_app, request_of, named_request, serve_at, or_wrong, ◌>>=◌, number_of, day_of, reg_of, turns_of, connections_of, checked_day}
-use Rattle.casa_words.specs.Checks.{AreRead, first_wrong, report_checks, report_request, serve_checks, serve_request, unless_wrong}
+use Rattle.casa_words.specs.Words.{Request, WrongValue, run, report, load, summary, why, serve, wrong_reg, wrong_key, wrong_day, casa_app, request_of, named_request, serve_at, or_wrong, ◌>>=◌, number_of, day_in, day_of, named_in, step_of, turns_of, connections_of, checked_day}
+use Rattle.casa_words.specs.Checks.{AreRead, first_wrong, report_checks, report_request, load_request, summary_checks, summary_request, why_checks, why_request, serve_checks, serve_request, unless_wrong}
 use Rattle.casa_words.proofs.Served.{serve_checked}
 
 pub nothing_asked : (words : List Text) → (fault_of casa_app words ≡ [] → ⊥) → request_of words ≡ None
@@ -23,19 +23,40 @@ asked_of words name rows read = rw (read.0, read.1) refl
 pub run_asked : (words : List Text) (rows : List Row) → AreRead words (codes "run") rows → request_of words ≡ Some (Ok run)
 run_asked words rows read = asked_of words (codes "run") rows read
 
-report_at : (reg : Option Text) (day : Option DateParts)
-    → Some (or_wrong wrong_reg reg >>= (λ r. or_wrong wrong_day day >>= (λ d. Ok (report r d))))
-    ≡ unless_wrong (first_wrong ((is_none reg, wrong_reg) ∷ (is_none day, wrong_day) ∷ []))
-    (option_and_then (λ r. option_and_then (λ d. Some (report r d)) day) reg)
-report_at None day = refl
-report_at (Some r) None = refl
-report_at (Some r) (Some d) = refl
+-- a subcommand with a name and a day, by these
+named_and_day : (wrong : WrongValue) (name : Option Text) (day : Option DateParts) (make : Text → DateParts → Request)
+    → Some (or_wrong wrong name >>= (λ n. or_wrong wrong_day day >>= (λ d. Ok (make n d))))
+    ≡ unless_wrong (first_wrong ((is_none name, wrong) ∷ (is_none day, wrong_day) ∷ []))
+    (option_and_then (λ n. option_and_then (λ d. Some (make n d)) day) name)
+named_and_day wrong None day make = refl
+named_and_day wrong (Some n) None make = refl
+named_and_day wrong (Some n) (Some d) make = refl
 
 pub report_asked : (words : List Text) (rows : List Row) → AreRead words (codes "report") rows
     → request_of words ≡ unless_wrong (first_wrong (report_checks rows)) (report_request rows)
 report_asked words rows read =
-    asked_of words (codes "report") rows read
-    ∙ report_at (option_and_then reg_of (first_of (codes "reg") rows)) (option_and_then day_of (first_of (codes "day") rows))
+    asked_of words (codes "report") rows read ∙ named_and_day wrong_reg (named_in (codes "reg") rows) (day_in rows) report
+
+pub load_asked : (words : List Text) (rows : List Row) → AreRead words (codes "load") rows
+    → request_of words ≡ unless_wrong (first_wrong (report_checks rows)) (load_request rows)
+load_asked words rows read =
+    asked_of words (codes "load") rows read
+    ∙ named_and_day wrong_reg (named_in (codes "reg") rows) (day_in rows) (λ reg day. load reg day (step_of rows))
+
+pub why_asked : (words : List Text) (rows : List Row) → AreRead words (codes "why") rows
+    → request_of words ≡ unless_wrong (first_wrong (why_checks rows)) (why_request rows)
+why_asked words rows read =
+    asked_of words (codes "why") rows read ∙ named_and_day wrong_key (named_in (codes "key") rows) (day_in rows) why
+
+day_alone : (day : Option DateParts)
+    → Some (or_wrong wrong_day day >>= (λ d. Ok (summary d)))
+    ≡ unless_wrong (first_wrong ((is_none day, wrong_day) ∷ [])) (option_and_then (λ d. Some (summary d)) day)
+day_alone None = refl
+day_alone (Some d) = refl
+
+pub summary_asked : (words : List Text) (rows : List Row) → AreRead words (codes "summary") rows
+    → request_of words ≡ unless_wrong (first_wrong (summary_checks rows)) (summary_request rows)
+summary_asked words rows read = asked_of words (codes "summary") rows read ∙ day_alone (day_in rows)
 
 -- `serve`, by whether no turn is asked for and by the day
 with_day : (b : Bool) (day : Option DateParts) (make : Option DateParts → Request)
@@ -55,7 +76,7 @@ served_at b (Some t) make = with_day b (day_of t) make
 
 with_port : (rows : List Row) (o : Option ℕ) → IsSome o
     → option_map (serve_at rows) o ≡ unless_wrong (first_wrong (serve_checks rows))
-    (option_and_then (λ port. Some (serve port (connections_of rows) (turns_of rows) (option_and_then day_of (first_of (codes "day") rows)))) o)
+    (option_and_then (λ port. Some (serve port (connections_of rows) (turns_of rows) (day_in rows))) o)
 with_port rows None h = absurd (cc)
 with_port rows (Some port) h =
     served_at (turns_of rows == 0) (first_of (codes "day") rows) (λ day. serve port (connections_of rows) (turns_of rows) day)

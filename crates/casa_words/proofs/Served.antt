@@ -1,4 +1,4 @@
--- what clap has checked of the options of `serve`
+-- what clap has checked of the options of `serve` and `load`
 use Rattle.std.proofs.Common.{◌≡◌, ◌∙◌, ◌<◌, ◌||◌, ℕ, Bool, true, false, not, cond, refl, sym, ap, subst, inl, inr, arith, codes, List, [], ◌∷◌, length, Option, Some, None, IfSome, IsSome, option_map, true≢false}
 use Rattle.std.specs.Prelude.{find, nat_lt, option_and_then, pos, slice_get, unwrap_or}
 use Rattle.std.specs.Option.{option_map_or}
@@ -16,7 +16,7 @@ use Rattle.clap.specs.declared.builder.action.ArgAction.TheVariants.{Set}
 use Rattle.clap.specs.declared.builder.value_parser.ValueParser.TheVariants.{Signed}
 use Rattle.clap.proofs.ValueTestLemmas.{accepts-Accepts}
 use Rattle.casa_words.specs.Words.{casa_app}
-use Rattle.casa_words.specs.Tasks.{AreChecked, IsNumber}
+use Rattle.casa_words.specs.Tasks.{AreChecked, IsNumber, IsStepped}
 use Rattle.casa_words.proofs.Walks.{AreBeside, ArePassed, IsOneValued, level-passed, or_else-left, or_else-right, row-passed}
 
 -- the first value of an option with numbers
@@ -69,7 +69,7 @@ given_in_rows q rows passed given = go (find (λ r. bytes_eq r.id q.id) rows) re
 -- ---- the options of `serve`
 
 abbrev serve_shape : Shape
-serve_shape = unwrap_or (slice_get (built casa_app).subs 2) (new_shape [])
+serve_shape = unwrap_or (slice_get (built casa_app).subs 5) (new_shape [])
 
 abbrev rule_at : ℕ → Rule
 rule_at k = unwrap_or (slice_get serve_shape.rules k) (new_rule [])
@@ -145,45 +145,93 @@ served words e =
       turns = number_in_rows (rule_at 3) 0 4294967295 rows refl turns.0;
     }
 
--- only one of the subcommands has this name
-abbrev AreNamed : List Shape → Type 0
-AreNamed [] = Unit {0}
-AreNamed (s ∷ rest) = (bytes_eq s.name (codes "serve") ≡ true → s ≡ serve_shape) × AreNamed rest
+-- ---- the options of `load`
 
-are_named : AreNamed (built casa_app).subs
-are_named = (λ e. absurd (true≢false (sym e)), (λ e. absurd (true≢false (sym e)), (λ e. refl, (λ e. absurd (true≢false (sym e)), tt))))
+abbrev load_shape : Shape
+load_shape = unwrap_or (slice_get (built casa_app).subs 2) (new_shape [])
 
-shape_named : (p : Shape → Bool) (subs : List Shape) (s : Shape) → AreNamed subs → find p subs ≡ Some s
-    → bytes_eq s.name (codes "serve") ≡ true → s ≡ serve_shape
-shape_named p [] s named e same = absurd (cc)
-shape_named p (x ∷ xs) s named e same = go (p x) e (λ f. shape_named p xs s named.1 f same)
-  where
-    go : (b : Bool) → cond b (Some x) (find p xs) ≡ Some s → (find p xs ≡ Some s → s ≡ serve_shape) → s ≡ serve_shape
-    go true f rest =
-        let is : x ≡ s = ap (λ (o : Option Shape). unwrap_or o s) f in
-        let own : bytes_eq x.name (codes "serve") ≡ true = subst (λ y. bytes_eq y.name (codes "serve") ≡ true) (sym is) same in
-        sym is ∙ named.0 own
-    go false f rest = rest f
+abbrev load_rule : ℕ → Rule
+load_rule k = unwrap_or (slice_get load_shape.rules k) (new_rule [])
 
--- where clap finds no fault and the words name `serve`, its numbers are checked
+load_help : IsOneValued (load_rule 3)
+load_help = record { acts = inr refl; defaults = refl }
+
+step_beside : AreBeside (load_rule 2) load_shape.rules
+step_beside = (
+  (is_set (load_rule 0) refl refl refl, λ e. absurd (true≢false (sym e))),
+  (
+    (is_set (load_rule 1) refl refl refl, λ e. absurd (true≢false (sym e))),
+    (
+      (is_set (load_rule 2) refl refl refl, λ e. refl),
+      ((load_help, λ e. absurd (true≢false (sym e))), tt),
+    ),
+  ),
+)
+
+stepped : (words : List Text) → level_fault load_shape [] nothing_held words false [] ≡ []
+    → IsStepped (rows_after load_shape.rules [] words)
+stepped words e =
+    number_in_rows (load_rule 2) 1 1440 (rows_after load_shape.rules [] words) refl
+    (level-passed (load_rule 2) load_shape step_beside words e).0
+
+-- ---- where only one of the subcommands has a name, and its walk shows that its rows are so
+
+module _ (label : Text) (own : Shape) (IsSo : List Row → Type 0)
+    (shown : (words : List Text) → level_fault own [] nothing_held words false [] ≡ [] → IsSo (rows_after own.rules [] words)) where
+  abbrev AreNamed : List Shape → Type 0
+  AreNamed [] = Unit {0}
+  AreNamed (s ∷ rest) = (bytes_eq s.name label ≡ true → s ≡ own) × AreNamed rest
+
+  shape_named : (p : Shape → Bool) (subs : List Shape) (s : Shape) → AreNamed subs → find p subs ≡ Some s
+      → bytes_eq s.name label ≡ true → s ≡ own
+  shape_named p [] s named e same = absurd (cc)
+  shape_named p (x ∷ xs) s named e same = go (p x) e (λ f. shape_named p xs s named.1 f same)
+    where
+      go : (b : Bool) → cond b (Some x) (find p xs) ≡ Some s → (find p xs ≡ Some s → s ≡ own) → s ≡ own
+      go true f rest =
+          let is : x ≡ s = ap (λ (o : Option Shape). unwrap_or o s) f in
+          let its : bytes_eq x.name label ≡ true = subst (λ y. bytes_eq y.name label ≡ true) (sym is) same in
+          sym is ∙ named.0 its
+      go false f rest = rest f
+
+  -- where clap finds no fault and the words name this subcommand, so are the rows of its options
+  subcommand_shown : AreNamed (built casa_app).subs → (words : List Text) (name : Text) (rows : List Row) → fault_of casa_app words ≡ []
+      → subcommand_of casa_app words ≡ Some (name, rows) → bytes_eq name label ≡ true → IsSo rows
+  subcommand_shown are_named words name rows clean e same =
+      go (stop_after (built casa_app).top.rules (names_of (built casa_app)) (argument_words casa_app words))
+      (or_else-left _ _ (or_else-right _ _ clean)) e
+    where
+      at : (p : Text × List Text) (o : Option Shape) → find (λ s. answers_to p.0 (label_of s)) (built casa_app).subs ≡ o
+          → option_map_or (λ s. level_fault s [] nothing_held p.1 false []) o [] ≡ []
+          → option_map (λ s. rows_at s p.1) o ≡ Some (name, rows) → IsSo rows
+      at p None is f g = absurd (cc)
+      at p (Some s) is f g =
+          let named : s.name ≡ name = ap (λ (o : Option (Text × List Row)). (unwrap_or o (name, rows)).0) g in
+          let same_rows : rows_after s.rules [] p.1 ≡ rows = ap (λ (o : Option (Text × List Row)). (unwrap_or o (name, rows)).1) g in
+          let its : s ≡ own = shape_named (λ (t : Shape). answers_to p.0 (label_of t)) (built casa_app).subs s are_named is (subst (λ (t : Text). bytes_eq t label ≡ true) (sym named) same) in
+          subst IsSo same_rows
+          (subst (λ t. level_fault t [] nothing_held p.1 false [] ≡ [] → IsSo (rows_after t.rules [] p.1)) (sym its) (shown p.1) f)
+
+      go : (o : Option (Text × List Text)) → entered_fault (built casa_app) o ≡ [] → entered (built casa_app) o ≡ Some (name, rows)
+          → IsSo rows
+      go None f g = absurd (cc)
+      go (Some p) f g = at p (find (λ s. answers_to p.0 (label_of s)) (built casa_app).subs) refl f g
+
+-- the numbers of `serve` and of `load` are checked
 pub serve_checked : (words : List Text) (name : Text) (rows : List Row) → fault_of casa_app words ≡ []
     → subcommand_of casa_app words ≡ Some (name, rows) → bytes_eq name (codes "serve") ≡ true → AreChecked rows
-serve_checked words name rows clean e same =
-    go (stop_after (built casa_app).top.rules (names_of (built casa_app)) (argument_words casa_app words))
-    (or_else-left _ _ (or_else-right _ _ clean)) e
+serve_checked =
+    subcommand_shown (codes "serve") serve_shape AreChecked served
+    (other, (other, (other, (other, (other, (λ e. refl, (other, tt)))))))
   where
-    at : (p : Text × List Text) (o : Option Shape) → find (λ s. answers_to p.0 (label_of s)) (built casa_app).subs ≡ o
-        → option_map_or (λ s. level_fault s [] nothing_held p.1 false []) o [] ≡ []
-        → option_map (λ s. rows_at s p.1) o ≡ Some (name, rows) → AreChecked rows
-    at p None is f g = absurd (cc)
-    at p (Some s) is f g =
-        let named : s.name ≡ name = ap (λ (o : Option (Text × List Row)). (unwrap_or o (name, rows)).0) g in
-        let same_rows : rows_after s.rules [] p.1 ≡ rows = ap (λ (o : Option (Text × List Row)). (unwrap_or o (name, rows)).1) g in
-        let own : s ≡ serve_shape = shape_named (λ (t : Shape). answers_to p.0 (label_of t)) (built casa_app).subs s are_named is (subst (λ (t : Text). bytes_eq t (codes "serve") ≡ true) (sym named) same) in
-        subst AreChecked same_rows
-        (subst (λ t. level_fault t [] nothing_held p.1 false [] ≡ [] → AreChecked (rows_after t.rules [] p.1)) (sym own) (served p.1) f)
+    other : {A : Type 0} → false ≡ true → A
+    other e = absurd (true≢false (sym e))
 
-    go : (o : Option (Text × List Text)) → entered_fault (built casa_app) o ≡ [] → entered (built casa_app) o ≡ Some (name, rows)
-        → AreChecked rows
-    go None f g = absurd (cc)
-    go (Some p) f g = at p (find (λ s. answers_to p.0 (label_of s)) (built casa_app).subs) refl f g
+pub load_checked : (words : List Text) (name : Text) (rows : List Row) → fault_of casa_app words ≡ []
+    → subcommand_of casa_app words ≡ Some (name, rows) → bytes_eq name (codes "load") ≡ true → IsStepped rows
+load_checked =
+    subcommand_shown (codes "load") load_shape IsStepped stepped
+    (other, (other, (λ e. refl, (other, (other, (other, (other, tt)))))))
+  where
+    other : {A : Type 0} → false ≡ true → A
+    other e = absurd (true≢false (sym e))

@@ -3,7 +3,7 @@ use Rattle.std.specs.Prelude.{◌≡◌, Bool, false, not, ◌&&◌, ◌==◌, L
 use Rattle.std.specs.Option.{option_map_or}
 use Rattle.clap.specs.Words.{Row, fault_of, first_of, subcommand_of}
 use Rattle.casa_flight.specs.Text.{Text}
-use Rattle.casa_words.specs.Words.{Request, WrongValue, report, serve, wrong_reg, wrong_day, casa_app, connections_of, day_of, number_of, reg_of, turns_of}
+use Rattle.casa_words.specs.Words.{Request, WrongValue, report, load, summary, why, serve, wrong_reg, wrong_key, wrong_day, casa_app, connections_of, day_in, day_of, named_in, number_of, step_of, turns_of}
 
 -- clap finds no fault in the words, and they are this subcommand with these options
 abbrev pub AreRead : List Text → Text → List Row → Type 0
@@ -17,11 +17,17 @@ Check = Bool × WrongValue
 abbrev pub first_wrong : List Check → Option WrongValue
 first_wrong checks = option_map (λ (check : Check). check.1) (find (λ (check : Check). check.0) checks)
 
--- of `report`: what stands after `--reg` is no identifier; what stands after `--day` is no day
+-- of `report` and `load`: what stands after `--reg` is no identifier; what stands after `--day` is no day
 abbrev pub report_checks : List Row → List Check
-report_checks rows =
-    (is_none (option_and_then reg_of (first_of (codes "reg") rows)), wrong_reg) ∷
-    (is_none (option_and_then day_of (first_of (codes "day") rows)), wrong_day) ∷ []
+report_checks rows = (is_none (named_in (codes "reg") rows), wrong_reg) ∷ (is_none (day_in rows), wrong_day) ∷ []
+
+-- of `summary`: what stands after `--day` is no day
+abbrev pub summary_checks : List Row → List Check
+summary_checks rows = (is_none (day_in rows), wrong_day) ∷ []
+
+-- of `why`: what stands after `--key` is no key of a flight; what stands after `--day` is no day
+abbrev pub why_checks : List Row → List Check
+why_checks rows = (is_none (named_in (codes "key") rows), wrong_key) ∷ (is_none (day_in rows), wrong_day) ∷ []
 
 -- of `serve`: what stands after `--day` is no day; the clock is to be moved, and no day is given
 abbrev pub serve_checks : List Row → List Check
@@ -36,14 +42,31 @@ found >>= next = option_and_then next found
 -- what the options ask for, where each is what it must be
 abbrev pub report_request : List Row → Option Request
 report_request rows = do
-  reg ← option_and_then reg_of (first_of (codes "reg") rows)
-  day ← option_and_then day_of (first_of (codes "day") rows)
+  reg ← named_in (codes "reg") rows
+  day ← day_in rows
   Some (report reg day)
+
+abbrev pub load_request : List Row → Option Request
+load_request rows = do
+  reg ← named_in (codes "reg") rows
+  day ← day_in rows
+  Some (load reg day (step_of rows))
+
+abbrev pub summary_request : List Row → Option Request
+summary_request rows = do
+  day ← day_in rows
+  Some (summary day)
+
+abbrev pub why_request : List Row → Option Request
+why_request rows = do
+  key ← named_in (codes "key") rows
+  day ← day_in rows
+  Some (why key day)
 
 abbrev pub serve_request : List Row → Option Request
 serve_request rows = do
   port ← number_of (codes "port") rows
-  Some (serve port (connections_of rows) (turns_of rows) (option_and_then day_of (first_of (codes "day") rows)))
+  Some (serve port (connections_of rows) (turns_of rows) (day_in rows))
 
 -- what is wrong, or else what is asked for
 abbrev pub unless_wrong : Option WrongValue → Option Request → Option (Result Request WrongValue)

@@ -12,6 +12,9 @@ pub const AFTER_HELP: &str = "\
 Examples:
   casa run < examples/first.jsonl
   casa report --reg R1 --day 2025-06-01 < examples/first.jsonl
+  casa load --reg R1 --day 2025-06-01 < examples/first.jsonl
+  casa summary --day 2025-06-01 < examples/first.jsonl
+  casa why --key A --day 2025-06-01 < examples/first.jsonl
   casa serve --port 4750 --connections 8
 
 Commands are lines of JSON, on standard input or over a connection; docs/COMMANDS.md describes each, and its reply.";
@@ -38,6 +41,48 @@ Example:
 
 The command lines come on standard input, as those of `casa run`, and their replies are not printed;
 docs/COMMANDS.md describes them and the table.";
+
+/// What `load` does.
+pub const LOAD_ABOUT: &str =
+    "Prints the demand on a regulation and its capacity, step by step, as planned and as calculated";
+
+/// What stands below the options of `load`.
+pub const LOAD_AFTER_HELP: &str = "\
+Examples:
+  casa load --reg R1 --day 2025-06-01 < examples/first.jsonl
+  casa load --reg R1 --day 2025-06-01 --step 60 < examples/first.jsonl
+
+The command lines come on standard input, as those of `casa run`, and their replies are not printed;
+docs/COMMANDS.md describes them and the figures.";
+
+/// What `summary` does.
+pub const SUMMARY_ABOUT: &str =
+    "Prints what each open regulation costs, as it stands after the command lines";
+
+/// What stands below the options of `summary`.
+pub const SUMMARY_AFTER_HELP: &str = "\
+Example:
+  casa summary --day 2025-06-01 < examples/first.jsonl
+
+The command lines come on standard input, as those of `casa run`, and their replies are not printed;
+docs/COMMANDS.md describes them and the figures.";
+
+/// What `why` does.
+pub const WHY_ABOUT: &str = "Prints why a flight waits, as it stands after the command lines";
+
+/// What stands below the options of `why`.
+pub const WHY_AFTER_HELP: &str = "\
+Example:
+  casa why --key A --day 2025-06-01 < examples/first.jsonl
+
+The command lines come on standard input, as those of `casa run`, and their replies are not printed;
+docs/COMMANDS.md describes them and what is printed.";
+
+/// What stands after `--key`.
+pub const KEY_HELP: &str = "The flight: 1 to 10 characters of A to Z and 0 to 9";
+
+/// What stands after `--step`.
+pub const STEP_HELP: &str = "The length of a step in minutes: 1 to 1440, 20 if not given";
 
 /// What stands after `--reg`.
 pub const REG_HELP: &str = "The regulation: 1 to 10 characters of A to Z and 0 to 9";

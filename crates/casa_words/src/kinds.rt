@@ -1,4 +1,4 @@
-use casa_flight::RegId;
+use casa_flight::{Key, RegId};
 use jiff::civil::Date;
 use thiserror::Error;
 
@@ -9,6 +9,19 @@ pub enum Task {
     Run,
     /// `casa report`: the list of a regulation as a table, under a heading with the day.
     Report(RegId, Date),
+    /// `casa load`: the demand on a regulation and its capacity, under a heading with the day.
+    Load {
+        /// The regulation.
+        reg: RegId,
+        /// The day, for the heading.
+        day: Date,
+        /// The length of a step in minutes, 1 to 1,440.
+        step: u32,
+    },
+    /// `casa summary`: what each open regulation costs, under a heading with the day.
+    Summary(Date),
+    /// `casa why`: why a flight waits, under a heading with the day.
+    Why(Key, Date),
     /// `casa serve`: the desks of a day, each over a connection of its own.
     Serve {
         /// The port to listen on, 1 to 65,535.
@@ -31,6 +44,9 @@ pub enum TaskFault {
     /// What stands after `--reg` is no identifier: 1 to 10 characters of A to Z and 0 to 9.
     #[error("the regulation is not 1 to 10 characters of A to Z and 0 to 9")]
     BadReg,
+    /// What stands after `--key` is no key of a flight: 1 to 10 characters of A to Z and 0 to 9.
+    #[error("the flight is not 1 to 10 characters of A to Z and 0 to 9")]
+    BadKey,
     /// What stands after `--day` is no date in the form `YYYY-MM-DD`, or the clock is to be moved and no day is given.
     #[error("the day is no date in the form YYYY-MM-DD, or is missing")]
     BadDay,

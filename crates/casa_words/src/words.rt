@@ -1,14 +1,14 @@
-ghost use Rattle.std.specs.Prelude.{◌≡◌, Some, false, codes, IfErr, IfOk, IsSome, map, option_and_then, option_map};
+ghost use Rattle.std.specs.Prelude.{◌≡◌, ◌<◌, ◌^◌, ℕ, Some, false, codes, IfErr, IfOk, IsSome, map, option_map};
 ghost use Rattle.clap.specs.Words.{app_of, HasKind, fault_of, first_of, found_of, new_app, one_of, rows_of, rule_of};
 ghost use Rattle.clap.specs.declared.error.Error.{Error};
 ghost use Rattle.clap.specs.declared.builder.command.Command.TheViews.{out-Command as fields_of};
 ghost use Rattle.jiff_fmt.specs.Temporal.{date_parts};
-ghost use Rattle.casa_words.specs.Tasks.{AreChecked, AreRefused, Asks, HasRead, IsNumber, IsOutcome};
-ghost use Rattle.casa_words.specs.Words.{are_digits, casa_alone, casa_app, day_of, is_day_shaped, is_digit, needed, number_between, number_of, option_rule, reg_of, report_app, report_of, run_app, serve_app, serve_at, serve_without_clock};
+ghost use Rattle.casa_words.specs.Tasks.{AreChecked, AreRefused, Asks, HasRead, IsNumber, IsOutcome, IsStepped};
+ghost use Rattle.casa_words.specs.Words.{are_digits, casa_alone, casa_app, casa_of_lists, day_in, day_of, is_day_shaped, is_digit, load_app, load_of, named_in, needed, number_between, number_of, option_rule, report_app, report_of, run_app, serve_app, serve_at, serve_without_clock, summary_app, summary_of, why_app, why_of};
 
 use crate::help;
 use crate::kinds::{Task, TaskFault};
-use casa_flight::RegId;
+use casa_flight::Name;
 use clap::{Arg, ArgMatches, Command, value_parser};
 use jiff::civil::Date;
 use std::alloc::{AllocError, Global};
@@ -16,8 +16,9 @@ use std::alloc::{AllocError, Global};
 /// What the words ask for; the first is the program's name.
 ///
 /// `Words` where clap refuses them, or where they ask for help or the version; then `BadReg` where what stands after
-/// `--reg` is no identifier; then `BadDay` where what stands after `--day` is not four digits, a hyphen, two digits, a
-/// hyphen and two digits, or no date, and where `serve` is to turn the clock and no day is given.
+/// `--reg` is no identifier, and `BadKey` where what stands after `--key` is none; then `BadDay` where what stands after
+/// `--day` is not four digits, a hyphen, two digits, a hyphen and two digits, or no date, and where `serve` is to turn
+/// the clock and no day is given.
 pub fn task<'a>(alloc: Global, words: &'a [&'a str]) -> Result<Task, TaskFault>
     ensures ok { IfOk result (Asks (map (λ word. word.now) words.entry.now)) }
     ensures err { IfErr result (AreRefused (map (λ word. word.now) words.entry.now)) }
@@ -29,6 +30,12 @@ pub fn task<'a>(alloc: Global, words: &'a [&'a str]) -> Result<Task, TaskFault>
                 Ok(Task::Run)
             } else if name == "serve" {
                 serve_task(values)
+            } else if name == "load" {
+                load_task(values)
+            } else if name == "summary" {
+                summary_task(values)
+            } else if name == "why" {
+                why_task(values)
             } else {
                 report_task(values)
             }
@@ -57,13 +64,37 @@ fn matches_in<'a>(alloc: Global, words: &'a [&'a str]) -> Result<ArgMatches<'a>,
 fn report_task(values: &ArgMatches<'_>) -> Result<Task, TaskFault>
     ensures { IsOutcome (Some (report_of (rows_of (found_of values.now)))) result }
 {
-    let Some(reg) = reg_in(values) else {
-        return Err(TaskFault::BadReg);
-    };
-    let Some(day) = day_in(values) else {
-        return Err(TaskFault::BadDay);
-    };
+    let reg = name_in(values, "reg").ok_or(TaskFault::BadReg)?;
+    let day = day_in(values).ok_or(TaskFault::BadDay)?;
     Ok(Task::Report(reg, day))
+}
+
+/// The task of `casa load` with the values of its options.
+fn load_task(values: &ArgMatches<'_>) -> Result<Task, TaskFault>
+    requires { IsStepped (rows_of (found_of values.now)) }
+    ensures { IsOutcome (Some (load_of (rows_of (found_of values.now)))) result }
+{
+    let reg = name_in(values, "reg").ok_or(TaskFault::BadReg)?;
+    let day = day_in(values).ok_or(TaskFault::BadDay)?;
+    let step = number_in(values, "step").unwrap_or(20);
+    Ok(Task::Load { reg, day, step })
+}
+
+/// The task of `casa summary` with the values of its options.
+fn summary_task(values: &ArgMatches<'_>) -> Result<Task, TaskFault>
+    ensures { IsOutcome (Some (summary_of (rows_of (found_of values.now)))) result }
+{
+    let day = day_in(values).ok_or(TaskFault::BadDay)?;
+    Ok(Task::Summary(day))
+}
+
+/// The task of `casa why` with the values of its options.
+fn why_task(values: &ArgMatches<'_>) -> Result<Task, TaskFault>
+    ensures { IsOutcome (Some (why_of (rows_of (found_of values.now)))) result }
+{
+    let key = name_in(values, "key").ok_or(TaskFault::BadKey)?;
+    let day = day_in(values).ok_or(TaskFault::BadDay)?;
+    Ok(Task::Why(key, day))
 }
 
 /// The task of `casa serve` with the values of its options.
@@ -104,26 +135,25 @@ fn port_in(values: &ArgMatches<'_>) -> u16
 
 /// The number after an option, where there is one.
 fn number_in(values: &ArgMatches<'_>, name: &str) -> Option<u32>
-    requires { IsNumber 0 4294967295 name.now (rows_of (found_of values.now)) }
+    requires { (low high : ℕ) × (high < 2 ^ 32) × IsNumber low high name.now (rows_of (found_of values.now)) }
     ensures { result ≡ number_of name.now (rows_of (found_of values.now)) }
 {
     values.get_one(name)
 }
 
-/// The regulation after `--reg`.
-fn reg_in(values: &ArgMatches<'_>) -> Option<RegId>
-    ensures { result ≡ option_and_then reg_of (first_of (codes "reg") (rows_of (found_of values.now))) }
+/// The name after an option.
+fn name_in<Kind>(values: &ArgMatches<'_>, option: &str) -> Option<Name<Kind>>
+    ensures { result ≡ named_in option.now (rows_of (found_of values.now)) }
 {
-    match value_of(values, "reg") {
-        Some(text) => RegId::new(text.as_bytes()),
+    match value_of(values, option) {
+        Some(text) => Name::new(text.as_bytes()),
         None => None,
     }
 }
 
 /// The day after `--day`.
 fn day_in(values: &ArgMatches<'_>) -> Option<Date>
-    ensures { option_map date_parts result ≡
-        option_and_then day_of (first_of (codes "day") (rows_of (found_of values.now))) }
+    ensures { option_map date_parts result ≡ day_in (rows_of (found_of values.now)) }
 {
     match value_of(values, "day") {
         Some(text) => day_named(text),
@@ -180,10 +210,21 @@ fn casa_command<'a>(alloc: Global) -> Result<Command<'a>, AllocError>
     ensures app { IfOk result (λ command. app_of command ≡ casa_app) }
     ensures local { IfOk result (λ command. (fields_of command).has_globals ≡ false) }
 {
+    casa_of_lists(alloc)?
+        .subcommand(summary_command(alloc)?)?
+        .subcommand(why_command(alloc)?)?
+        .subcommand(serve_command(alloc)?)
+}
+
+/// `casa` with the subcommands that answer each line or ask for one regulation.
+fn casa_of_lists<'a>(alloc: Global) -> Result<Command<'a>, AllocError>
+    ensures app { IfOk result (λ command. app_of command ≡ casa_of_lists) }
+    ensures local { IfOk result (λ command. (fields_of command).has_globals ≡ false) }
+{
     casa_alone(alloc)?
         .subcommand(run_command(alloc))?
         .subcommand(report_command(alloc)?)?
-        .subcommand(serve_command(alloc)?)
+        .subcommand(load_command(alloc)?)
 }
 
 /// `casa` without its subcommands, under this name whatever the program's file is called.
@@ -205,9 +246,7 @@ fn run_command<'a>(alloc: Global) -> Command<'a>
     ensures app { app_of result ≡ run_app }
     ensures local { (fields_of result).has_globals ≡ false }
 {
-    Command::new(alloc, "run")
-        .about(help::RUN_ABOUT)
-        .after_help(help::RUN_AFTER_HELP)
+    described(alloc, "run", help::RUN_ABOUT, help::RUN_AFTER_HELP)
 }
 
 /// `casa report` with its options.
@@ -215,19 +254,44 @@ fn report_command<'a>(alloc: Global) -> Result<Command<'a>, AllocError>
     ensures app { IfOk result (λ command. app_of command ≡ report_app) }
     ensures local { IfOk result (λ command. (fields_of command).has_globals ≡ false) }
 {
-    let reg = value_option(alloc, "reg", "R", help::REG_HELP).required(true);
-    let day = value_option(alloc, "day", "YYYY-MM-DD", help::DAY_HELP).required(true);
-    report_alone(alloc).arg(reg)?.arg(day)
+    let report = described(alloc, "report", help::REPORT_ABOUT, help::REPORT_AFTER_HELP);
+    report.arg(reg_option(alloc))?.arg(day_option(alloc))
 }
 
-/// `casa report` without its options.
-fn report_alone<'a>(alloc: Global) -> Command<'a>
-    ensures app { app_of result ≡ new_app (codes "report") }
-    ensures local { (fields_of result).has_globals ≡ false }
+/// `casa load` with its options.
+fn load_command<'a>(alloc: Global) -> Result<Command<'a>, AllocError>
+    ensures app { IfOk result (λ command. app_of command ≡ load_app) }
+    ensures local { IfOk result (λ command. (fields_of command).has_globals ≡ false) }
 {
-    Command::new(alloc, "report")
-        .about(help::REPORT_ABOUT)
-        .after_help(help::REPORT_AFTER_HELP)
+    described(alloc, "load", help::LOAD_ABOUT, help::LOAD_AFTER_HELP)
+        .arg(reg_option(alloc))?
+        .arg(day_option(alloc))?
+        .arg(step_option(alloc))
+}
+
+/// `casa summary` with its option.
+fn summary_command<'a>(alloc: Global) -> Result<Command<'a>, AllocError>
+    ensures app { IfOk result (λ command. app_of command ≡ summary_app) }
+    ensures local { IfOk result (λ command. (fields_of command).has_globals ≡ false) }
+{
+    let summary = described(
+        alloc,
+        "summary",
+        help::SUMMARY_ABOUT,
+        help::SUMMARY_AFTER_HELP,
+    );
+    summary.arg(day_option(alloc))
+}
+
+/// `casa why` with its options.
+fn why_command<'a>(alloc: Global) -> Result<Command<'a>, AllocError>
+    ensures app { IfOk result (λ command. app_of command ≡ why_app) }
+    ensures local { IfOk result (λ command. (fields_of command).has_globals ≡ false) }
+{
+    let key = value_option(alloc, "key", "K", help::KEY_HELP).required(true);
+    described(alloc, "why", help::WHY_ABOUT, help::WHY_AFTER_HELP)
+        .arg(key)?
+        .arg(day_option(alloc))
 }
 
 /// `casa serve` with its options.
@@ -246,17 +310,17 @@ fn serve_without_clock<'a>(alloc: Global) -> Result<Command<'a>, AllocError>
     ensures local { IfOk result (λ command. (fields_of command).has_globals ≡ false) }
 {
     let connections = count_option(alloc, "connections", "N", help::CONNECTIONS_HELP);
-    serve_alone(alloc).arg(port_option(alloc))?.arg(connections)
+    described(alloc, "serve", help::SERVE_ABOUT, help::SERVE_AFTER_HELP)
+        .arg(port_option(alloc))?
+        .arg(connections)
 }
 
-/// `casa serve` without its options.
-fn serve_alone<'a>(alloc: Global) -> Command<'a>
-    ensures app { app_of result ≡ new_app (codes "serve") }
+/// A subcommand that takes no words, with what stands above its options and below them in its help.
+fn described<'a>(alloc: Global, name: &'a str, about: &'a str, after: &'a str) -> Command<'a>
+    ensures app { app_of result ≡ new_app name.entry.now }
     ensures local { (fields_of result).has_globals ≡ false }
 {
-    Command::new(alloc, "serve")
-        .about(help::SERVE_ABOUT)
-        .after_help(help::SERVE_AFTER_HELP)
+    Command::new(alloc, name).about(about).after_help(after)
 }
 
 /// An option with a value.
@@ -286,4 +350,30 @@ fn port_option<'a>(alloc: Global) -> Arg<'a>
     value_option(alloc, "port", "P", help::PORT_HELP)
         .value_parser(value_parser!(u16).range(1..))
         .required(true)
+}
+
+/// `--reg`, which must be given.
+fn reg_option<'a>(alloc: Global) -> Arg<'a>
+    ensures rule { rule_of result ≡ needed (option_rule (codes "reg")) }
+    ensures local { result.global ≡ false }
+{
+    value_option(alloc, "reg", "R", help::REG_HELP).required(true)
+}
+
+/// `--day`, which must be given.
+fn day_option<'a>(alloc: Global) -> Arg<'a>
+    ensures rule { rule_of result ≡ needed (option_rule (codes "day")) }
+    ensures local { result.global ≡ false }
+{
+    value_option(alloc, "day", "YYYY-MM-DD", help::DAY_HELP).required(true)
+}
+
+/// `--step`, in minutes.
+fn step_option<'a>(alloc: Global) -> Arg<'a>
+    ensures rule { rule_of result ≡ number_between 1 1440 (option_rule (codes "step")) }
+    ensures local { result.global ≡ false }
+{
+    value_option(alloc, "step", "MINUTES", help::STEP_HELP).value_parser(value_parser!(u32).range(
+        1..=1440,
+    ))
 }
