@@ -1,9 +1,10 @@
-//! Casa allocates departure slots: `casa run` answers command lines, `casa report` prints a regulation's list, and `casa
-//! serve` answers the desks that connect.
+//! Casa allocates departure slots: `casa run` answers command lines; `casa report` prints a regulation's list after them,
+//! `casa load` its demand and capacity, `casa summary` what all regulations cost, and `casa why` why a flight waits; and
+//! `casa serve` answers the desks that connect.
 #![tactic(auto)]
 
 use casa_session::Lone;
-use casa_tasks::{ProgramFault, Timing, outcome, report, serve_desks};
+use casa_tasks::{ProgramFault, Timing, load, outcome, report, serve_desks, summary, why};
 use casa_words::{Task, TaskFault, task};
 use clap::Command;
 use clap::error::ErrorKind;
@@ -40,6 +41,9 @@ fn carry_out<
     match *task {
         Task::Run => answer_lines(alloc, reader, writer),
         Task::Report(reg, day) => report(alloc, &reg, day, reader, writer),
+        Task::Load { reg, day, step } => load(alloc, &reg, day, step, reader, writer),
+        Task::Summary(day) => summary(rt, alloc, day, reader, writer),
+        Task::Why(key, day) => why(alloc, &key, day, reader, writer),
         Task::Serve {
             port,
             connections,

@@ -1,13 +1,16 @@
 -- the reply of the last receipt is that of its call after the calls before it
-use Rattle.std.proofs.Common.{◌≡◌, ℕ, ◌+◌, List, [], ◌∷◌, ◌++◌, refl, ap, subst, ◌∙◌}
+use Rattle.std.proofs.Common.{◌≡◌, ℕ, ◌+◌, List, [], ◌∷◌, ◌++◌, Option, None, Some, map, refl, sym, ap, subst, ◌∙◌}
+use Rattle.std.proofs.lemmas.List.{map-append}
+use Rattle.std.proofs.lemmas.List.Sums.{fold-append}
 use Rattle.std.specs.Prelude.{fold}
 use Rattle.casa_flight.specs.Text.{Text}
 use Rattle.casa_flight.specs.declared.call.Call.{Call}
 use Rattle.casa_flight.specs.declared.call.Call.TheVariants.{List as ListOf}
 use Rattle.casa_flight.specs.declared.reply.Reply.{Reply}
 use Rattle.casa_flight.specs.declared.state.State.{State}
-use Rattle.casa_flight.specs.State.{empty}
-use Rattle.casa_flight.specs.Steps.{next}
+use Rattle.casa_flight.specs.declared.regulation.Measure.{Measure}
+use Rattle.casa_flight.specs.State.{empty, measure_of}
+use Rattle.casa_flight.specs.Steps.{after, list, next}
 use Rattle.casa_flight.specs.Replies.{reply}
 use Rattle.casa_flight.specs.Good.{IsGood}
 use Rattle.casa_laws.proofs.Good.{empty_good}
@@ -47,3 +50,26 @@ good_from m (c ∷ calls) good = good_from (next m c) calls (next-good m c good)
 -- every session leads to a good state
 pub good_after : (calls : List Call) → IsGood (state_after calls)
 good_after calls = good_from empty calls empty_good
+
+-- the calls that receipts are of
+calls_from : (m : State) (n : ℕ) (calls : List Call) → map (λ (r : Receipt Call Reply). r.entry.call) (receipts_from n (played m calls)) ≡ calls
+calls_from m n [] = refl
+calls_from m n (c ∷ calls) = ap (λ (cs : List Call). c ∷ cs) (calls_from (next m c) (n + 1) calls)
+
+-- one receipt more is of one call more
+call_added : (before now : List Call) (r : Receipt Call Reply) → receipts_played now ≡ receipts_played before ++ r ∷ [] → now ≡ before ++ r.entry.call ∷ []
+call_added before now r h =
+    let call_of : Receipt Call Reply → Call = λ r. r.entry.call in
+    sym (calls_from empty 1 now) ∙ ap (map call_of) h ∙ map-append call_of (receipts_played before) (r ∷ [])
+    ∙ ap (λ (cs : List Call). cs ++ r.entry.call ∷ []) (calls_from empty 1 before)
+
+-- to ask for a list leaves the state
+list_leaves : (m : State) (reg : Text) (o : Option Measure) → after m (list m o) ≡ m
+list_leaves m reg None = refl
+list_leaves m reg (Some measure) = refl
+
+pub state_stays : (before now : List Call) (reg : Text) (r : Receipt Call Reply) → receipts_played now ≡ receipts_played before ++ r ∷ [] → r.entry.call ≡ ListOf reg
+    → state_after now ≡ state_after before
+state_stays before now reg r h asked =
+    ap state_after (call_added before now r h) ∙ fold-append next empty before (r.entry.call ∷ [])
+    ∙ ap (next (state_after before)) asked ∙ list_leaves (state_after before) reg (measure_of (state_after before) reg)

@@ -2,20 +2,30 @@
 use Rattle.std.proofs.Common.{◌≡◌, ℕ, List, [], ◌++◌, Option, None, refl, sym, ap, subst, ◌∙◌, append-nil, inl, inr}
 use Rattle.std.specs.Prelude.{◌⊎◌, Result, Ok, Err, IsErrAnd}
 use Rattle.std.specs.Io.KnownBytes.{Appends}
-use Rattle.std.proofs.KnownBytes.{Appends-nil, Appends-trans}
+use Rattle.std.proofs.KnownBytes.{Appends-nil}
 use Rattle.jiff_core.specs.declared.civil.date.Date.{Date}
 use Rattle.casa_flight.specs.Text.{Text}
 use Rattle.casa_flight.specs.declared.call.Call.{Call}
-use Rattle.casa_flight.specs.declared.reply.ListReply.{ListReply}
 use Rattle.casa_report.specs.declared.fault.ReportFault.{ReportFault}
 use Rattle.casa_report.specs.declared.fault.ReportFault.TheVariants.{WriteFailed, NoMemory as NoMemoryForHeading}
-use Rattle.casa_report.specs.Heading.{heading_line}
-use Rattle.casa_report.specs.Table.{table}
 use Rattle.casa_report.specs.Writing.{IsCutOff}
 use Rattle.casa_report.proofs.Written.{cut_off_later}
 use Rattle.casa_tasks.specs.declared.fault.ProgramFault.{ProgramFault}
 use Rattle.casa_tasks.specs.declared.fault.ProgramFault.TheVariants.{Report, NoRegulation, NoMemory}
 use Rattle.casa_tasks.specs.Reports.{IsBroken, IsListed, IsWhole, ReportEnds, list_after, report_text}
+
+-- of a text in two parts the first was not written whole
+pub broken_first : (first rest : Text) (fault : ReportFault) (v w : Option (List ℕ)) → (fault ≡ WriteFailed → IsCutOff v w first) → (fault ≡ NoMemoryForHeading → w ≡ v)
+    → IsBroken fault v w (first ++ rest)
+broken_first first rest WriteFailed v w cut none = cut_off_later v v w [] first rest (first ++ rest) (Appends-nil v) (cut refl) refl
+broken_first first rest NoMemoryForHeading v w cut none = none refl
+
+-- the first was written, and the second was not written whole
+pub broken_second : (first rest : Text) (fault : ReportFault) (v w x : Option (List ℕ)) → Appends v w first → fault ≡ WriteFailed → IsCutOff w x rest
+    → IsBroken fault v x (first ++ rest)
+broken_second first rest fault v w x whole failed cut =
+    subst (λ f. IsBroken f v x (first ++ rest)) (sym failed)
+    (cut_off_later v w x first rest [] (first ++ rest) whole cut (ap (λ t. first ++ t) (append-nil rest)))
 
 module _ (reg : Text) (day : Date) where
   -- memory for the list was refused, or there is none
@@ -31,22 +41,3 @@ module _ (reg : Text) (day : Date) where
       → IsListed reg r (λ list. IsBroken fault v w (report_text reg day list)) → ReportEnds reg day result r s v w
   ends_broken {X} (Ok x) fault r s v w e h = absurd e
   ends_broken {X} (Err f) fault r s v w e h = subst (λ p. ReportEnds {X = X} reg day (Err p) r s v w) (sym e) h
-
-  -- the heading was not written whole
-  pub broken_heading : (list : ListReply) (fault : ReportFault) (v w : Option (List ℕ)) → (fault ≡ WriteFailed → IsCutOff v w (heading_line reg day)) → (fault ≡ NoMemoryForHeading → w ≡ v)
-      → IsBroken fault v w (report_text reg day list)
-  broken_heading list WriteFailed v w cut none =
-      cut_off_later v v w [] (heading_line reg day) (table list.rows) (report_text reg day list) (Appends-nil v) (cut refl) refl
-  broken_heading list NoMemoryForHeading v w cut none = none refl
-
-  -- the heading was written, and the table was not written whole
-  pub broken_table : (list : ListReply) (fault : ReportFault) (v w x : Option (List ℕ)) → Appends v w (heading_line reg day) → fault ≡ WriteFailed → IsCutOff w x (table list.rows)
-      → IsBroken fault v x (report_text reg day list)
-  broken_table list fault v w x first failed cut =
-      subst (λ f. IsBroken f v x (report_text reg day list)) (sym failed)
-      (cut_off_later v w x (heading_line reg day) (table list.rows) [] (report_text reg day list) first cut
-      (ap (λ t. heading_line reg day ++ t) (append-nil (table list.rows))))
-
-  -- the heading was written, and then the table
-  pub whole_report : (list : ListReply) (v w x : Option (List ℕ)) → Appends v w (heading_line reg day) → Appends w x (table list.rows) → Appends v x (report_text reg day list)
-  whole_report list v w x first second = Appends-trans v w x (heading_line reg day) (table list.rows) first second

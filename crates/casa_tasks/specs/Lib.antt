@@ -1,3 +1,6 @@
 pub mod Outcomes
 pub mod Listed
 pub mod Reports
+pub mod Summaries
+pub mod Whys
+pub mod Loads

@@ -18,7 +18,7 @@ use Rattle.casa_session.specs.Lines.{lines_of, has_too_long}
 use Rattle.casa_session.specs.Played.{state_after}
 use Rattle.casa_session.specs.Transcript.{calls}
 use Rattle.casa_tasks.specs.declared.fault.ProgramFault.{ProgramFault}
-use Rattle.casa_tasks.specs.declared.fault.ProgramFault.TheVariants.{Task, Session, Report, NoRegulation, BindFailed, Serve, NoMemory}
+use Rattle.casa_tasks.specs.declared.fault.ProgramFault.TheVariants.{Task, Session, Report, NoRegulation, NoFlight, BindFailed, Serve, NoMemory}
 use Rattle.casa_tasks.specs.Listed.{list_in}
 
 -- the list that the sequential allocator tells of a regulation after these calls; none where the regulation is not open
@@ -66,5 +66,6 @@ ReportEnds reg day (Err NoRegulation) r s v w = IsUnlisted reg r × (w ≡ v)
 ReportEnds reg day (Err (Report fault)) r s v w = IsListed reg r (λ list. IsBroken fault v w (report_text reg day list))
 ReportEnds reg day (Err NoMemory) r s v w = w ≡ v
 ReportEnds reg day (Err (Task fault)) r s v w = ⊥
+ReportEnds reg day (Err NoFlight) r s v w = ⊥
 ReportEnds reg day (Err BindFailed) r s v w = ⊥
 ReportEnds reg day (Err (Serve fault)) r s v w = ⊥

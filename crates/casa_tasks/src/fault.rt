@@ -30,6 +30,9 @@ pub enum ProgramFault {
     /// The regulation is not open.
     #[error("the regulation is not open")]
     NoRegulation,
+    /// There is no such flight.
+    #[error("there is no such flight")]
+    NoFlight,
     /// Nobody may listen on the port, or another program does.
     #[error("the port cannot be had")]
     BindFailed,
@@ -89,10 +92,12 @@ pub fn outcome(fault: &ProgramFault) -> (u8, &'static str)
     match fault {
         ProgramFault::Task(TaskFault::Words(error)) => (words_status(error.kind()), ""),
         ProgramFault::Task(TaskFault::BadReg) => (BAD_WORDS, "BadReg"),
+        ProgramFault::Task(TaskFault::BadKey) => (BAD_WORDS, "BadKey"),
         ProgramFault::Task(TaskFault::BadDay) => (BAD_WORDS, "BadDay"),
         ProgramFault::Session(fault) => (FAILED, fault.name()),
         ProgramFault::Report(fault) => (FAILED, fault.name()),
         ProgramFault::NoRegulation => (FAILED, "NoRegulation"),
+        ProgramFault::NoFlight => (FAILED, "NoFlight"),
         ProgramFault::BindFailed => (FAILED, "BindFailed"),
         ProgramFault::Serve(fault) => (FAILED, fault.name()),
         ProgramFault::NoMemory => (FAILED, "NoMemory"),

@@ -1,6 +1,6 @@
-ghost use Rattle.std.specs.Prelude.{◌≡◌, ◌≤◌, ◌⊎◌, All, IfErr, IfOk, None, Some};
+ghost use Rattle.std.specs.Prelude.{◌≡◌, ◌≤◌, ◌⊎◌, All, IfErr, IfOk, None, OnOk, Some};
 ghost use Rattle.std.specs.Option.{option_copied};
-ghost use Rattle.casa_session.specs.Played.{receipts_played};
+ghost use Rattle.casa_session.specs.Played.{receipts_played, state_after};
 ghost use Rattle.casa_tasks.specs.Listed.{list_in};
 ghost use Rattle.casa_tasks.specs.Reports.{IsWhole, ReportEnds, SessionEnds, list_after};
 
@@ -42,7 +42,7 @@ pub fn report<R: Read, W: Write>(
 }
 
 /// A new desk that has answered all lines of the reader.
-fn answer_lines<R: Read>(alloc: Global, reader: &mut R) -> Result<Lone, ProgramFault>
+pub(crate) fn answer_lines<R: Read>(alloc: Global, reader: &mut R) -> Result<Lone, ProgramFault>
     ensures whole { IfOk result (λ lone. IsWhole (R.remaining reader.old) lone) }
     ensures err { IfErr result (λ fault. (fault ≡ ProgramFault.NoMemory)
         ⊎ ((cause : SessionFault) × (fault ≡ ProgramFault.Session cause)
@@ -53,10 +53,11 @@ fn answer_lines<R: Read>(alloc: Global, reader: &mut R) -> Result<Lone, ProgramF
     Ok(lone)
 }
 
-/// The list of a regulation as the desk shows it; `NoRegulation` where it shows none.
-fn listed(alloc: Global, lone: &mut Lone, reg: RegId) -> Result<ListReply, ProgramFault>
+/// The list of a regulation as the desk shows it, which changes nothing; `NoRegulation` where it shows none.
+pub(crate) fn listed(alloc: Global, lone: &mut Lone, reg: RegId) -> Result<ListReply, ProgramFault>
     ensures told { IfOk result (λ list. list_after lone.old reg ≡ Some list) }
     ensures in_time { IfOk result (λ list. All (λ row. row.eto ≤ row.cto) list.rows) }
+    ensures stays { OnOk result (state_after lone.new ≡ state_after lone.old) }
     ensures untold { IfErr result (λ fault. (fault ≡ ProgramFault.NoMemory)
         ⊎ ((fault ≡ ProgramFault.NoRegulation) × (list_after lone.old reg ≡ None))) }
 {

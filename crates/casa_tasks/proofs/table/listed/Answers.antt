@@ -2,7 +2,7 @@ use Rattle.std.proofs.Common.{◌≡◌, ◌∙◌, refl, sym, None, Some, inr, 
 use Rattle.casa_session.specs.Played.{state_after}
 use Rattle.casa_tasks.specs.Listed.{list_in}
 use Rattle.casa_tasks.specs.Reports.{list_after}
-use Rattle.casa_tasks.proofs.LastReply.{good_after, last_list}
+use Rattle.casa_tasks.proofs.LastReply.{good_after, last_list, state_stays}
 use Rattle.casa_tasks.proofs.ListTimes.{told_in_time}
 use Rattle.casa_tasks.proofs.table.listed.Goals as goal
 
@@ -26,3 +26,7 @@ returns-clause-untold c =
     let asked = last_list c.args.lone.now c.answer.new.self c.args.reg receipt c.in-Ok.ensures.ok c.in-Ok.ensures.called in
     let untold : list_in receipt.entry.reply ≡ None = search (rules) in
     inr (refl, sym asked ∙ untold)
+
+pub returns-in-Some-clause-stays : goal.returns-in-Some-clause-stays
+returns-in-Some-clause-stays c =
+    state_stays c.args.lone.now c.answer.new.self c.args.reg c.in-Ok.receipt c.in-Ok.ensures.ok c.in-Ok.ensures.called

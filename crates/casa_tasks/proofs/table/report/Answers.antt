@@ -1,4 +1,7 @@
-use Rattle.casa_tasks.proofs.Reported.{broken_heading, broken_table, ends_broken, ends_unlisted, whole_report}
+use Rattle.std.proofs.KnownBytes.{Appends-trans}
+use Rattle.casa_report.specs.Heading.{heading_line}
+use Rattle.casa_report.specs.Table.{table}
+use Rattle.casa_tasks.proofs.Reported.{broken_first, broken_second, ends_broken, ends_unlisted}
 use Rattle.casa_tasks.proofs.table.report.Goals as goal
 
 pub returns-in_err-list-clause-ends : goal.returns-in_err-list-clause-ends
@@ -13,7 +16,7 @@ returns-in_err-heading-clause-ends g c =
       whole = c.in_ok-lone.ensures.whole;
       list = c.in_ok-list.list;
       told = c.in_ok-list.ensures.told;
-      is_so = broken_heading c.args.reg.now c.args.day c.in_ok-list.list fault _ _ c.in_err-heading.ensures.cut_off c.in_err-heading.ensures.no_memory;
+      is_so = broken_first (heading_line c.args.reg.now c.args.day) (table c.in_ok-list.list.rows) fault _ _ c.in_err-heading.ensures.cut_off c.in_err-heading.ensures.no_memory;
     }
 
 pub returns-in_err-list_table-clause-ends : goal.returns-in_err-list_table-clause-ends
@@ -24,7 +27,7 @@ returns-in_err-list_table-clause-ends g c =
       whole = c.in_ok-lone.ensures.whole;
       list = c.in_ok-list.list;
       told = c.in_ok-list.ensures.told;
-      is_so = broken_table c.args.reg.now c.args.day c.in_ok-list.list fault _ (g.W.Write.contents c.heading.new.writer) _ c.in_ok-heading.ensures.ok c.in_err-list_table.ensures.fault c.in_err-list_table.ensures.cut_off;
+      is_so = broken_second (heading_line c.args.reg.now c.args.day) (table c.in_ok-list.list.rows) fault _ (g.W.Write.contents c.heading.new.writer) _ c.in_ok-heading.ensures.ok c.in_err-list_table.ensures.fault c.in_err-list_table.ensures.cut_off;
     }
 
 pub returns-clause-ends : goal.returns-clause-ends
@@ -34,5 +37,5 @@ returns-clause-ends g c =
       whole = c.in_ok-lone.ensures.whole;
       list = c.in_ok-list.list;
       told = c.in_ok-list.ensures.told;
-      is_so = whole_report c.args.reg.now c.args.day c.in_ok-list.list _ (g.W.Write.contents c.heading.new.writer) (g.W.Write.contents c.list_table.new.writer) c.in_ok-heading.ensures.ok c.in_ok-list_table.ensures.ok;
+      is_so = Appends-trans _ (g.W.Write.contents c.heading.new.writer) (g.W.Write.contents c.list_table.new.writer) (heading_line c.args.reg.now c.args.day) (table c.in_ok-list.list.rows) c.in_ok-heading.ensures.ok c.in_ok-list_table.ensures.ok;
     }
