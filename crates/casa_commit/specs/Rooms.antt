@@ -34,9 +34,9 @@ module _ {W C V D R : Type 0} {world : WorldOf W C V D R} where
   abbrev pub next_position : Room W C V D R world → ℕ
   next_position room = length (entries_of room) + 1
 
-  -- the entry of a pass's call, with the reply that the call has in the room's state
-  abbrev pub next_entry : Room W C V D R world → Pass C R → C → Entry C R
-  next_entry room pass call = entry (desk_of pass) call (world.reply (world.state (world_of room)) call)
+  -- the entry of a desk's call, with the reply that the call has in the room's state
+  abbrev pub next_entry : Room W C V D R world → ℕ → C → Entry C R
+  next_entry room desk call = entry desk call (world.reply (world.state (world_of room)) call)
 
 -- a room admits a pass
 pub record Admits {W C V D R : Type 0} {world : WorldOf W C V D R} (room : Room W C V D R world) (pass : Pass C R)
@@ -50,19 +50,15 @@ pub record Admits {W C V D R : Type 0} {world : WorldOf W C V D R} (room : Room 
   -- the last of them is at the position of the last of these
   pub last : last_position (receipts pass) ≡ last_position (receipts_of (desk_of pass) (entries_of room))
 
--- a room and a pass, after the room accepted a call of the pass with this change and gave this receipt
-pub record Accepts {W C V D R : Type 0} {world : WorldOf W C V D R} (room : Room W C V D R world) (pass : Pass C R)
-    (call : C) (change : D) (given : Receipt C R) (room' : Room W C V D R world) (pass' : Pass C R) : Type 0 where
-  -- the room admitted the pass
-  pub admitted : Admits room pass
+-- a room, after it accepted a call of a desk with this change and gave this receipt
+pub record Extends {W C V D R : Type 0} {world : WorldOf W C V D R} (room : Room W C V D R world) (desk : ℕ) (call : C)
+    (change : D) (given : Receipt C R) (room' : Room W C V D R world) : Type 0 where
   -- its history is the old one followed by the call's entry
-  pub history : entries_of room' ≡ entries_of room ++ next_entry room pass call ∷ []
+  pub history : entries_of room' ≡ entries_of room ++ next_entry room desk call ∷ []
   -- and is legal
   pub legal : IsLegal world.after world.reply world.opening (entries_of room')
   -- the receipt is that entry's, at the next position
-  pub receipt_is : given ≡ receipt (next_position room) (next_entry room pass call)
-  -- the pass has it behind the old ones
-  pub pass_with : PassWith pass given pass'
+  pub receipt_is : given ≡ receipt (next_position room) (next_entry room desk call)
   -- the change is what the call writes
   pub written : ∥ world.changes (world.state (world_of room)) call change ∥₁
   -- and is applied to the world
@@ -73,13 +69,20 @@ pub record Accepts {W C V D R : Type 0} {world : WorldOf W C V D R} (room : Room
   pub number : room_number room' ≡ room_number room
   pub desks : open_desks room' ≡ open_desks room
 
--- a room and a pass are as they were, but for spare memory
-pub record AreUnchanged {W C V D R : Type 0} {world : WorldOf W C V D R} (room : Room W C V D R world) (pass : Pass C R)
-    (room' : Room W C V D R world) (pass' : Pass C R) : Type 0 where
+-- a room and a pass, after the room accepted a call of the pass with this change and gave this receipt
+pub record Accepts {W C V D R : Type 0} {world : WorldOf W C V D R} (room : Room W C V D R world) (pass : Pass C R)
+    (call : C) (change : D) (given : Receipt C R) (room' : Room W C V D R world) (pass' : Pass C R) : Type 0 where
+  -- the room admitted the pass
+  pub admitted : Admits room pass
+  -- and accepted the call of its desk
+  pub extended : Extends room (desk_of pass) call change given room'
+  -- the pass has the receipt behind the old ones
+  pub pass_with : PassWith pass given pass'
+
+-- a room is as it was, but for spare memory
+pub record IsUnchanged {W C V D R : Type 0} {world : WorldOf W C V D R} (room room' : Room W C V D R world) : Type 0 where
   -- the history is the old one
   pub history : entries_of room' ≡ entries_of room
-  -- the pass is the old one
-  pub same_pass : SamePass pass pass'
   -- the world is like the old one
   pub same_world : world.alike (world_of room) (world_of room')
   -- and stands for the replay of the history
@@ -87,3 +90,9 @@ pub record AreUnchanged {W C V D R : Type 0} {world : WorldOf W C V D R} (room :
   -- number and open desks are the old ones
   pub number : room_number room' ≡ room_number room
   pub desks : open_desks room' ≡ open_desks room
+
+-- a room and a pass are as they were, but for spare memory
+pub record AreUnchanged {W C V D R : Type 0} {world : WorldOf W C V D R} (room : Room W C V D R world) (pass : Pass C R)
+    (room' : Room W C V D R world) (pass' : Pass C R) : Type 0 where
+  pub same_room : IsUnchanged room room'
+  pub same_pass : SamePass pass pass'

@@ -1,4 +1,5 @@
 ghost use Rattle.std.specs.Prelude.{◌≡◌, IfOk};
+ghost use Rattle.casa_commit.specs.Legal.{entry};
 ghost use Rattle.casa_commit.specs.Prepared.{call_of, view_of};
 
 use crate::gate::Gate;
@@ -32,20 +33,36 @@ pub fn prepare<W: World, G: Gate<W>>(
     })
 }
 
-/// The reply to a desk's call and its change, worked out on a view of the world as it is. The view is let go with that, so
+/// The entry of a desk's call with its change, worked out on a view of the world as it is. The view is let go with that, so
 /// that the change can be written where nothing is shared. `AllocError` where the gate answers it, or where there is no
-/// memory for the view.
+/// memory for the view or the entry.
 pub(crate) fn answered_now<W: World, G: Gate<W>>(
     alloc: Global,
     gate: &G,
     world: &W,
     desk: u32,
     call: &W::Call,
-) -> Result<(W::Reply, W::Change), AllocError>
+) -> Result<(SharedEntry<W::Call, W::Reply>, W::Change), AllocError>
     requires good { W.good (W.state world.now) }
-    ensures { IfOk result (λ answer. (answer.0 ≡ W.reply (W.state world.now) call.now) ×
+    ensures { IfOk result (λ answer.
+        (answer.0 ≡ entry desk call.now (W.reply (W.state world.now) call.now)) ×
         ∥ W.changes (W.state world.now) call.now answer.1 ∥₁) }
 {
     let view = world.view(call)?;
-    gate.plan(alloc, desk, 0, &view, call)
+    let (reply, change) = gate.plan(alloc, desk, 0, &view, call)?;
+    let entry = entry_of::<W>(alloc, desk, call, reply)?;
+    Ok((entry, change))
+}
+
+/// The entry of a desk's call with its reply, the call in memory of its own.
+pub(crate) fn entry_of<W: World>(
+    alloc: Global,
+    desk: u32,
+    call: &W::Call,
+    reply: W::Reply,
+) -> Result<SharedEntry<W::Call, W::Reply>, AllocError>
+    ensures { IfOk result (λ e. e ≡ entry desk call.now reply) }
+{
+    let call = W::copy_call(call)?;
+    SharedEntry::new(alloc, Entry { desk, call, reply })
 }

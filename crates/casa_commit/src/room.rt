@@ -1,4 +1,4 @@
-ghost use Rattle.std.specs.Prelude.{◌≡◌, ◌+◌, ◌≤◌, ◌↔◌, [], length, vec_len, IfOk, IfErr, OnOk, OnErr, IsTrue};
+ghost use Rattle.std.specs.Prelude.{◌≡◌, ◌+◌, ◌<◌, ◌≤◌, ◌↔◌, [], length, vec_len, IfOk, IfErr, OnOk, OnErr, IsTrue};
 ghost use Rattle.casa_history.specs.Entries.{entries, receipts, receipt, last_position, number_of, desk_of, HasRoomForEntry, HasRoomForReceipt};
 ghost use Rattle.casa_commit.specs.Legal.{entry, replay, IsLegal};
 ghost use Rattle.casa_commit.specs.Desks.{most_desks, AreTallies};
@@ -6,11 +6,11 @@ ghost use Rattle.casa_commit.specs.Passes.{SamePass};
 
 use crate::fault::{CallFault, DeskFault};
 use crate::gate::Gate;
-use crate::planning::answered_now;
+use crate::planning::{answered_now, entry_of};
 use crate::prepared::Prepared;
 use crate::tally::Tally;
 use crate::world::World;
-use casa_history::{Entry, History, Pass, Receipt, SharedEntry};
+use casa_history::{History, Pass, Receipt, SharedEntry};
 use std::alloc::{AllocError, Global};
 
 /// The most desks that may be open.
@@ -43,12 +43,12 @@ impl<W: World + Drop> Drop for Room<W> {
     }
 }
 
-/// The entry of a commit, shared three times: for the history, and in the receipts for the pass and for the caller.
-type Shares<C, R> = (SharedEntry<C, R>, Receipt<C, R>, Receipt<C, R>);
+/// An entry, and its receipt for a pass.
+type EntryWithReceipt<C, R> = (SharedEntry<C, R>, Receipt<C, R>);
 
 impl<W: World> Room<W> {
     ghost use Rattle.casa_commit.specs.Prepared.{call_of, view_of, reply_of, change_of};
-    ghost use Rattle.casa_commit.specs.Rooms.{world_of, history_of, entries_of, room_number, open_desks, next_position, Admits, Accepts, AreUnchanged};
+    ghost use Rattle.casa_commit.specs.Rooms.{world_of, history_of, entries_of, room_number, open_desks, next_position, Admits, Accepts, Extends, AreUnchanged, IsUnchanged};
 
     /// The room with this number over a world in the opening state: no desk is open and the history is empty.
     pub fn new(alloc: Global, world: W, number: u32) -> Room<W>
@@ -146,15 +146,35 @@ impl<W: World> Room<W> {
         if !self.admits(pass) {
             return Err(CallFault::ForeignPass);
         }
-        let Ok((reply, change)) = answered_now(alloc, gate, self.world(), pass.desk(), call) else {
-            return Err(CallFault::NoMemory);
-        };
-        let Ok(entry) = entry_of::<W>(alloc, pass.desk(), call, reply) else {
+        let Ok((entry, change)) = answered_now(alloc, gate, self.world(), pass.desk(), call) else {
             return Err(CallFault::NoMemory);
         };
         match self.append(pass, entry, change) {
             Ok(receipt) => Ok(receipt),
             Err(_) => Err(CallFault::NoMemory),
+        }
+    }
+
+    /// Answers a call of an open desk whose receipts nobody keeps: takes a view for it, works the answer out by the gate
+    /// and accepts it, all in one section, and gives the receipt. A pass of that desk is not admitted from then on.
+    ///
+    /// `AllocError` where memory was refused; then nothing has changed.
+    pub fn answer<G: Gate<W>>(
+        &mut self,
+        alloc: Global,
+        desk: u32,
+        call: &W::Call,
+        gate: &G,
+    ) -> Result<Receipt<W::Call, W::Reply>, AllocError>
+        requires { desk < open_desks self.old }
+        ensures accepted { IfOk result (λ receipt.
+            (change : W.Change) × Extends self.old desk call.now change receipt self.new) }
+        ensures refused { OnErr result (IsUnchanged self.old self.new) }
+    {
+        let (entry, change) = answered_now(alloc, gate, self.world(), desk, call)?;
+        match self.extend(entry, change) {
+            Ok(receipt) => Ok(receipt),
+            Err(_) => Err(AllocError),
         }
     }
 
@@ -186,51 +206,84 @@ impl<W: World> Room<W> {
         ensures refused { OnErr result (AreUnchanged self.old pass.old self.new pass.new) }
         ensures back { IfErr result (λ answer. answer ≡ (answered, change)) }
     {
-        let Ok((entry, kept, given)) = self.grow(pass, &answered, &change) else {
+        let Ok((entry, kept)) = self.entry_with_receipt(pass, &answered) else {
             return Err((answered, change));
         };
-        let desk = pass.desk();
-        let position = kept.position;
-        self.history.push(entry);
+        match self.extend(entry, change) {
+            Ok(given) => {
+                pass.push(kept);
+                Ok(given)
+            }
+            Err((_, change)) => Err((answered, change)),
+        }
+    }
+
+    /// The entry of an answered call for the pass's desk, with the receipt that the pass has room for from now on.
+    fn entry_with_receipt(
+        &self,
+        pass: &mut Pass<W::Call, W::Reply>,
+        answered: &SharedEntry<W::Call, W::Reply>,
+    ) -> Result<EntryWithReceipt<W::Call, W::Reply>, AllocError>
+        ensures pass { SamePass pass.old pass.new }
+        ensures room { OnOk result (HasRoomForReceipt pass.new) }
+        ensures entry { IfOk result (λ r. r.0 ≡ entry (desk_of pass.old) answered.now.call answered.now.reply) }
+        ensures receipt { IfOk result (λ r. r.1 ≡ receipt (next_position self.now)
+            (entry (desk_of pass.old) answered.now.call answered.now.reply)) }
+    {
+        pass.reserve()?;
+        let alloc = *self.desks.allocator();
+        let entry = entry_for::<W>(alloc, pass.desk(), answered)?;
+        let kept = receipt(self.history.len() + 1, &entry)?;
+        Ok((entry, kept))
+    }
+
+    /// Appends an entry of an open desk and applies its change, or hands both back where memory is refused. The receipt
+    /// of the entry.
+    fn extend(
+        &mut self,
+        answered: SharedEntry<W::Call, W::Reply>,
+        change: W::Change,
+    ) -> Result<Receipt<W::Call, W::Reply>, (SharedEntry<W::Call, W::Reply>, W::Change)>
+        requires desk { answered.desk < open_desks self.old }
+        requires right { W.good (W.state (world_of self.old)) →
+            (answered.reply ≡ W.reply (W.state (world_of self.old)) answered.call)
+            × ∥ W.changes (W.state (world_of self.old)) answered.call change ∥₁ }
+        ensures accepted { IfOk result (λ receipt.
+            Extends self.old answered.desk answered.call change receipt self.new) }
+        ensures refused { OnErr result (IsUnchanged self.old self.new) }
+        ensures back { IfErr result (λ answer. answer ≡ (answered, change)) }
+    {
+        let Ok(given) = self.grow(&answered, &change) else {
+            return Err((answered, change));
+        };
+        let desk = answered.desk;
+        let position = given.position;
+        self.history.push(answered);
         self.world.apply(position, change);
         let tally = &mut self.desks[desk as usize];
         tally.calls += 1;
         tally.last = position;
-        pass.push(kept);
         Ok(given)
     }
 
-    /// Makes all growths of a commit: of the history, of the pass, of the world, and the entry that history, pass and
-    /// receipt share.
+    /// Makes the growths of an entry and its change: of the history, of the world, and the entry's receipt.
     fn grow(
         &mut self,
-        pass: &mut Pass<W::Call, W::Reply>,
         answered: &SharedEntry<W::Call, W::Reply>,
         change: &W::Change,
-    ) -> Result<Shares<W::Call, W::Reply>, AllocError>
+    ) -> Result<Receipt<W::Call, W::Reply>, AllocError>
         ensures world { W.alike (world_of self.old) (world_of self.new) }
         ensures history { entries_of self.new ≡ entries_of self.old }
         ensures number { room_number self.new ≡ room_number self.old }
         ensures desks { self.new.desks ≡ self.old.desks }
-        ensures pass { SamePass pass.old pass.new }
         ensures history_room { OnOk result (HasRoomForEntry (history_of self.new)) }
-        ensures pass_room { OnOk result (HasRoomForReceipt pass.new) }
         ensures world_room { OnOk result (W.has_room (world_of self.new) (next_position self.old) change.now) }
-        ensures entry { IfOk result (λ r. r.0 ≡ entry (desk_of pass.old) answered.now.call answered.now.reply) }
-        ensures kept { IfOk result (λ r. r.1 ≡ receipt (next_position self.old)
-            (entry (desk_of pass.old) answered.now.call answered.now.reply)) }
-        ensures given { IfOk result (λ r. r.2 ≡ receipt (next_position self.old)
-            (entry (desk_of pass.old) answered.now.call answered.now.reply)) }
+        ensures given { IfOk result (λ r. r ≡ receipt (next_position self.old) answered.now) }
     {
         self.history.reserve()?;
-        pass.reserve()?;
-        let position = self.history.len() + 1;
-        let alloc = *self.desks.allocator();
-        let entry = entry_for::<W>(alloc, pass.desk(), answered)?;
-        let kept = receipt(position, &entry)?;
-        let given = receipt(position, &entry)?;
-        self.world.fits(position, change)?;
-        Ok((entry, kept, given))
+        let given = receipt(self.history.len() + 1, answered)?;
+        self.world.fits(given.position, change)?;
+        Ok(given)
     }
 }
 
@@ -250,19 +303,6 @@ impl<W: World + Drop> Room<W> {
         } = self;
         history
     }
-}
-
-/// The entry of a desk's call with its reply, the call in memory of its own.
-fn entry_of<W: World>(
-    alloc: Global,
-    desk: u32,
-    call: &W::Call,
-    reply: W::Reply,
-) -> Result<SharedEntry<W::Call, W::Reply>, AllocError>
-    ensures { IfOk result (λ e. e ≡ entry desk call.now reply) }
-{
-    let call = W::copy_call(call)?;
-    SharedEntry::new(alloc, Entry { desk, call, reply })
 }
 
 /// The entry of an answered call for this desk: the same where it was answered for this desk, else one of copies.

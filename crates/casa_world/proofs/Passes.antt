@@ -46,16 +46,16 @@ module _ {W C V D R : Type 0} {world : WorldOf W C V D R} (room room' : Room W C
     -- the room admits the pass whose call it accepted
     pub admits_own : Admits room' pass'
     admits_own =
-        let e : Entry C R = next_entry room pass call in
+        let e : Entry C R = next_entry room (desk_of pass) call in
         let t : IsTally pass' (desk_of pass) (entries_of room ++ e ∷ []) =
         tally_own (entries_of room) e pass pass' given (desk_of pass) (a.admitted.calls, a.admitted.last) refl
-        a.receipt_is a.pass_with.2 in
+        a.extended.receipt_is a.pass_with.2 in
         let now : IsTally pass' (desk_of pass') (entries_of room') =
-        subst (λ (es : List (Entry C R)). IsTally pass' (desk_of pass') es) (sym a.history)
+        subst (λ (es : List (Entry C R)). IsTally pass' (desk_of pass') es) (sym a.extended.history)
         (subst (λ (d : ℕ). IsTally pass' d (entries_of room ++ e ∷ [])) (sym a.pass_with.1) t) in
         record {
-          number = a.pass_with.0 ∙ a.admitted.number ∙ sym a.number;
-          desk = omega (arith, a.pass_with.1, a.admitted.desk, a.desks);
+          number = a.pass_with.0 ∙ a.admitted.number ∙ sym a.extended.number;
+          desk = omega (arith, a.pass_with.1, a.admitted.desk, a.extended.desks);
           calls = now.0;
           last = now.1;
         }
@@ -63,13 +63,13 @@ module _ {W C V D R : Type 0} {world : WorldOf W C V D R} (room room' : Room W C
     -- and each pass of another desk that it admitted before
     pub admits_other : (p : Pass C R) → desk_of p ≢ desk_of pass → Admits room p → Admits room' p
     admits_other p other known =
-        let e : Entry C R = next_entry room pass call in
+        let e : Entry C R = next_entry room (desk_of pass) call in
         let t : tally (desk_of p) (entries_of room') ≡ tally (desk_of p) (entries_of room) =
-        ap (λ (es : List (Entry C R)). tally (desk_of p) es) a.history
+        ap (λ (es : List (Entry C R)). tally (desk_of p) es) a.extended.history
         ∙ tally_of_other (desk_of p) (entries_of room) e (λ same. other (sym same)) in
         record {
-          number = known.number ∙ sym a.number;
-          desk = omega (arith, known.desk, a.desks);
+          number = known.number ∙ sym a.extended.number;
+          desk = omega (arith, known.desk, a.extended.desks);
           calls = known.calls ∙ sym (ap (λ (x : Tally). x.calls) t);
           last = known.last ∙ sym (ap (λ (x : Tally). x.last) t);
         }
@@ -79,10 +79,10 @@ module _ {W C V D R : Type 0} {world : WorldOf W C V D R} (room room' : Room W C
     pub admits_still : (p : Pass C R) → Admits room p → Admits room' p
     admits_still p known =
         let t : tally (desk_of p) (entries_of room') ≡ tally (desk_of p) (entries_of room) =
-        ap (λ (es : List (Entry C R)). tally (desk_of p) es) u.history in
+        ap (λ (es : List (Entry C R)). tally (desk_of p) es) u.same_room.history in
         record {
-          number = known.number ∙ sym u.number;
-          desk = omega (arith, known.desk, u.desks);
+          number = known.number ∙ sym u.same_room.number;
+          desk = omega (arith, known.desk, u.same_room.desks);
           calls = known.calls ∙ sym (ap (λ (x : Tally). x.calls) t);
           last = known.last ∙ sym (ap (λ (x : Tally). x.last) t);
         }

@@ -20,4 +20,4 @@ returns-in-Err-Stale-default-clause-others g c q other =
 
 pub returns-in-Err-Stale-default-clause-grows : goal.returns-in-Err-Stale-default-clause-grows
 returns-in-Err-Stale-default-clause-grows g c =
-    ([], c.in-Err-Stale-default.ensures.refused.history ∙ sym (append-nil (entries_of c.args.room.now)))
+    ([], c.in-Err-Stale-default.ensures.refused.same_room.history ∙ sym (append-nil (entries_of c.args.room.now)))
