@@ -1,5 +1,5 @@
 -- the receipts that the sequential allocator gives, and how a session over them ends
-use Rattle.std.proofs.Common.{◌≡◌, ℕ, ◌+◌, ◌<◌, List, [], ◌∷◌, ◌++◌, refl, sym, ap, subst, ◌∙◌, length, take, arith, Option, None, Some, append-nil, append_assoc, filter, inl, inr}
+use Rattle.std.proofs.Common.{◌≡◌, ℕ, ◌+◌, ◌<◌, List, [], ◌∷◌, ◌++◌, refl, sym, ap, subst, ◌∙◌, length, take, arith, Option, None, Some, append-nil, append_assoc, inl, inr}
 use Rattle.std.specs.Prelude.{◌⊎◌, fold, Result, Ok, Err, IfSome, map}
 use Rattle.std.specs.Io.KnownBytes.{Appends}
 use Rattle.std.proofs.lemmas.List.{append_cancel_left, map-append}
@@ -11,7 +11,7 @@ use Rattle.casa_flight.specs.Steps.{next}
 use Rattle.casa_flight.specs.Replies.{reply}
 use Rattle.casa_history.specs.declared.entry.Entry.{Entry}
 use Rattle.casa_history.specs.declared.entry.Receipt.{Receipt}
-use Rattle.casa_history.specs.Entries.{is_of_desk, receipt, receipts_from, receipts_of}
+use Rattle.casa_history.specs.Entries.{receipt, receipts_from}
 use Rattle.casa_commit.specs.Legal.{entry, replay_from}
 use Rattle.casa_output.specs.Sending.{counted}
 use Rattle.casa_session.specs.declared.fault.SessionFault.{SessionFault}
@@ -33,11 +33,6 @@ receipts_from-push n [] e = let same : n ≡ n + 0 = omega arith in ap (λ k. re
 receipts_from-push n (x ∷ es) e =
     let same : (n + 1) + length es ≡ n + length (x ∷ es) = omega arith in
     ap (λ (rs : Receipts). receipt n x ∷ rs) (receipts_from-push (n + 1) es e ∙ ap (λ k. receipts_from (n + 1) es ++ receipt k e ∷ []) same)
-
--- all entries are the one desk's
-pub only-desk : (m : State) (n : ℕ) (cs : List Call) → filter (is_of_desk only_desk) (receipts_from n (played m cs)) ≡ receipts_from n (played m cs)
-only-desk m n [] = refl
-only-desk m n (c ∷ cs) = ap (λ (rs : Receipts). receipt n (entry only_desk c (reply m c)) ∷ rs) (only-desk (next m c) (n + 1) cs)
 
 -- the state to which a history leads is that after its calls
 pub state-of_calls : (m : State) (n : ℕ) (es : List (Entry Call Reply)) → replay_from (λ k s call. next s call) n m es ≡ fold next m (calls_in es)

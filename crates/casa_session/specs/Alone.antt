@@ -4,11 +4,9 @@ use Rattle.std.specs.Io.KnownBytes.{Appends, Consumes}
 use Rattle.casa_flight.specs.declared.call.Call.{Call}
 use Rattle.casa_flight.specs.declared.reply.Reply.{Reply}
 use Rattle.casa_flight.specs.State.{empty}
-use Rattle.casa_history.specs.declared.pass.Pass.{Pass}
-use Rattle.casa_history.specs.Entries.{desk_of, number_of, receipts, receipts_from}
 use Rattle.casa_commit.specs.declared.world.World.{Ghosts as WorldOf}
 use Rattle.casa_commit.specs.declared.room.Room.{Room}
-use Rattle.casa_commit.specs.Rooms.{entries_of, open_desks, room_number}
+use Rattle.casa_commit.specs.Rooms.{entries_of, open_desks}
 use Rattle.casa_output.specs.Sending.{counted}
 use Rattle.casa_session.specs.declared.fault.SessionFault.{SessionFault}
 use Rattle.casa_session.specs.declared.fault.SessionFault.TheVariants.{LineTooLong, ReadFailed, WriteFailed, ForeignPass, NoMemory}
@@ -16,14 +14,10 @@ use Rattle.casa_session.specs.Lines.{ended_lines, lines_of, has_too_long}
 use Rattle.casa_session.specs.Played.{calls_in, only_desk, played, receipts_after}
 use Rattle.casa_session.specs.Transcript.{calls, transcript}
 
--- a pass is the only one of a room: the room's history is the one of its calls, and the pass has all receipts
-pub record IsAlone {W V D : Type 0} {world : WorldOf W Call V D Reply} (room : Room W Call V D Reply world) (pass : Pass Call Reply)
-    : Type 0 where
-  pub number : number_of pass ≡ room_number room
-  pub desk : desk_of pass ≡ only_desk
+-- a room is that of one desk: this is open, and the history is the one of its calls
+pub record IsAlone {W V D : Type 0} {world : WorldOf W Call V D Reply} (room : Room W Call V D Reply world) : Type 0 where
   pub is_open : only_desk < open_desks room
   pub history : entries_of room ≡ played empty (calls_in (entries_of room))
-  pub has_all : receipts pass ≡ receipts_from 1 (entries_of room)
 
 -- the transcript of these lines, each call being answered as the sequential allocator does after the calls before it
 abbrev pub transcript_after : List Call → List (List ℕ) → List ℕ

@@ -12,7 +12,7 @@ use crate::session::run;
 use casa_commit::{CallFault, Room};
 use casa_desk::Desk;
 use casa_flight::{Call, Key, RegId, Regulation, Reply, Row};
-use casa_history::{Pass, Receipt};
+use casa_history::Receipt;
 use casa_list::{SharedList, SlotList};
 use casa_plan::Direct;
 use casa_time::Moment;
@@ -24,13 +24,15 @@ use std::marker::Model;
 /// The number of the room. There is no other from which it would have to be told.
 const ROOM: u32 = 0;
 
+/// The number of the desk, which is the first.
+const DESK: u32 = 0;
+
 /// A desk that is alone on a board, so that each call is answered as the sequential allocator does after the calls
 /// before it.
 ///
 /// Contracts see it as the calls that it has answered.
 pub struct Lone {
     room: Room<Board<Copies>>,
-    pass: Pass<Call, Reply>,
 }
 
 impl Model for Lone {
@@ -44,12 +46,12 @@ impl Model for Lone {
 
     ghost view = { λ l. calls_in (entries_of l.room) };
 
-    ghost invariant = { λ l. IsAlone l.room l.pass };
+    ghost invariant = { λ l. IsAlone l.room };
 }
 
 impl Drop for Lone {
     fn drop(self) {
-        let Lone { room: _, pass: _ } = self;
+        let Lone { room: _ } = self;
     }
 }
 
@@ -60,7 +62,7 @@ impl Lone {
     {
         let mut room = Room::new(alloc, Board::new(alloc, Copies::new())?, ROOM);
         match room.open_desk() {
-            Ok(pass) => Ok(Lone { room, pass }),
+            Ok(_) => Ok(Lone { room }),
             Err(_) => Err(AllocError),
         }
     }
@@ -123,7 +125,10 @@ impl Lone {
         ensures err { OnErr result (self.new ≡ self.old) }
         ensures foreign { result ≢ Err CallFault.ForeignPass }
     {
-        self.room.locked(alloc, &mut self.pass, call, &Direct)
+        let Ok(receipt) = self.room.answer(alloc, DESK, call, &Direct) else {
+            return Err(CallFault::NoMemory);
+        };
+        Ok(receipt)
     }
 }
 
