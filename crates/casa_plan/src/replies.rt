@@ -82,8 +82,8 @@ fn message_of_row<V: Version>(
     message_to(view, draft, key, row.row()?)
 }
 
-/// The messages to the operators of the flights that a draft writes, in the order of their keys. `AllocError` where
-/// there is no memory for them.
+/// The messages to the operators of the flights that a draft writes, in the order of their keys, in no more memory than
+/// they need, since the history keeps them. `AllocError` where there is none.
 fn messages<V: Version>(
     alloc: Global,
     view: &View<V>,
@@ -97,6 +97,7 @@ fn messages<V: Version>(
             all.push(message)?;
         }
     }
+    all.shrink_to_fit();
     Ok(all)
 }
 

@@ -97,6 +97,7 @@ pub(crate) fn told<V: Version>(
     let flight = FlightReply::of(key, row, delay);
     let mut messages = Vec::new(alloc);
     if let Some(message) = message_to(view, key, was, row, flight.ctot) {
+        messages.reserve_exact(1)?;
         messages.push(message)?;
     }
     let messages = Messages::from_vec(messages)?;
