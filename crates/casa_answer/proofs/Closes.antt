@@ -29,7 +29,7 @@ use Rattle.casa_laws.proofs.GoodRegs.{next-good}
 use Rattle.casa_laws.proofs.ChangeMessages.{StaysOpen, governed_by}
 use Rattle.casa_footprint.specs.Items.{moment, regulations}
 use Rattle.casa_footprint.specs.Footprint.{is_subject, is_list_of, governs}
-use Rattle.casa_answer.specs.Sight.{Sight, Written, nothing_written, row_with, IsSightOf, IsAnswer, IsPlanned, clock_in, regulations_in}
+use Rattle.casa_answer.specs.Sight.{Sight, Written, nothing_written, row_with, IsSightOf, IsAnswer, IsPlanned, clock_in, regulations_in, list_in, row_in}
 use Rattle.casa_footprint.specs.Finding.{by_id}
 use Rattle.casa_answer.specs.Closing.{without_regulation, governed_flights, closing, closing_with, after_closing, close_if, close_reg}
 use Rattle.casa_answer.specs.Enter.{with_reentry, with_entries}
@@ -57,18 +57,18 @@ catalogue-without id (e ∷ es) =
     ]
 
 -- a view whose rows are these
-abbrev with_shown : Sight → (Text → Option Row) → Sight
-with_shown v rows = record v { row = rows }
+abbrev with_shown : Sight → List (Text × Row) → Sight
+with_shown v rows = record v { rows = rows }
 
 -- a flight enters as it is ungoverned
-entries_as : (clock : ℕ) (rs : List Regulation) (v : Sight) (rows : Text → Option Row) (w : Written) (cs : List Comp)
-    → ((key : Text) → option_map ungoverned (v.row key) ≡ option_map ungoverned (rows key))
+entries_as : (clock : ℕ) (rs : List Regulation) (v : Sight) (rows : List (Text × Row)) (w : Written) (cs : List Comp)
+    → ((key : Text) → option_map ungoverned (row_in v key) ≡ option_map ungoverned (at_name rows key))
     → with_entries clock rs v w cs ≡ with_entries clock rs (with_shown v rows) w cs
 entries_as clock rs v rows w [] same = refl
 entries_as clock rs v rows w (c ∷ cs) same =
     ap (λ (x : Written). with_entries clock rs v x cs) step ∙ entries_as clock rs v rows (with_reentry clock rs (with_shown v rows) w c.key (row_with (with_shown v rows) w c.key)) cs same
   where
-    rest : (o : Option (Option Row)) → option_map ungoverned (unwrap_or o (v.row c.key)) ≡ option_map ungoverned (unwrap_or o (rows c.key))
+    rest : (o : Option (Option Row)) → option_map ungoverned (unwrap_or o (row_in v c.key)) ≡ option_map ungoverned (unwrap_or o (at_name rows c.key))
     rest None = same c.key
     rest (Some o) = refl
 
@@ -94,7 +94,7 @@ closes m id measure l v good is opened listed =
     let shows : Shows v w n = record { rows = λ q. as_shown q (at_name w.rows q) refl (rows q) ∙ all.shows.rows q; lists = all.shows.lists } in
     let stays : (key other : Text) (row : Row) → at_name w.rows key ≡ None → row_of n key ≡ Some row → row.governing ≡ Some other → StaysOpen m n other =
     λ key other row none found by a there.
-    let before_too : row_of m key ≡ Some row = sym (is.row key refl) ∙ sym (ap (λ o. unwrap_or o (v.row key)) none) ∙ shows.rows key ∙ found in
+    let before_too : row_of m key ≡ Some row = sym (is.row key refl) ∙ sym (ap (λ o. unwrap_or o (row_in v key)) none) ∙ shows.rows key ∙ found in
     let off : is_governed_by id row ≡ false = ap (λ (o : Option Row). option_map_or (is_governed_by id) o false) (sym before_too) ∙ sym (rows key) ∙ ap is_some none in
     (a, ap (λ es. at_name es other) regs ∙ at-without_other other id m.regs (apart id other (ap (λ (g : Option Text). option_map_or (same_text id) g false) (sym by) ∙ off)) ∙ there, λ plan eto h. h) in
     let written : AreInOrder w.rows = entries_ordered m.clock rs u begin cs tt in
@@ -128,7 +128,7 @@ closes m id measure l v good is opened listed =
 
     -- the view as it shows the freed flights
     u : Sight
-    u = with_shown v (row_of s)
+    u = with_shown v s.rows
 
     w : Written
     w = with_entries m.clock rs u begin cs
@@ -155,7 +155,7 @@ closes m id measure l v good is opened listed =
     flights_are : governed_flights l ≡ cs
     flights_are = ap governed_flights (sym listed) ∙ sym (governed_in_list id measure m.rows)
 
-    same_rest : (key : Text) → option_map ungoverned (v.row key) ≡ option_map ungoverned (row_of s key)
+    same_rest : (key : Text) → option_map ungoverned (row_in v key) ≡ option_map ungoverned (row_of s key)
     same_rest key = ap (option_map ungoverned) (is.row key refl) ∙ by (row_of m key) ∙ sym (ap (option_map ungoverned) (row-closed m id key))
       where
         one : (b : Bool) (row : Row) → Some (ungoverned row) ≡ Some (ungoverned (freed b row))
@@ -170,16 +170,16 @@ closes m id measure l v good is opened listed =
     change_is =
         (λ i. closing_with v id (without_regulation id (regulations_are i)) (flights_are i))
         ∙ ap (λ (clock : ℕ). with_entries clock rs v begin cs) clock_is
-        ∙ entries_as m.clock rs v (row_of s) begin cs same_rest
+        ∙ entries_as m.clock rs v s.rows begin cs same_rest
 
     before : Shows v nothing_written m
     before = record { rows = λ q. is.row q refl; lists = λ q. is.list q refl }
 
     -- as they are freed the change shows them, and the lists
-    list_now : (q : Text) → unwrap_or (at_name gone q) (v.list q) ≡ list_of s q
+    list_now : (q : Text) → unwrap_or (at_name gone q) (list_in v q) ≡ list_of s q
     list_now q =
-        ap (λ o. unwrap_or o (v.list q)) (at-put_by q id None []) ∙
-        (elim (same_text id q) as (λ b. same_text id q ≡ b → unwrap_or (if b then Some None else None) (v.list q) ≡ list_of s q) [
+        ap (λ o. unwrap_or o (list_in v q)) (at-put_by q id None []) ∙
+        (elim (same_text id q) as (λ b. same_text id q ≡ b → unwrap_or (if b then Some None else None) (list_in v q) ≡ list_of s q) [
           | true ↦ λ h. sym (subst (λ t. list_of s t ≡ None) (named id q h) (ap (option_map (listing s.rows id)) (at-without_same id m.regs good.regs_in_order)))
           | false ↦ λ h. is.list q refl ∙ sym (list-closed m id q h)
         ] refl)
@@ -222,10 +222,10 @@ closes m id measure l v good is opened listed =
         by (Some row) f = both row f (is_governed_by id row) refl
 
     -- what is not written is shown as it is
-    as_shown : (q : Text) (o : Option (Option Row)) → at_name w.rows q ≡ o → is_some (at_name w.rows q) ≡ governs m id q → unwrap_or (at_name w.rows q) (v.row q) ≡ unwrap_or (at_name w.rows q) (row_of s q)
-    as_shown q (Some x) e h = ap (λ y. unwrap_or y (v.row q)) e ∙ sym (ap (λ y. unwrap_or y (row_of s q)) e)
+    as_shown : (q : Text) (o : Option (Option Row)) → at_name w.rows q ≡ o → is_some (at_name w.rows q) ≡ governs m id q → unwrap_or (at_name w.rows q) (row_in v q) ≡ unwrap_or (at_name w.rows q) (row_of s q)
+    as_shown q (Some x) e h = ap (λ y. unwrap_or y (row_in v q)) e ∙ sym (ap (λ y. unwrap_or y (row_of s q)) e)
     as_shown q None e h =
-        ap (λ y. unwrap_or y (v.row q)) e ∙ is.row q refl ∙ by (row_of m q) (sym h ∙ ap is_some e) ∙ sym (row-closed m id q) ∙ sym (ap (λ y. unwrap_or y (row_of s q)) e)
+        ap (λ y. unwrap_or y (row_in v q)) e ∙ is.row q refl ∙ by (row_of m q) (sym h ∙ ap is_some e) ∙ sym (row-closed m id q) ∙ sym (ap (λ y. unwrap_or y (row_of s q)) e)
       where
         by : (o : Option Row) → option_map_or (is_governed_by id) o false ≡ false → o ≡ option_map (λ (row : Row). freed (is_governed_by id row) row) o
         by None h = refl
@@ -248,9 +248,9 @@ closes m id measure l v good is opened listed =
         ] refl)
 
 pub close_planned : (v : Sight) (id : Text) → IsPlanned v (CloseReg id) (close_reg v id)
-close_planned v id m good is = by (v.list id) refl
+close_planned v id m good is = by (list_in v id) refl
   where
-    by : (l : Option Listing) → v.list id ≡ l → IsAnswer m (CloseReg id) (close_if v id l)
+    by : (l : Option Listing) → list_in v id ≡ l → IsAnswer m (CloseReg id) (close_if v id l)
     by None e = refusal m (CloseReg id) NoRegulation (ap (close_regulation m id) (measure_none m id (sym (is.list id refl) ∙ e)))
     by (Some l) e =
         let o = measure_some m id l (sym (is.list id refl) ∙ e) in

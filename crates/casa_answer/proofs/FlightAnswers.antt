@@ -24,7 +24,7 @@ use Rattle.casa_footprint.specs.Footprint.{is_subject, governs, would_write, is_
 use Rattle.casa_footprint.proofs.Messages.{own_row, messages_self}
 use Rattle.casa_footprint.proofs.ShowList.{governs_own}
 use Rattle.casa_footprint.specs.Change.{IsChange}
-use Rattle.casa_answer.specs.Sight.{Sight, Written, says, nothing_written, IsAnswer, regulations_in, situation_in}
+use Rattle.casa_answer.specs.Sight.{Sight, Written, says, nothing_written, IsAnswer, regulations_in, situation_in, list_in}
 use Rattle.casa_answer.specs.OneFlight.{entry_offer, with_offer, offered_delay, flight_told, flight_written, ctot_shown_if, told}
 use Rattle.casa_answer.specs.FlightCalls.{refusal, unchanged, rewritten}
 use Rattle.casa_answer.proofs.FlightOffers.{offer_found, Finds, entry_same, entered_is, entered_delay}
@@ -72,18 +72,18 @@ written_answer v m call key row delay r is answers written delayed = (
 
 -- the lists that a view has of a flight, as it stood and as it may stand with another plan
 abbrev pub ShowsLists : Sight → State → Option Row → FlightPlan → Type 0
-ShowsLists v m was plan = (id : Text) → (is_over_in m was id || is_subject m plan id) ≡ true → v.list id ≡ list_of m id
+ShowsLists v m was plan = (id : Text) → (is_over_in m was id || is_subject m plan id) ≡ true → list_in v id ≡ list_of m id
 
 -- the list that governs a flight is shown: it is one of the flight's
-governing_shown : (v : Sight) (m : State) (was : Option Row) (plan : FlightPlan) → ShowsLists v m was plan → (w : Option Text) → IfSome w (λ id. is_over_in m was id ≡ true) → option_and_then v.list w ≡ option_and_then (list_of m) w
+governing_shown : (v : Sight) (m : State) (was : Option Row) (plan : FlightPlan) → ShowsLists v m was plan → (w : Option Text) → IfSome w (λ id. is_over_in m was id ≡ true) → option_and_then (list_in v) w ≡ option_and_then (list_of m) w
 governing_shown v m was plan shown None h = refl
 governing_shown v m was plan shown (Some id) h = shown id (or_left _ _ h)
 
 -- it is where each list is shown that governs the flight
-pub governing_seen : (v : Sight) (m : State) (key : Text) (row : Row) → ((id : Text) → governs m id key ≡ true → v.list id ≡ list_of m id) → row_of m key ≡ Some row → option_and_then v.list row.governing ≡ governing_list m row
+pub governing_seen : (v : Sight) (m : State) (key : Text) (row : Row) → ((id : Text) → governs m id key ≡ true → list_in v id ≡ list_of m id) → row_of m key ≡ Some row → option_and_then (list_in v) row.governing ≡ governing_list m row
 governing_seen v m key row lists found = by row.governing refl
   where
-    by : (w : Option Text) → row.governing ≡ w → option_and_then v.list w ≡ option_and_then (list_of m) w
+    by : (w : Option Text) → row.governing ≡ w → option_and_then (list_in v) w ≡ option_and_then (list_of m) w
     by None e = refl
     by (Some id) e = lists id (governs_own m key row id found e)
 
@@ -140,11 +140,11 @@ entering_answer v m call key was row clock good found free at finds shown is ans
     subst (λ t. P t (entry_offer v key row)) (sym at) (subst (P m.clock) (sym same) right)
 
 -- the governing list of a flight that is there is shown
-pub governing_there : (v : Sight) (m : State) (plan : FlightPlan) (key : Text) (row : Row) → IsGood m → row_of m key ≡ Some row → ShowsLists v m (Some row) plan → option_and_then v.list row.governing ≡ governing_list m row
+pub governing_there : (v : Sight) (m : State) (plan : FlightPlan) (key : Text) (row : Row) → IsGood m → row_of m key ≡ Some row → ShowsLists v m (Some row) plan → option_and_then (list_in v) row.governing ≡ governing_list m row
 governing_there v m plan key row good found shown = governing_shown v m (Some row) plan shown row.governing (own_row m key row good found)
 
 -- it is right to leave the flight as it is
-pub unchanged_answer : (v : Sight) (m : State) (call : Call) (key : Text) (row : Row) → IsGood m → row_of m key ≡ Some row → option_and_then v.list row.governing ≡ governing_list m row
+pub unchanged_answer : (v : Sight) (m : State) (call : Call) (key : Text) (row : Row) → IsGood m → row_of m key ≡ Some row → option_and_then (list_in v) row.governing ≡ governing_list m row
     → step m call ≡ leads m → answer m call ≡ flight_answer m key → ((i : ItemName) → would_write m call i ≡ false)
     → IsAnswer m call (unchanged v key row)
 unchanged_answer v m call key row good found governs is answers spares = (

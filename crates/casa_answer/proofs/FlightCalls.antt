@@ -26,7 +26,7 @@ use Rattle.casa_footprint.specs.Items.{ItemName, the_clock, the_catalogue, a_row
 use Rattle.casa_footprint.specs.Footprint.{is_subject, is_list_of, governs, reads, holds, would_write}
 use Rattle.casa_footprint.proofs.Names.{text_itself}
 use Rattle.casa_footprint.specs.Change.{IsChange}
-use Rattle.casa_answer.specs.Sight.{Sight, says, IsSightOf, IsPlanned, IsAnswer, clock_in, regulations_in, situation_in}
+use Rattle.casa_answer.specs.Sight.{Sight, says, IsSightOf, IsPlanned, IsAnswer, clock_in, regulations_in, situation_in, list_in, row_in}
 use Rattle.casa_answer.specs.OneFlight.{entry_offer, with_offer, offered_delay, flight_written}
 use Rattle.casa_answer.specs.Told.{ctot_by}
 use Rattle.casa_answer.specs.FlightCalls.{unchanged, taking, taking_if, filed, amended, cancelled, revised, exempted, exempted_if, shown, is_taken}
@@ -60,13 +60,13 @@ own_written m key id row new found kept =
 
 pub file_planned : (v : Sight) (plan : FlightPlan) → IsPlanned v (File plan) (planned.file v plan)
 file_planned v plan m good of =
-    subst (λ t. IsAnswer m (File plan) (filed v plan (v.row plan.key) (nat_lt plan.eobt t))) (sym at)
-    (by (v.row plan.key) found (nat_lt plan.eobt m.clock) refl)
+    subst (λ t. IsAnswer m (File plan) (filed v plan (row_in v plan.key) (nat_lt plan.eobt t))) (sym at)
+    (by (row_in v plan.key) found (nat_lt plan.eobt m.clock) refl)
   where
     at : clock_in v ≡ m.clock
     at = clock_is v m (File plan) of refl
 
-    found : row_of m plan.key ≡ v.row plan.key
+    found : row_of m plan.key ≡ row_in v plan.key
     found = sym (of.row plan.key (text_itself plan.key))
 
     written : (i : ItemName) (new : Row) → new.plan ≡ plan → row_of m plan.key ≡ None → would_write m (File plan) i ≡ has_written m plan.key (Some new) i
@@ -93,13 +93,13 @@ file_planned v plan m good of =
 
 pub amend_planned : (v : Sight) (plan : FlightPlan) → IsPlanned v (Amend plan) (planned.amend v plan)
 amend_planned v plan m good of =
-    subst (λ t. IsAnswer m (Amend plan) (amended v plan (v.row plan.key) (nat_lt plan.eobt t))) (sym at)
-    (by (v.row plan.key) found (nat_lt plan.eobt m.clock) refl)
+    subst (λ t. IsAnswer m (Amend plan) (amended v plan (row_in v plan.key) (nat_lt plan.eobt t))) (sym at)
+    (by (row_in v plan.key) found (nat_lt plan.eobt m.clock) refl)
   where
     at : clock_in v ≡ m.clock
     at = clock_is v m (Amend plan) of refl
 
-    found : row_of m plan.key ≡ v.row plan.key
+    found : row_of m plan.key ≡ row_in v plan.key
     found = sym (of.row plan.key (text_itself plan.key))
 
     written : (i : ItemName) (new : Row) → new.plan ≡ plan → would_write m (Amend plan) i ≡ has_written m plan.key (Some new) i
@@ -126,9 +126,9 @@ amend_planned v plan m good of =
         (λ i new kept. written i new kept)
 
 pub exempt_planned : (v : Sight) (key : Text) → IsPlanned v (Exempt key) (planned.exempt v key)
-exempt_planned v key m good of = by (v.row key) found
+exempt_planned v key m good of = by (row_in v key) found
   where
-    found : row_of m key ≡ v.row key
+    found : row_of m key ≡ row_in v key
     found = sym (of.row key (text_itself key))
 
     written : (i : ItemName) (row : Row) → row_of m key ≡ Some row → would_write m (Exempt key) i ≡ has_written m key (Some (record (ungoverned row) { marked = true })) i
@@ -153,9 +153,9 @@ exempt_planned v key m good of = by (v.row key) found
     by (Some row) e = mark row e (is_exempt row) refl
 
 pub cancel_planned : (v : Sight) (key : Text) → IsPlanned v (Cancel key) (planned.cancel v key)
-cancel_planned v key m good of = by (v.row key) found
+cancel_planned v key m good of = by (row_in v key) found
   where
-    found : row_of m key ≡ v.row key
+    found : row_of m key ≡ row_in v key
     found = sym (of.row key (text_itself key))
 
     written : (i : ItemName) → would_write m (Cancel key) i ≡ has_written m key None i
@@ -184,9 +184,9 @@ cancel_planned v key m good of = by (v.row key) found
         )
 
 pub show_planned : (v : Sight) (key : Text) → IsPlanned v (Show key) (planned.show v key)
-show_planned v key m good of = by (v.row key) found
+show_planned v key m good of = by (row_in v key) found
   where
-    found : row_of m key ≡ v.row key
+    found : row_of m key ≡ row_in v key
     found = sym (of.row key (text_itself key))
 
     spares : (i : ItemName) → would_write m (Show key) i ≡ false
@@ -200,22 +200,22 @@ show_planned v key m good of = by (v.row key) found
     by (Some row) e = unchanged_answer v m (Show key) key row good e (governing_seen v m key row of.list e) (ap (show m) e) refl spares
 
 -- the test of Revise by the view is that in the state
-revised_same : (v : Sight) (m : State) (key : Text) (row : Row) → IsGood m → row_of m key ≡ Some row → clock_in v ≡ m.clock → Finds (situation_in v) row.plan m → option_and_then v.list row.governing ≡ governing_list m row
+revised_same : (v : Sight) (m : State) (key : Text) (row : Row) → IsGood m → row_of m key ≡ Some row → clock_in v ≡ m.clock → Finds (situation_in v) row.plan m → option_and_then (list_in v) row.governing ≡ governing_list m row
     → is_taken v key row (entry_offer v key (ungoverned row)) ≡ is_revised m key row (entered (situation m) key (ungoverned row))
 revised_same v m key row good e at finds governs =
     let free : Row = ungoverned row in
     let o : Option Offer = offer_found (situation m) key free in
     let new : Row = with_offer m.clock free o in
     let delay : delay_of (with_row m key new) key new ≡ offered_delay o = entered_delay m key free good refl in
-    let before : ctot_by v.list key row ≡ ctot_of m key row = ap (λ (w : Option Listing). etot row.plan + option_map_or (λ (l : Listing). delay_in l key) w 0) governs in
+    let before : ctot_by (list_in v) key row ≡ ctot_of m key row = ap (λ (w : Option Listing). etot row.plan + option_map_or (λ (l : Listing). delay_in l key) w 0) governs in
     (λ i. not (is_some row.issued) || (not (is_gone (at i) row.plan) && nat_lt (etot row.plan + offered_delay (entry_same v m key free finds i)) (before i)))
     ∙ sym (λ i. not (is_some row.issued) || (not (is_gone m.clock row.plan) && nat_lt (etot (plan_kept m.clock free o i) + delay i) (ctot_of m key row)))
     ∙ ap (is_revised m key row) (sym (entered_is (situation m) key free))
 
 pub revise_planned : (v : Sight) (key : Text) → IsPlanned v (Revise key) (planned.revise v key)
-revise_planned v key m good of = by (v.row key) found
+revise_planned v key m good of = by (row_in v key) found
   where
-    found : row_of m key ≡ v.row key
+    found : row_of m key ≡ row_in v key
     found = sym (of.row key (text_itself key))
 
     at : clock_in v ≡ m.clock
@@ -260,7 +260,7 @@ revise_planned v key m good of = by (v.row key) found
           lists = λ id s. lists id (or_right _ _ s);
         }
 
-        governs : option_and_then v.list row.governing ≡ governing_list m row
+        governs : option_and_then (list_in v) row.governing ≡ governing_list m row
         governs = governing_there v m row.plan key row good e lists
 
         same : is_taken v key row o ≡ is_revised m key row new

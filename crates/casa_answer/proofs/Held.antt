@@ -14,7 +14,7 @@ use Rattle.casa_flight.specs.Good.{AreInOrder, IsGood, IsGoverned}
 use Rattle.casa_flight.proofs.Entries.{text_cmp}
 use Rattle.casa_laws.proofs.Kept.{at-kept}
 use Rattle.casa_laws.proofs.ChangeMessages.{governed_by}
-use Rattle.casa_answer.specs.Sight.{Sight, Written}
+use Rattle.casa_answer.specs.Sight.{Sight, Written, list_in}
 use Rattle.casa_answer.specs.Write.{Stances, with_stances, write_flight}
 use Rattle.casa_answer.specs.Issue.{governed_stance, governed_stances, with_issued_row}
 use Rattle.casa_answer.proofs.Changes.{test_same}
@@ -60,23 +60,23 @@ eto_stays true (Some t) eto = refl
 eto_stays false i eto = refl
 
 -- what is written of it with another issue, in a view that shows its list
-issue_written : (v : Sight) (w : Written) (m : State) (key : Text) (h : IsHeld m key) (issued : Option ℕ) → v.list h.id ≡ list_of m h.id → AreInOrder m.rows
+issue_written : (v : Sight) (w : Written) (m : State) (key : Text) (h : IsHeld m key) (issued : Option ℕ) → list_in v h.id ≡ list_of m h.id → AreInOrder m.rows
     → with_issued_row v w key (record h.row { issued = issued }) ≡ write_flight v w key (Some (record h.row { issued = issued })) ((h.id, stance_issued m key h issued) ∷ [])
 unfolding stance_issued
 issue_written v w m key h issued listed sorted =
     let new : Row = record h.row { issued = issued } in
-    let is : v.list h.id ≡ Some (listing m.rows h.id h.measure) = listed ∙ ap (option_map (listing m.rows h.id)) h.opened in
+    let is : list_in v h.id ≡ Some (listing m.rows h.id h.measure) = listed ∙ ap (option_map (listing m.rows h.id)) h.opened in
     let stands : stance_of (listing m.rows h.id h.measure) key ≡ Some (stance (is_governed_by h.id h.row) h.row.issued h.eto) =
     at-kept (stance_in h.id h.measure) key m.rows sorted ∙ ap (option_and_then (stance_in h.id h.measure)) h.found ∙ ap (option_map (stance (is_governed_by h.id h.row) h.row.issued)) h.over in
     let there : governed_stances v key new ≡ (h.id, stance_issued m key h issued) ∷ [] =
-    ap (λ (o : Option Text). let es : Stances = option_map_or (λ (id : Text). (id, option_and_then (governed_stance key new) (v.list id)) ∷ []) o [] in es) h.governs
+    ap (λ (o : Option Text). let es : Stances = option_map_or (λ (id : Text). (id, option_and_then (governed_stance key new) (list_in v id)) ∷ []) o [] in es) h.governs
     ∙ ap (λ (o : Option Listing). let es : Stances = (h.id, option_and_then (governed_stance key new) o) ∷ [] in es) is
     ∙ ap (λ (o : Option Stance). let es : Stances = (h.id, option_map (λ (s : Stance). stance true issued (eto_as s)) o) ∷ [] in es) stands
     ∙ ap (λ eto. let es : Stances = (h.id, Some (stance true issued eto)) ∷ [] in es) (eto_stays (is_governed_by h.id h.row) h.row.issued h.eto) in
     ap (write_flight v w key (Some new)) there
 
 -- with it, what the view shows is the state with the flight issued so, where it was there with any issue
-pub issue_shown : (v : Sight) (w : Written) (m s : State) (key : Text) (h : IsHeld m key) (was issued : Option ℕ) → v.list h.id ≡ list_of m h.id → AreInOrder m.rows
+pub issue_shown : (v : Sight) (w : Written) (m s : State) (key : Text) (h : IsHeld m key) (was issued : Option ℕ) → list_in v h.id ≡ list_of m h.id → AreInOrder m.rows
     → Shows v w s → AreInOrder s.rows → s.regs ≡ m.regs → row_of s key ≡ Some (record h.row { issued = was })
     → Shows v (with_issued_row v w key (record h.row { issued = issued })) (with_row s key (record h.row { issued = issued }))
 issue_shown v w m s key h was issued listed ordered shows sorted same found =
@@ -92,7 +92,7 @@ pub issue_named : (v : Sight) (w : Written) (key : Text) (new : Row) (q : Text) 
 issue_named v w key new q = by new.governing
   where
     stances_by : Option Text → Stances
-    stances_by g = option_map_or (λ (id : Text). (id, option_and_then (governed_stance key new) (v.list id)) ∷ []) g []
+    stances_by g = option_map_or (λ (id : Text). (id, option_and_then (governed_stance key new) (list_in v id)) ∷ []) g []
 
     one : (st : Option Stance) (b : Bool) → is_some (cond b (Some st) None) ≡ b
     one st true = refl
@@ -102,4 +102,4 @@ issue_named v w key new q = by new.governing
     by None = or_none _
     by (Some id) =
         lists_named v key w.lists (stances_by (Some id)) q (refl, tt)
-        ∙ ap (λ b. is_some (at_name w.lists q) || b) (one (option_and_then (governed_stance key new) (v.list id)) (is_eq (text_cmp q id)) ∙ test_same id q ∙ text_turn id q)
+        ∙ ap (λ b. is_some (at_name w.lists q) || b) (one (option_and_then (governed_stance key new) (list_in v id)) (is_eq (text_cmp q id)) ∙ test_same id q ∙ text_turn id q)

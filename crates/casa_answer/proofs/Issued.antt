@@ -18,7 +18,7 @@ use Rattle.casa_flight.specs.Good.{AreInOrder}
 use Rattle.casa_flight.proofs.Entries.{text_cmp, sorted-put, same_name, named, apart, at-put_other, at-map, keys-map, all-each, all-both}
 use Rattle.casa_laws.proofs.Kept.{at_above, same_entries}
 use Rattle.casa_footprint.specs.Finding.{due_keys}
-use Rattle.casa_answer.specs.Sight.{Sight, Written, nothing_written}
+use Rattle.casa_answer.specs.Sight.{Sight, Written, nothing_written, row_in}
 use Rattle.casa_answer.specs.Issue.{issued_row, with_issued_row, with_issue, with_issues}
 use Rattle.casa_answer.proofs.Changes.{test_same}
 use Rattle.casa_answer.proofs.Board.{Shows, row_put}
@@ -39,7 +39,7 @@ is_among q keys = list_any (λ k. same_text k q) keys
 
 -- whether a regulation governs one of these flights
 abbrev pub governs_among : Sight → Text → List Text → Bool
-governs_among v id keys = list_any (λ k. option_map_or (is_governed_by id) (v.row k) false) keys
+governs_among v id keys = list_any (λ k. option_map_or (is_governed_by id) (row_in v k) false) keys
 
 -- what is written of a flight that is issued, in a view that shows m
 written_issued : (v : Sight) (w : Written) (m : State) (key : Text) (h : IsHeld m key) → Shows v nothing_written m → with_issue v w key ≡ with_issued_row v w key (issued_in m key h.row)

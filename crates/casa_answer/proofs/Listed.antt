@@ -26,7 +26,7 @@ use Rattle.casa_footprint.specs.Footprint.{governs, is_forced, governs_forced}
 use Rattle.casa_footprint.proofs.Names.{text_itself}
 use Rattle.casa_footprint.proofs.Messages.{messages_self}
 use Rattle.casa_footprint.proofs.ShowList.{governs_own, IsIn, each_in, some_flight, answer_at, map-each}
-use Rattle.casa_answer.specs.Sight.{Sight, nothing_written, regulations_in, IsSightOf, IsAnswer, IsPlanned}
+use Rattle.casa_answer.specs.Sight.{Sight, nothing_written, regulations_in, IsSightOf, IsAnswer, IsPlanned, list_in, row_in}
 use Rattle.casa_answer.specs.Told.{delay_by}
 use Rattle.casa_footprint.specs.Finding.{by_id}
 use Rattle.casa_answer.specs.Look.{row_shown, rows_shown, list_shown, list_if, list}
@@ -35,19 +35,19 @@ use Rattle.casa_answer.proofs.NewRates.{measure_none, measure_some}
 
 -- a forced flight passes as it does in the state
 forced_time_is : (m : State) (id : Text) (l : Listing) (v : Sight) → list_of m id ≡ Some l → IsSightOf m (ListOf id) v → (key : Text) (eto : ℕ) → IsIn l.flights (key, Forced eto)
-    → option_map_or (delay_by v.list key) (v.row key) 0 ≡ option_map_or (delay_of m key) (row_of m key) 0
+    → option_map_or (delay_by (list_in v) key) (row_in v key) 0 ≡ option_map_or (delay_of m key) (row_of m key) 0
 forced_time_is m id l v here is key eto there =
-    ap (λ (w : Option Row). option_map_or (delay_by v.list key) w 0)
+    ap (λ (w : Option Row). option_map_or (delay_by (list_in v) key) w 0)
     (is.row key (some_flight m id l (λ k x. is_forced x && same_text key k) here (there (λ (e : Text × Stance). is_forced e.1 && same_text key e.0) (text_itself key))))
     ∙ by (row_of m key) refl
   where
-    to : (row : Row) → row_of m key ≡ Some row → (g : Option Text) → row.governing ≡ g → option_and_then v.list g ≡ option_and_then (list_of m) g
+    to : (row : Row) → row_of m key ≡ Some row → (g : Option Text) → row.governing ≡ g → option_and_then (list_in v) g ≡ option_and_then (list_of m) g
     to row e None g = refl
     to row e (Some other) g =
         is.list other (or_right (same_text id other) (governs_forced m id other)
         (some_flight m id l (λ k x. is_forced x && governs m other k) here (there (λ (e : Text × Stance). is_forced e.1 && governs m other e.0) (governs_own m key row other e g))))
 
-    by : (w : Option Row) → row_of m key ≡ w → option_map_or (delay_by v.list key) w 0 ≡ option_map_or (delay_of m key) w 0
+    by : (w : Option Row) → row_of m key ≡ w → option_map_or (delay_by (list_in v) key) w 0 ≡ option_map_or (delay_of m key) w 0
     by None e = refl
     by (Some row) e = ap (λ (o : Option Listing). option_map_or (λ (l : Listing). delay_in l key) o 0) (to row e row.governing refl)
 
@@ -86,7 +86,7 @@ list_planned v id m good is =
     subst (λ (o : Option Listing). IsAnswer m (ListOf id) (list_if v (at_name (by_id (regulations_in v)) id) o)) (sym seen)
     (subst (λ (rs : List Regulation). IsAnswer m (ListOf id) (list_if v (at_name (by_id rs) id) (list_of m id))) (sym known) (by (list_of m id) refl))
   where
-    seen : v.list id ≡ list_of m id
+    seen : list_in v id ≡ list_of m id
     seen = is.list id (or_left (same_text id id) (governs_forced m id id) (text_itself id))
 
     known : regulations_in v ≡ catalogue m

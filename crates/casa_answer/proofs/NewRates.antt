@@ -25,7 +25,7 @@ use Rattle.casa_footprint.specs.Footprint.{reads, enters_with}
 use Rattle.casa_footprint.proofs.Names.{text_itself}
 use Rattle.casa_footprint.proofs.Catalogue.{at-catalogue}
 use Rattle.casa_footprint.proofs.Rates.{rated, rates_messages, list_rated, extends_at, enters_with_at}
-use Rattle.casa_answer.specs.Sight.{Sight, IsAnswer, IsPlanned, regulations_in}
+use Rattle.casa_answer.specs.Sight.{Sight, IsAnswer, IsPlanned, regulations_in, list_in}
 use Rattle.casa_answer.specs.FlightCalls.{refusal as refused}
 use Rattle.casa_answer.specs.TakingIn.{taking_in}
 use Rattle.casa_answer.specs.NewRates.{new_rates, extended, rates_if, rates_at, rates}
@@ -97,7 +97,7 @@ ends m id measure profile opened span later = record {
     read (a_list other) = or_right _ _ extended_so
 
 pub rates_planned : (v : Sight) (id : Text) (profile : List Period) → IsPlanned v (Rates id profile) (rates v id profile)
-rates_planned v id profile m good is = by (v.list id) (sym (is.list id (or_left _ _ (text_itself id))))
+rates_planned v id profile m good is = by (list_in v id) (sym (is.list id (or_left _ _ (text_itself id))))
   where
     call : Call
     call = Rates id profile

@@ -11,7 +11,7 @@ use Rattle.casa_flight.specs.Listing.{Listing}
 use Rattle.casa_flight.specs.Steps.{most_regulations, open_regulation}
 use Rattle.casa_laws.proofs.RegMessages.{open_stays}
 use Rattle.std.proofs.lemmas.List.{length-map}
-use Rattle.casa_answer.specs.Sight.{Sight, IsAnswer, IsPlanned, regulations_in}
+use Rattle.casa_answer.specs.Sight.{Sight, IsAnswer, IsPlanned, regulations_in, list_in}
 use Rattle.casa_answer.specs.Opening.{open_if, open_reg}
 use Rattle.casa_answer.proofs.Changes.{refusal}
 use Rattle.casa_answer.proofs.TakingIn.{TakesIn, takes_in}
@@ -34,7 +34,7 @@ opens m id loc profile absent room = record {
     measure = record { loc = loc; profile = profile }
 
 pub open_planned : (v : Sight) (id loc : Text) (profile : List Period) → IsPlanned v (OpenReg id loc profile) (open_reg v id loc profile)
-open_planned v id loc profile m good is = by (v.list id) (nat_le most_regulations (length (regulations_in v))) refl refl
+open_planned v id loc profile m good is = by (list_in v id) (nat_le most_regulations (length (regulations_in v))) refl refl
   where
     measure : Measure
     measure = record { loc = loc; profile = profile }
@@ -42,7 +42,7 @@ open_planned v id loc profile m good is = by (v.list id) (nat_le most_regulation
     count : length (regulations_in v) ≡ length m.regs
     count = ap (λ w. length (unwrap_or w [])) (is.catalogue refl) ∙ length-map m.regs (λ (e : Text × Measure). regulation e.0 e.1)
 
-    by : (l : Option Listing) (full : Bool) → v.list id ≡ l → nat_le most_regulations (length (regulations_in v)) ≡ full
+    by : (l : Option Listing) (full : Bool) → list_in v id ≡ l → nat_le most_regulations (length (regulations_in v)) ≡ full
         → IsAnswer m (OpenReg id loc profile) (open_if v (regulation id measure) profile l full)
     by (Some l) full e f =
         let o = measure_some m id l (sym (is.list id refl) ∙ e) in

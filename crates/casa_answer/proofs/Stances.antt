@@ -13,7 +13,7 @@ use Rattle.casa_flight.specs.Listing.{Listing, stance}
 use Rattle.casa_flight.specs.Good.{AreInOrder}
 use Rattle.casa_flight.proofs.Entries.{text_cmp, itself, same_name, at-put}
 use Rattle.casa_laws.proofs.Kept.{kept_by, at-kept_by, sorted-kept_by, at_above}
-use Rattle.casa_answer.specs.Sight.{Sight}
+use Rattle.casa_answer.specs.Sight.{Sight, list_in}
 use Rattle.casa_answer.specs.Write.{Lists, Stances, with_flight, with_stances, left, standing, stances, crossed_by}
 use Rattle.casa_answer.proofs.Crossings.{time_over, at-crossed, sorted-crossed}
 
@@ -41,38 +41,38 @@ set_in key l s = option_map (λ (l : Listing). with_flight l key s) l
 
 -- a list is written where the flight is to stand there so or not at all, and as it was it is left else
 pub at-with_stances : (v : Sight) (key : Text) (ls : Lists) (es : Stances) (q : Text) → AreOnce es
-    → at_name (with_stances v key ls es) q ≡ option_or (option_map (set_in key (unwrap_or (at_name ls q) (v.list q))) (at_name es q)) (at_name ls q)
+    → at_name (with_stances v key ls es) q ≡ option_or (option_map (set_in key (unwrap_or (at_name ls q) (list_in v q))) (at_name es q)) (at_name ls q)
 at-with_stances v key ls [] q once = refl
 at-with_stances v key ls (e ∷ es) q once =
     at-with_stances v key (put ls e.0 x) es q once.1
-    ∙ ap (λ o. option_or (option_map (set_in key (unwrap_or o (v.list q))) (at_name es q)) o) (at-put q e.0 x ls)
-    ∙ (elim (is_eq (text_cmp q e.0)) as (λ b. is_eq (text_cmp q e.0) ≡ b → option_or (option_map (set_in key (unwrap_or (cond b (Some x) (at_name ls q)) (v.list q))) (at_name es q)) (cond b (Some x) (at_name ls q))
-    ≡ option_or (option_map (set_in key (unwrap_or (at_name ls q) (v.list q))) (cond b (Some e.1) (at_name es q))) (at_name ls q)) [
+    ∙ ap (λ o. option_or (option_map (set_in key (unwrap_or o (list_in v q))) (at_name es q)) o) (at-put q e.0 x ls)
+    ∙ (elim (is_eq (text_cmp q e.0)) as (λ b. is_eq (text_cmp q e.0) ≡ b → option_or (option_map (set_in key (unwrap_or (cond b (Some x) (at_name ls q)) (list_in v q))) (at_name es q)) (cond b (Some x) (at_name ls q))
+    ≡ option_or (option_map (set_in key (unwrap_or (at_name ls q) (list_in v q))) (cond b (Some e.1) (at_name es q))) (at_name ls q)) [
       | true ↦ λ t.
-          subst (λ k. option_or (option_map (set_in key (unwrap_or (Some x) (v.list k))) (at_name es k)) (Some x) ≡ Some (set_in key (unwrap_or (at_name ls k) (v.list k)) e.1)) (sym (same_name q e.0 t))
-          (ap (λ o. option_or (option_map (set_in key (unwrap_or (Some x) (v.list e.0))) o) (Some x)) once.0)
+          subst (λ k. option_or (option_map (set_in key (unwrap_or (Some x) (list_in v k))) (at_name es k)) (Some x) ≡ Some (set_in key (unwrap_or (at_name ls k) (list_in v k)) e.1)) (sym (same_name q e.0 t))
+          (ap (λ o. option_or (option_map (set_in key (unwrap_or (Some x) (list_in v e.0))) o) (Some x)) once.0)
       | false ↦ λ t. refl
     ] refl)
   where
     x : Option Listing
-    x = set_in key (unwrap_or (at_name ls e.0) (v.list e.0)) e.1
+    x = set_in key (unwrap_or (at_name ls e.0) (list_in v e.0)) e.1
 
 -- a list is written if it was, or if the flight is to stand there so or not at all
 pub lists_named : (v : Sight) (key : Text) (ls : Lists) (es : Stances) (q : Text) → AreOnce es → is_some (at_name (with_stances v key ls es) q) ≡ (is_some (at_name ls q) || is_some (at_name es q))
 lists_named v key ls es q once = ap is_some (at-with_stances v key ls es q once) ∙ by (at_name es q) (at_name ls q)
   where
-    by : (o : Option (Option Stance)) (p : Option (Option Listing)) → is_some (option_or (option_map (set_in key (unwrap_or p (v.list q))) o) p) ≡ (is_some p || is_some o)
+    by : (o : Option (Option Stance)) (p : Option (Option Listing)) → is_some (option_or (option_map (set_in key (unwrap_or p (list_in v q))) o) p) ≡ (is_some p || is_some o)
     by None None = refl
     by None (Some y) = refl
     by (Some s) None = refl
     by (Some s) (Some y) = refl
 
 -- nothing but the lists that are named is looked at
-pub same_lists : (v u : Sight) (key : Text) (ls : Lists) (es : Stances) → ((q : Text) → is_some (at_name es q) ≡ true → v.list q ≡ u.list q) → AreOnce es → with_stances v key ls es ≡ with_stances u key ls es
+pub same_lists : (v u : Sight) (key : Text) (ls : Lists) (es : Stances) → ((q : Text) → is_some (at_name es q) ≡ true → list_in v q ≡ list_in u q) → AreOnce es → with_stances v key ls es ≡ with_stances u key ls es
 same_lists v u key ls [] same once = refl
 same_lists v u key ls (e ∷ es) same once =
     ap (λ (l : Option Listing). with_stances v key (put ls e.0 (set_in key (unwrap_or (at_name ls e.0) l) e.1)) es) (same e.0 (ap (λ b. is_some (cond b (Some e.1) (at_name es e.0))) (itself e.0)))
-    ∙ same_lists v u key (put ls e.0 (set_in key (unwrap_or (at_name ls e.0) (u.list e.0)) e.1)) es (λ q h. same q (later q h (is_eq (text_cmp q e.0)))) once.1
+    ∙ same_lists v u key (put ls e.0 (set_in key (unwrap_or (at_name ls e.0) (list_in u e.0)) e.1)) es (λ q h. same q (later q h (is_eq (text_cmp q e.0)))) once.1
   where
     later : (q : Text) → is_some (at_name es q) ≡ true → (b : Bool) → is_some (cond b (Some e.1) (at_name es q)) ≡ true
     later q h true = refl

@@ -14,7 +14,7 @@ use Rattle.casa_flight.specs.declared.state.State.{State}
 use Rattle.casa_flight.specs.Text.{Text, same_text, at_name, put}
 use Rattle.casa_flight.specs.FlightPlan.{etot}
 use Rattle.casa_flight.specs.State.{row_of, with_row, is_governed_by}
-use Rattle.casa_flight.specs.Listing.{Listing, list_of, governing_list, delay_in}
+use Rattle.casa_flight.specs.Listing.{Listing, governing_list, delay_in}
 use Rattle.casa_flight.specs.Steps.{leads, step, reissued, Exchange, exchanged, is_shared, are_too_early, swap as step_swap, swap_issued as step_swap_issued, swap_if as step_swap_if}
 use Rattle.casa_flight.specs.Replies.{is_issued, message_of, messages}
 use Rattle.casa_flight.specs.Good.{AreInOrder, IsGood}
@@ -24,26 +24,26 @@ use Rattle.casa_laws.proofs.Swap.{CanExchange, SharedBy, shared_by}
 use Rattle.casa_footprint.specs.Footprint.{governs}
 use Rattle.casa_footprint.proofs.Names.{text_itself}
 use Rattle.casa_footprint.proofs.OneFlight.{other_row}
-use Rattle.casa_answer.specs.Sight.{Sight, Written, nothing_written, IsSightOf, IsAnswer, IsPlanned, clock_in, list_with}
+use Rattle.casa_answer.specs.Sight.{Sight, Written, nothing_written, IsSightOf, IsAnswer, IsPlanned, clock_in, list_with, list_in, row_in}
 use Rattle.casa_answer.specs.Write.{with_flight, write_flight}
 use Rattle.casa_answer.specs.Issue.{governed_stance, with_issued_row}
 use Rattle.casa_answer.specs.Told.{ctot_by, ctot_shown, message_shown, messages_shown, done}
 use Rattle.casa_answer.specs.Swapping.{exchanged as exchange_written, swap_if, swap_issued, swapped, swap}
 use Rattle.casa_answer.proofs.Changes.{refusal, acceptance}
-use Rattle.casa_answer.proofs.Board.{Shows, says_shown}
+use Rattle.casa_answer.proofs.Board.{Shows, says_shown, whole, whole-list, whole-shown}
 use Rattle.casa_answer.proofs.Messages.{messages_are}
 use Rattle.casa_answer.proofs.Naming.{named_put}
 use Rattle.casa_answer.proofs.FlightAnswers.{governing_seen}
 use Rattle.casa_answer.proofs.Held.{IsHeld, held_by, issue_shown, issue_named}
 
 -- as a flight is written with another issue, no list is looked at but the one that governs it
-issue_seen : (v u : Sight) (w : Written) (key : Text) (new : Row) → option_and_then v.list new.governing ≡ option_and_then u.list new.governing → with_issued_row v w key new ≡ with_issued_row u w key new
+issue_seen : (v u : Sight) (w : Written) (key : Text) (new : Row) → option_and_then (list_in v) new.governing ≡ option_and_then (list_in u) new.governing → with_issued_row v w key new ≡ with_issued_row u w key new
 issue_seen v u w key new lists = by new.governing lists
   where
     written_by : Sight → Option Text → Written
-    written_by s g = write_flight s w key (Some new) (option_map_or (λ (id : Text). (id, option_and_then (governed_stance key new) (s.list id)) ∷ []) g [])
+    written_by s g = write_flight s w key (Some new) (option_map_or (λ (id : Text). (id, option_and_then (governed_stance key new) (list_in s id)) ∷ []) g [])
 
-    by : (g : Option Text) → option_and_then v.list g ≡ option_and_then u.list g → written_by v g ≡ written_by u g
+    by : (g : Option Text) → option_and_then (list_in v) g ≡ option_and_then (list_in u) g → written_by v g ≡ written_by u g
     by None e = refl
     by (Some id) e =
         ap (λ (o : Option Listing).
@@ -52,7 +52,7 @@ issue_seen v u w key new lists = by new.governing lists
         x) e
 
 -- nor for its message
-message_seen : (v u : Sight) (w : Written) (key : Text) (row : Row) (issued : Option ℕ) → v.row key ≡ Some row → u.row key ≡ Some row → option_and_then v.list row.governing ≡ option_and_then u.list row.governing
+message_seen : (v u : Sight) (w : Written) (key : Text) (row : Row) (issued : Option ℕ) → row_in v key ≡ Some row → row_in u key ≡ Some row → option_and_then (list_in v) row.governing ≡ option_and_then (list_in u) row.governing
     → message_shown v w key (record row { issued = issued }) ≡ message_shown u w key (record row { issued = issued })
 message_seen v u w key row issued here there lists =
     λ i. message_of key row.governing (is_issued ((here ∙ sym there) i)) (is_some issued) (before i) (ctot_as (now row.governing lists i))
@@ -61,9 +61,9 @@ message_seen v u w key row issued here there lists =
     ctot_as o = etot row.plan + option_map_or (λ (l : Listing). delay_in l key) o 0
 
     before : ctot_shown v key ≡ ctot_shown u key
-    before = ap (λ (o : Option Row). option_map_or (ctot_by (λ id. v.list id) key) o 0) here ∙ ap ctot_as lists ∙ sym (ap (λ (o : Option Row). option_map_or (ctot_by (λ id. u.list id) key) o 0) there)
+    before = ap (λ (o : Option Row). option_map_or (ctot_by (λ id. list_in v id) key) o 0) here ∙ ap ctot_as lists ∙ sym (ap (λ (o : Option Row). option_map_or (ctot_by (λ id. list_in u id) key) o 0) there)
 
-    now : (g : Option Text) → option_and_then v.list g ≡ option_and_then u.list g → option_and_then (list_with v w) g ≡ option_and_then (list_with u w) g
+    now : (g : Option Text) → option_and_then (list_in v) g ≡ option_and_then (list_in u) g → option_and_then (list_with v w) g ≡ option_and_then (list_with u w) g
     now None e = refl
     now (Some id) e = ap (unwrap_or (at_name w.lists id)) e
 
@@ -104,9 +104,11 @@ exchanges v m x good is can stepped =
     n : State
     n = exchanged m x
 
-    -- the view as if it showed the whole state
     u : Sight
-    u = record v { row = row_of m; list = list_of m }
+    u = whole v m
+
+    whole_list : (row : Row) → governing_list m row ≡ option_and_then (list_in u) row.governing
+    whole_list row = ap (λ (at : Text → Option Listing). option_and_then at row.governing) (λ i id. sym (whole-list v m id) i)
 
     first : Written
     first = with_issued_row u nothing_written x.key new
@@ -114,16 +116,22 @@ exchanges v m x good is can stepped =
     w : Written
     w = exchange_written u x
 
-    own_list : option_and_then v.list x.row.governing ≡ governing_list m x.row
+    own_list : option_and_then (list_in v) x.row.governing ≡ governing_list m x.row
     own_list = governing_seen v m x.key x.row (λ id h. is.list id (or_left _ _ h)) can.here
 
-    its_list : option_and_then v.list x.mate.governing ≡ governing_list m x.mate
+    its_list : option_and_then (list_in v) x.mate.governing ≡ governing_list m x.mate
     its_list = governing_seen v m x.other x.mate (λ id h. is.list id (or_right _ _ h)) can.there
+
+    own_seen : option_and_then (list_in v) x.row.governing ≡ option_and_then (list_in u) x.row.governing
+    own_seen = own_list ∙ whole_list x.row
+
+    its_seen : option_and_then (list_in v) x.mate.governing ≡ option_and_then (list_in u) x.mate.governing
+    its_seen = its_list ∙ whole_list x.mate
 
     same : exchange_written v x ≡ w
     same =
-        ap (λ (y : Written). with_issued_row v y x.other new_mate) (issue_seen v u nothing_written x.key new own_list)
-        ∙ issue_seen v u first x.other new_mate its_list
+        ap (λ (y : Written). with_issued_row v y x.other new_mate) (issue_seen v u nothing_written x.key new own_seen)
+        ∙ issue_seen v u first x.other new_mate its_seen
 
     s : SharedBy m x
     s = shared_by m x good can
@@ -132,7 +140,7 @@ exchanges v m x good is can stepped =
     sorted = sorted-put x.key new m.rows good.rows_in_order
 
     begun : Shows u nothing_written m
-    begun = record { rows = λ q. refl; lists = λ q. refl }
+    begun = whole-shown v m
 
     held : IsHeld m x.key
     held = held_by m m.clock x.key s.id x.row good can.here s.governs
@@ -143,8 +151,8 @@ exchanges v m x good is can stepped =
     shows : Shows u w n
     shows =
         let between = mate_between m x can in
-        issue_shown u first m one x.other held_mate between.0 (Some x.cto) refl good.rows_in_order
-        (issue_shown u nothing_written m m x.key held x.row.issued (Some x.time) refl good.rows_in_order begun good.rows_in_order refl can.here)
+        issue_shown u first m one x.other held_mate between.0 (Some x.cto) (whole-list v m held_mate.id) good.rows_in_order
+        (issue_shown u nothing_written m m x.key held x.row.issued (Some x.time) (whole-list v m held.id) good.rows_in_order begun good.rows_in_order refl can.here)
         sorted refl between.1
 
     rows : (q : Text) → is_some (at_name w.rows q) ≡ (same_text x.key q || same_text x.other q)
@@ -165,14 +173,14 @@ exchanges v m x good is can stepped =
         messages_are m n u w good (sorted-put x.other new_mate one.rows sorted) (sorted-put x.other (Some new_mate) first.rows (sorted-put x.key (Some new) [] tt)) begun shows
         (λ key id row none found governs. stays m n id (λ a opened. opened))
         ∙ sym (filter_map-each (λ (e : Text × Option Row). option_and_then (message_shown v w e.0) e.1) (λ (e : Text × Option Row). option_and_then (message_shown u w e.0) e.1) w.rows
-        (all-put Same x.other (Some new_mate) (message_seen v u w x.other x.mate (Some x.cto) (is.row x.other (or_right _ _ (text_itself x.other)) ∙ can.there) can.there its_list) first.rows
-        (all-put Same x.key (Some new) (message_seen v u w x.key x.row (Some x.time) (is.row x.key (or_left _ _ (text_itself x.key)) ∙ can.here) can.here own_list) [] tt)))
+        (all-put Same x.other (Some new_mate) (message_seen v u w x.other x.mate (Some x.cto) (is.row x.other (or_right _ _ (text_itself x.other)) ∙ can.there) can.there its_seen) first.rows
+        (all-put Same x.key (Some new) (message_seen v u w x.key x.row (Some x.time) (is.row x.key (or_left _ _ (text_itself x.key)) ∙ can.here) can.here own_seen) [] tt)))
 
 -- two issued flights
 issued : (v : Sight) (m : State) (x : Exchange) → IsGood m → IsSightOf m (Swap x.key x.other) v
     → row_of m x.key ≡ Some x.row → row_of m x.other ≡ Some x.mate → x.row.issued ≡ Some x.cto → x.mate.issued ≡ Some x.time
-    → IsAnswer m (Swap x.key x.other) (swap_if v x (is_shared x.row x.mate) (are_too_early (clock_in v) (option_and_then v.list x.row.governing) (option_and_then v.list x.mate.governing) x))
-issued v m x good is here there own its = by (is_shared x.row x.mate) refl (are_too_early (clock_in v) (option_and_then v.list x.row.governing) (option_and_then v.list x.mate.governing) x) seen
+    → IsAnswer m (Swap x.key x.other) (swap_if v x (is_shared x.row x.mate) (are_too_early (clock_in v) (option_and_then (list_in v) x.row.governing) (option_and_then (list_in v) x.mate.governing) x))
+issued v m x good is here there own its = by (is_shared x.row x.mate) refl (are_too_early (clock_in v) (option_and_then (list_in v) x.row.governing) (option_and_then (list_in v) x.mate.governing) x) seen
   where
     call : Call
     call = Swap x.key x.other
@@ -183,13 +191,13 @@ issued v m x good is here there own its = by (is_shared x.row x.mate) refl (are_
     clock : m.clock ≡ clock_in v
     clock = sym (ap (λ (o : Option ℕ). unwrap_or o 0) (is.clock refl))
 
-    own_list : governing_list m x.row ≡ option_and_then v.list x.row.governing
+    own_list : governing_list m x.row ≡ option_and_then (list_in v) x.row.governing
     own_list = sym (governing_seen v m x.key x.row (λ id h. is.list id (or_left _ _ h)) here)
 
-    its_list : governing_list m x.mate ≡ option_and_then v.list x.mate.governing
+    its_list : governing_list m x.mate ≡ option_and_then (list_in v) x.mate.governing
     its_list = sym (governing_seen v m x.other x.mate (λ id h. is.list id (or_right _ _ h)) there)
 
-    seen : early ≡ are_too_early (clock_in v) (option_and_then v.list x.row.governing) (option_and_then v.list x.mate.governing) x
+    seen : early ≡ are_too_early (clock_in v) (option_and_then (list_in v) x.row.governing) (option_and_then (list_in v) x.mate.governing) x
     seen = λ i. are_too_early (clock i) (own_list i) (its_list i) x
 
     stepped : step m call ≡ step_swap_if m x (is_shared x.row x.mate) early
@@ -203,15 +211,15 @@ issued v m x good is here there own its = by (is_shared x.row x.mate) refl (are_
         (stepped ∙ (λ i. step_swap_if m x (s i) (e i)))
 
 pub swap_planned : (v : Sight) (key other : Text) → IsPlanned v (Swap key other) (swap v key other)
-swap_planned v key other m good is = by (v.row key) own (v.row other) its
+swap_planned v key other m good is = by (row_in v key) own (row_in v other) its
   where
     call : Call
     call = Swap key other
 
-    own : row_of m key ≡ v.row key
+    own : row_of m key ≡ row_in v key
     own = sym (is.row key (or_left _ _ (text_itself key)))
 
-    its : row_of m other ≡ v.row other
+    its : row_of m other ≡ row_in v other
     its = sym (is.row other (or_right _ _ (text_itself other)))
 
     filed : (row mate : Row) → row_of m key ≡ Some row → row_of m other ≡ Some mate → (i : Option ℕ) → row.issued ≡ i → (j : Option ℕ) → mate.issued ≡ j → IsAnswer m call (swap_issued v key row other mate i j)

@@ -29,7 +29,7 @@ use Rattle.casa_footprint.specs.Items.{ItemName, the_clock, the_catalogue, a_row
 use Rattle.casa_footprint.specs.Finding.{by_id}
 use Rattle.casa_footprint.specs.Footprint.{reads, would_write, is_subject, is_list_of, enters_at}
 use Rattle.casa_footprint.proofs.OpenClose.{subject_to_none}
-use Rattle.casa_answer.specs.Sight.{Sight, Written, nothing_written, IsSightOf, IsAnswer, clock_in, regulations_in}
+use Rattle.casa_answer.specs.Sight.{Sight, Written, nothing_written, IsSightOf, IsAnswer, clock_in, regulations_in, list_in, row_in}
 use Rattle.casa_answer.specs.Enter.{with_entries}
 use Rattle.casa_answer.specs.TakingIn.{with_regulation, list_over, taking_in}
 use Rattle.casa_answer.specs.Told.{messages_shown, done}
@@ -125,10 +125,10 @@ takes_in m call id measure v good is takes =
     new : rs ≡ catalogue started
     new = catalogue-put id measure m.regs
 
-    row_is : (q : Text) → v.row q ≡ row_of m q
+    row_is : (q : Text) → row_in v q ≡ row_of m q
     row_is q = is.row q (takes.all_read (a_row q))
 
-    list_is : (q : Text) → v.list q ≡ list_of m q
+    list_is : (q : Text) → list_in v q ≡ list_of m q
     list_is q = is.list q (takes.all_read (a_list q))
 
     clock_is : clock_in v ≡ m.clock
@@ -163,8 +163,8 @@ takes_in m call id measure v good is takes =
     begun = record {
       rows = row_is;
       lists = λ q.
-          ap (λ o. unwrap_or o (v.list q)) (at-put_by q id (Some list) []) ∙
-          (elim (same_text id q) as (λ b. same_text id q ≡ b → unwrap_or (if b then Some (Some list) else None) (v.list q) ≡ list_of started q) [
+          ap (λ o. unwrap_or o (list_in v q)) (at-put_by q id (Some list) []) ∙
+          (elim (same_text id q) as (λ b. same_text id q ≡ b → unwrap_or (if b then Some (Some list) else None) (list_in v q) ≡ list_of started q) [
             | true ↦ λ h. sym (subst (λ t. list_of started t ≡ Some list) (named id q h) list_now)
             | false ↦ λ h. list_is q ∙ ap (option_map (listing m.rows q)) (sym (measures q h))
           ] refl);

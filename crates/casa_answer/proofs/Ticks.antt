@@ -9,7 +9,7 @@ use Rattle.casa_flight.specs.declared.reply.Answer.TheVariants.{Done}
 use Rattle.casa_flight.specs.declared.reply.Reply.TheVariants.{Answered}
 use Rattle.casa_flight.specs.declared.row.Row.{Row}
 use Rattle.casa_flight.specs.declared.state.State.{State}
-use Rattle.casa_flight.specs.Text.{Text, at_name}
+use Rattle.casa_flight.specs.Text.{Text}
 use Rattle.casa_flight.specs.State.{row_of, is_governed_by, is_due}
 use Rattle.casa_flight.specs.Entry.{is_to_issue, issue_if, issue_due}
 use Rattle.casa_flight.specs.Steps.{tick as step_tick}
@@ -19,7 +19,7 @@ use Rattle.casa_laws.proofs.ChangeMessages.{stays}
 use Rattle.casa_laws.proofs.InOrder.{all-always}
 use Rattle.casa_footprint.specs.Items.{moment, regulations}
 use Rattle.casa_footprint.specs.Finding.{due_keys}
-use Rattle.casa_answer.specs.Sight.{Sight, Written, nothing_written, clock_in, IsSightOf, IsAnswer, IsPlanned}
+use Rattle.casa_answer.specs.Sight.{Sight, Written, nothing_written, clock_in, IsSightOf, IsAnswer, IsPlanned, row_in}
 use Rattle.casa_answer.specs.Told.{messages_shown}
 use Rattle.casa_answer.specs.Issue.{issued_row, with_issued_row, with_issue, with_issues, clock_written, ticked, tick_if, tick}
 use Rattle.casa_answer.proofs.Changes.{refusal, acceptance}
@@ -31,7 +31,7 @@ use Rattle.casa_answer.proofs.Issued.{Issues, issues, issue_each, governs_among,
 -- the rows of a change stay in the order of their keys
 pub issues_ordered : (v : Sight) (w : Written) (keys : List Text) → AreInOrder w.rows → AreInOrder (with_issues v w keys).rows
 issues_ordered v w [] sorted = sorted
-issues_ordered v w (key ∷ keys) sorted = issues_ordered v (with_issue v w key) keys (by (v.row key))
+issues_ordered v w (key ∷ keys) sorted = issues_ordered v (with_issue v w key) keys (by (row_in v key))
   where
     by : (row : Option Row) → AreInOrder (option_map_or (λ (row : Row). with_issued_row v w key (issued_row v key row)) row w).rows
     by None = sorted
@@ -53,7 +53,7 @@ due_held m at good =
     by e k found (Some id) governs h = same_key e k (is_to_issue at e.1) (held_by m at e.0 id e.1 good found governs) h
 
 -- whose list is written
-due_governed : (v : Sight) (at : ℕ) (id : Text) (rows : List (Text × Row)) → AllByRecursion (λ (e : Text × Row). v.row e.0 ≡ Some e.1) rows
+due_governed : (v : Sight) (at : ℕ) (id : Text) (rows : List (Text × Row)) → AllByRecursion (λ (e : Text × Row). row_in v e.0 ≡ Some e.1) rows
     → governs_among v id (due_keys at rows) ≡ list_any (λ (e : Text × Row). is_to_issue at e.1 && is_governed_by id e.1) rows
 due_governed v at id [] found = refl
 due_governed v at id (e ∷ es) found = by (is_to_issue at e.1) ∙ ap (λ b. (is_to_issue at e.1 && is_governed_by id e.1) || b) (due_governed v at id es found.1)
@@ -83,12 +83,9 @@ ticks m at v good is back =
     let told = messages_are m n v w good sorted (issues_ordered v (clock_written at) keys tt) before shows (λ key id row none found governs. stays m n id (λ a opened. opened)) in
     acceptance m (Tick at) n (Answered Done (messages_shown v w)) w (ap (step_tick m at) back) (sym (ap (Answered Done) told))
     (says_shown m (Tick at) v w n shows (ap (option_map moment) all.clock) (ap (option_map regulations) all.catalogue)
-    (λ q. all.rows q ∙ among_due at q v.rows ordered ∙ ap (λ (r : Option Row). option_map_or (is_to_issue at) r false) (sym (found q rows) ∙ is.row q refl))
+    (λ q. all.rows q ∙ among_due at q v.rows ordered ∙ ap (λ (r : Option Row). option_map_or (is_to_issue at) r false) (is.row q refl))
     (λ id. all.lists id ∙ ap (governs_among v id) (sym same_keys) ∙ due_governed v at id m.rows
-    (all-each (λ (e : Text × Row). row_of m e.0 ≡ Some e.1) (λ (e : Text × Row). v.row e.0 ≡ Some e.1) (λ e h. is.row e.0 refl ∙ h) m.rows (each_found m.rows good.rows_in_order))))
-  where
-    found : (q : Text) → v.rows ≡ m.rows → v.row q ≡ at_name v.rows q
-    found q rows = is.row q refl ∙ ap (λ (es : List (Text × Row)). at_name es q) (sym rows)
+    (all-each (λ (e : Text × Row). row_of m e.0 ≡ Some e.1) (λ (e : Text × Row). row_in v e.0 ≡ Some e.1) (λ e h. is.row e.0 refl ∙ h) m.rows (each_found m.rows good.rows_in_order))))
 
 pub tick_planned : (v : Sight) (at : ℕ) → IsPlanned v (Tick at) (tick v at)
 tick_planned v at m good is = by (nat_lt at (clock_in v)) refl

@@ -16,7 +16,7 @@ use Rattle.casa_laws.proofs.Kept.{set_at, at-without_same}
 use Rattle.casa_laws.proofs.Lists.{list-with_row, list_cancelled, stance_is, with_same}
 use Rattle.casa_laws.proofs.Planned.{list_sorted}
 use Rattle.casa_footprint.specs.Footprint.{is_subject}
-use Rattle.casa_answer.specs.Sight.{Sight, Written}
+use Rattle.casa_answer.specs.Sight.{Sight, Written, list_in, row_in}
 use Rattle.casa_answer.specs.Write.{Stances, with_flight, with_stances, write_flight, stances}
 use Rattle.casa_answer.proofs.Changes.{at-put_by, test_same}
 use Rattle.casa_answer.proofs.Naming.{governed_other, forced_either}
@@ -64,10 +64,10 @@ flight_shown v w s key now es shows sorted once covers = record { rows = rows; l
     over true o y z e = refl
     over false o y z e = e
 
-    rows : (q : Text) → unwrap_or (at_name (put w.rows key now) q) (v.row q) ≡ row_of n q
+    rows : (q : Text) → unwrap_or (at_name (put w.rows key now) q) (row_in v q) ≡ row_of n q
     rows q =
-        ap (λ o. unwrap_or o (v.row q)) (at-put_by q key now w.rows)
-        ∙ over (same_text key q) (at_name w.rows q) (v.row q) (row_of s q) (shows.rows q)
+        ap (λ o. unwrap_or o (row_in v q)) (at-put_by q key now w.rows)
+        ∙ over (same_text key q) (at_name w.rows q) (row_in v q) (row_of s q) (shows.rows q)
         ∙ sym (row_set s key now q sorted)
 
     written : (o : Option (Option Stance)) (p : Option (Option Listing)) (y : Option Listing) → unwrap_or (option_or (option_map (set_in key (unwrap_or p y)) o) p) y ≡ unwrap_or (option_map (set_in key (unwrap_or p y)) o) (unwrap_or p y)
@@ -101,10 +101,10 @@ flight_shown v w s key now es shows sorted once covers = record { rows = rows; l
         to None c = ap (λ (k : Listing). Some k) (sym (same (option_and_then (stance_in id measure) now) (stance_is s key id measure l (row_of s key) sorted e is refl ∙ c)))
         to (Some x) c = ap (λ (y : Option Stance). Some (with_flight l key y)) c
 
-    lists : (id : Text) → unwrap_or (at_name (with_stances v key w.lists es) id) (v.list id) ≡ list_of n id
+    lists : (id : Text) → unwrap_or (at_name (with_stances v key w.lists es) id) (list_in v id) ≡ list_of n id
     lists id =
-        ap (λ o. unwrap_or o (v.list id)) (at-with_stances v key w.lists es id once)
-        ∙ written (at_name es id) (at_name w.lists id) (v.list id)
+        ap (λ o. unwrap_or o (list_in v id)) (at-with_stances v key w.lists es id once)
+        ∙ written (at_name es id) (at_name w.lists id) (list_in v id)
         ∙ ap (λ l. unwrap_or (option_map (set_in key l) (at_name es id)) l) (shows.lists id)
         ∙ by id (measure_of s id) refl
 

@@ -8,7 +8,7 @@ use Rattle.casa_flight.specs.declared.row.Stance.{Stance}
 use Rattle.casa_flight.specs.declared.row.Stance.TheVariants.{Competing, Issued, Forced}
 use Rattle.casa_flight.specs.Text.{Text, put, without}
 use Rattle.casa_flight.specs.Listing.{Listing, in_order, is_before}
-use Rattle.casa_answer.specs.Sight.{Sight, Written, nothing_written, clock_in, regulations_in}
+use Rattle.casa_answer.specs.Sight.{Sight, Written, nothing_written, clock_in, regulations_in, list_in}
 use Rattle.casa_answer.specs.Told.{done}
 use Rattle.casa_answer.specs.FlightCalls.{refusal}
 use Rattle.casa_answer.specs.Enter.{with_entries}
@@ -44,4 +44,4 @@ close_if v id (Some l) = done v (after_closing v id l)
 
 -- the answer to a regulation that closes
 abbrev pub close_reg : Sight → Text → Reply × Written
-close_reg v id = close_if v id (v.list id)
+close_reg v id = close_if v id (list_in v id)

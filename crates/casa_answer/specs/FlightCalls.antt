@@ -11,7 +11,7 @@ use Rattle.casa_flight.specs.State.{is_exempt, is_gone, ungoverned}
 use Rattle.casa_flight.specs.Entry.{Offer}
 use Rattle.casa_flight.specs.Steps.{new_row}
 use Rattle.casa_flight.specs.Replies.{flight_with}
-use Rattle.casa_answer.specs.Sight.{Sight, Written, nothing_written, clock_in}
+use Rattle.casa_answer.specs.Sight.{Sight, Written, nothing_written, clock_in, list_in, row_in}
 use Rattle.casa_answer.specs.OneFlight.{entry_offer, with_offer, offered_delay, flight_written, told}
 use Rattle.casa_answer.specs.Told.{delay_by, ctot_by}
 
@@ -24,7 +24,7 @@ refusal r = (Refused r, nothing_written)
 
 -- the flight as it is shown
 abbrev pub unchanged : Sight → Text → Row → Reply × Written
-unchanged v key row = (Answered (Flight (flight_with key row (delay_by v.list key row))) [], nothing_written)
+unchanged v key row = (Answered (Flight (flight_with key row (delay_by (list_in v) key row))) [], nothing_written)
 
 -- a flight that stood so now stands so, with this delay
 abbrev pub rewritten : Sight → Text → Option Row → Row → ℕ → Reply × Written
@@ -45,7 +45,7 @@ filed v plan None true = refusal Late
 filed v plan None false = entering v plan.key None (new_row plan)
 
 abbrev pub file : Sight → FlightPlan → Reply × Written
-file v plan = filed v plan (v.row plan.key) (nat_lt plan.eobt (clock_in v))
+file v plan = filed v plan (row_in v plan.key) (nat_lt plan.eobt (clock_in v))
 
 -- an amended flight enters with its new plan; a desk's mark stays
 abbrev pub amended : Sight → FlightPlan → Option Row → Bool → Reply × Written
@@ -54,7 +54,7 @@ amended v plan (Some row) true = refusal Late
 amended v plan (Some row) false = entering v plan.key (Some row) (record (ungoverned row) { plan = plan })
 
 abbrev pub amend : Sight → FlightPlan → Reply × Written
-amend v plan = amended v plan (v.row plan.key) (nat_lt plan.eobt (clock_in v))
+amend v plan = amended v plan (row_in v plan.key) (nat_lt plan.eobt (clock_in v))
 
 -- a cancelled flight is removed
 abbrev pub cancelled : Sight → Text → Option Row → Reply × Written
@@ -62,14 +62,14 @@ cancelled v key None = refusal NoFlight
 cancelled v key (Some row) = (Answered Done [], flight_written v key (Some row) None)
 
 abbrev pub cancel : Sight → Text → Reply × Written
-cancel v key = cancelled v key (v.row key)
+cancel v key = cancelled v key (row_in v key)
 
 -- whether a revised flight takes the offer: what is not issued always does; what is issued does before it is gone, and
 -- only if it leaves earlier
 abbrev pub is_taken : Sight → Text → Row → Option Offer → Bool
 is_taken v key row o =
     not (is_some row.issued)
-    || (not (is_gone (clock_in v) row.plan) && nat_lt (etot row.plan + offered_delay o) (ctot_by v.list key row))
+    || (not (is_gone (clock_in v) row.plan) && nat_lt (etot row.plan + offered_delay o) (ctot_by (list_in v) key row))
 
 abbrev pub taking_if : Bool → Sight → Text → Row → Option Offer → Reply × Written
 taking_if true v key row o = taking v key (Some row) (ungoverned row) o
@@ -84,7 +84,7 @@ revised v key None = refusal NoFlight
 revised v key (Some row) = revised_by v key row (entry_offer v key (ungoverned row))
 
 abbrev pub revise : Sight → Text → Reply × Written
-revise v key = revised v key (v.row key)
+revise v key = revised v key (row_in v key)
 
 -- an exempted flight is marked and governed by nothing
 abbrev pub exempted_if : Sight → Text → Row → Bool → Reply × Written
@@ -96,7 +96,7 @@ exempted v key None = refusal NoFlight
 exempted v key (Some row) = exempted_if v key row (is_exempt row)
 
 abbrev pub exempt : Sight → Text → Reply × Written
-exempt v key = exempted v key (v.row key)
+exempt v key = exempted v key (row_in v key)
 
 -- a flight is shown as it stands
 abbrev pub shown : Sight → Text → Option Row → Reply × Written
@@ -104,4 +104,4 @@ shown v key None = refusal NoFlight
 shown v key (Some row) = unchanged v key row
 
 abbrev pub show : Sight → Text → Reply × Written
-show v key = shown v key (v.row key)
+show v key = shown v key (row_in v key)

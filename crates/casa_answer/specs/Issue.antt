@@ -9,7 +9,7 @@ use Rattle.casa_flight.specs.declared.row.Stance.{Stance}
 use Rattle.casa_flight.specs.Text.{Text}
 use Rattle.casa_flight.specs.Listing.{Listing, stance_of, stance, eto_as, cto_of}
 use Rattle.casa_footprint.specs.Finding.{due_keys}
-use Rattle.casa_answer.specs.Sight.{Sight, Written, nothing_written, clock_in}
+use Rattle.casa_answer.specs.Sight.{Sight, Written, nothing_written, clock_in, list_in, row_in}
 use Rattle.casa_answer.specs.Write.{Stances, write_flight}
 use Rattle.casa_answer.specs.Told.{done}
 
@@ -19,19 +19,19 @@ governed_stance key row l = option_map (λ (s : Stance). stance true row.issued 
 
 abbrev pub governed_stances : Sight → Text → Row → Stances
 governed_stances v key row =
-    option_map_or (λ (id : Text). (id, option_and_then (governed_stance key row) (v.list id)) ∷ []) row.governing []
+    option_map_or (λ (id : Text). (id, option_and_then (governed_stance key row) (list_in v id)) ∷ []) row.governing []
 
 -- the flight issued at the calculated time over that it has in the list that governs it, as that is shown
 abbrev pub issued_row : Sight → Text → Row → Row
 issued_row v key row =
-    record row { issued = option_and_then (λ (l : Listing). cto_of l key) (option_and_then v.list row.governing) }
+    record row { issued = option_and_then (λ (l : Listing). cto_of l key) (option_and_then (list_in v) row.governing) }
 
 -- a change once the flight that is shown under a key is issued too: its other lists stay as they are
 abbrev pub with_issued_row : Sight → Written → Text → Row → Written
 with_issued_row v w key new = write_flight v w key (Some new) (governed_stances v key new)
 
 abbrev pub with_issue : Sight → Written → Text → Written
-with_issue v w key = option_map_or (λ (row : Row). with_issued_row v w key (issued_row v key row)) (v.row key) w
+with_issue v w key = option_map_or (λ (row : Row). with_issued_row v w key (issued_row v key row)) (row_in v key) w
 
 -- a change once these flights are issued too, each at the time that it has before all of them
 abbrev pub with_issues : Sight → Written → List Text → Written

@@ -14,13 +14,13 @@ use Rattle.casa_flight.specs.declared.row.Stance.TheVariants.{Competing, Issued,
 use Rattle.casa_flight.specs.Text.{Text, at_name}
 use Rattle.casa_flight.specs.Listing.{Listing, in_order, cto_as, place_of}
 use Rattle.casa_flight.specs.Replies.{slot_number, is_row_before}
-use Rattle.casa_answer.specs.Sight.{Sight, Written, nothing_written, regulations_in}
+use Rattle.casa_answer.specs.Sight.{Sight, Written, nothing_written, regulations_in, list_in, row_in}
 use Rattle.casa_answer.specs.Told.{delay_by}
 use Rattle.casa_footprint.specs.Finding.{by_id}
 
 -- a forced flight passes with the delay that it is shown with in its governing list
 abbrev pub forced_shown : Sight → Text → ℕ → ℕ
-forced_shown v key eto = eto + option_map_or (delay_by v.list key) (v.row key) 0
+forced_shown v key eto = eto + option_map_or (delay_by (list_in v) key) (row_in v key) 0
 
 -- a flight as its list shows it
 abbrev pub row_shown : Sight → Listing → Text → Stance → ListRow
@@ -46,4 +46,4 @@ list_if v (Some r) (Some l) = (Answered (ListAnswer (list_shown v r l)) [], noth
 
 -- the answer to the question for a list: its regulation, as the catalogue has it, and its flights
 abbrev pub list : Sight → Text → Reply × Written
-list v id = list_if v (at_name (by_id (regulations_in v)) id) (v.list id)
+list v id = list_if v (at_name (by_id (regulations_in v)) id) (list_in v id)

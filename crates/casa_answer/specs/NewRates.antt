@@ -11,7 +11,7 @@ use Rattle.casa_flight.specs.Text.{Text, at_name}
 use Rattle.casa_flight.specs.Listing.{Listing}
 use Rattle.casa_flight.specs.Steps.{keeps_span, ends_later}
 use Rattle.casa_footprint.specs.Finding.{by_id}
-use Rattle.casa_answer.specs.Sight.{Sight, Written, nothing_written, regulations_in}
+use Rattle.casa_answer.specs.Sight.{Sight, Written, nothing_written, regulations_in, list_in}
 use Rattle.casa_answer.specs.FlightCalls.{refusal}
 use Rattle.casa_answer.specs.TakingIn.{taking_in}
 use Rattle.casa_answer.specs.Told.{done}
@@ -37,4 +37,4 @@ rates_at v id profile (Some l) = rates_if v id profile l (keeps_span profile l.p
 
 -- the answer to new rates
 abbrev pub rates : Sight → Text → List Period → Reply × Written
-rates v id profile = rates_at v id profile (v.list id)
+rates v id profile = rates_at v id profile (list_in v id)

@@ -12,7 +12,7 @@ use Rattle.casa_flight.specs.Listing.{Listing}
 use Rattle.casa_flight.specs.Entry.{Offer, offer_in, most_penalising, governed}
 use Rattle.casa_flight.specs.Replies.{flight_with, message_of, is_issued}
 use Rattle.casa_footprint.specs.Finding.{crossed}
-use Rattle.casa_answer.specs.Sight.{Sight, Written, nothing_written, clock_in, regulations_in}
+use Rattle.casa_answer.specs.Sight.{Sight, Written, nothing_written, clock_in, regulations_in, list_in}
 use Rattle.casa_answer.specs.Write.{write_flight, stances}
 use Rattle.casa_answer.specs.Told.{ctot_by}
 
@@ -22,7 +22,7 @@ offers_of lists key over = filter_map (λ (e : Text × ℕ). offer_in e.0 key (l
 
 -- the most penalising offer of the regulations to which the plan is subject
 abbrev pub best_offer : Sight → Text → FlightPlan → Option Offer
-best_offer v key plan = most_penalising (offers_of v.list key (crossed plan (regulations_in v)))
+best_offer v key plan = most_penalising (offers_of (list_in v) key (crossed plan (regulations_in v)))
 
 -- the offer that an ungoverned flight takes as it enters: exempt or gone it takes none
 abbrev pub entry_offer : Sight → Text → Row → Option Offer
@@ -49,7 +49,7 @@ flight_told key row delay was before =
 
 -- the calculated take-off time that a flight is shown with, and midnight for no flight
 abbrev pub ctot_shown_if : Sight → Text → Option Row → ℕ
-ctot_shown_if v key was = option_map_or (ctot_by v.list key) was 0
+ctot_shown_if v key was = option_map_or (ctot_by (list_in v) key) was 0
 
 -- the reply where a flight stood so, and now stands so with this delay
 abbrev pub told : Sight → Text → Option Row → Row → ℕ → Reply

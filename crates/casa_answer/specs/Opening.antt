@@ -7,7 +7,7 @@ use Rattle.casa_flight.specs.Text.{Text}
 use Rattle.casa_flight.specs.State.{regulation}
 use Rattle.casa_flight.specs.Listing.{Listing}
 use Rattle.casa_flight.specs.Steps.{most_regulations}
-use Rattle.casa_answer.specs.Sight.{Sight, Written, regulations_in}
+use Rattle.casa_answer.specs.Sight.{Sight, Written, regulations_in, list_in}
 use Rattle.casa_answer.specs.FlightCalls.{refusal}
 use Rattle.casa_answer.specs.TakingIn.{taking_in}
 use Rattle.casa_answer.specs.Told.{done}
@@ -21,4 +21,4 @@ open_if v r profile None false = done v (taking_in v r profile)
 abbrev pub open_reg : Sight → Text → Text → List Period → Reply × Written
 open_reg v id loc profile =
     open_if v (regulation id (record { loc = loc; profile = profile })) profile
-    (v.list id) (nat_le most_regulations (length (regulations_in v)))
+    (list_in v id) (nat_le most_regulations (length (regulations_in v)))

@@ -1,5 +1,5 @@
 use Rattle.std.specs.Prelude.{◌≡◌, ℕ, List, [], true, Option, None, Some, unwrap_or}
-use Rattle.std.specs.Option.{option_map}
+use Rattle.std.specs.Option.{option_map, option_flatten}
 use Rattle.casa_flight.specs.declared.call.Call.{Call}
 use Rattle.casa_flight.specs.declared.regulation.Regulation.{Regulation}
 use Rattle.casa_flight.specs.declared.reply.Reply.{Reply}
@@ -16,21 +16,27 @@ use Rattle.casa_footprint.specs.Items.{Content, moment, regulations, row_or_none
 use Rattle.casa_footprint.specs.Footprint.{reads}
 use Rattle.casa_footprint.specs.Change.{IsChange}
 
--- what a view shows: the clock and the catalogue, if it holds them; by names each row and each list that it holds and that
--- is there; and all these rows in the order of their keys
+-- what a view shows: the clock and the catalogue, if it holds them; the rows that it holds and that are there, in the order
+-- of their keys; and the lists that it holds, by their identifiers, or that there is none
 pub record Sight : Type 0 where
   pub clock : Option ℕ
   pub catalogue : Option (List Regulation)
-  pub row : Text → Option Row
-  pub list : Text → Option Listing
   pub rows : List (Text × Row)
+  pub lists : List (Text × Option Listing)
+
+-- the row under a key and the list under an identifier, where they are shown
+abbrev pub row_in : Sight → Text → Option Row
+row_in v key = at_name v.rows key
+
+abbrev pub list_in : Sight → Text → Option Listing
+list_in v id = option_flatten (at_name v.lists id)
 
 -- a view for a call on a state shows what the call reads there
 pub record IsSightOf (m : State) (call : Call) (v : Sight) : Type 0 where
   pub clock : reads m call the_clock ≡ true → v.clock ≡ Some m.clock
   pub catalogue : reads m call the_catalogue ≡ true → v.catalogue ≡ Some (catalogue m)
-  pub row : (key : Text) → reads m call (a_row key) ≡ true → v.row key ≡ row_of m key
-  pub list : (id : Text) → reads m call (a_list id) ≡ true → v.list id ≡ list_of m id
+  pub row : (key : Text) → reads m call (a_row key) ≡ true → row_in v key ≡ row_of m key
+  pub list : (id : Text) → reads m call (a_list id) ≡ true → list_in v id ≡ list_of m id
   pub rows : ((key : Text) → reads m call (a_row key) ≡ true) → v.rows ≡ m.rows
 
 -- the clock and the catalogue that are shown
@@ -42,7 +48,7 @@ regulations_in v = unwrap_or v.catalogue []
 
 -- what a flight that enters finds in a view
 abbrev pub situation_in : Sight → Situation
-situation_in v = record { clock = clock_in v; regulations = regulations_in v; lists = v.list }
+situation_in v = record { clock = clock_in v; regulations = regulations_in v; lists = list_in v }
 
 -- what a change writes: the clock, the catalogue, and rows and lists by their names, or that there is none
 pub record Written : Type 0 where
@@ -63,10 +69,10 @@ says w (a_list id) = option_map list_or_none (at_name w.lists id)
 
 -- the row under a key and the list under an identifier, as a view shows them with a change laid over it
 abbrev pub row_with : Sight → Written → Text → Option Row
-row_with v w key = unwrap_or (at_name w.rows key) (v.row key)
+row_with v w key = unwrap_or (at_name w.rows key) (row_in v key)
 
 abbrev pub list_with : Sight → Written → Text → Option Listing
-list_with v w id = unwrap_or (at_name w.lists id) (v.list id)
+list_with v w id = unwrap_or (at_name w.lists id) (list_in v id)
 
 -- the answer to a call in a state: its reply, and a change of what it writes
 abbrev pub IsAnswer : State → Call → Reply × Written → Type 0

@@ -5,7 +5,7 @@ use Rattle.casa_flight.specs.declared.reply.Reply.{Reply}
 use Rattle.casa_flight.specs.declared.row.Row.{Row}
 use Rattle.casa_flight.specs.Text.{Text}
 use Rattle.casa_flight.specs.Steps.{Exchange, are_too_early, reissued, is_shared}
-use Rattle.casa_answer.specs.Sight.{Sight, Written, nothing_written, clock_in}
+use Rattle.casa_answer.specs.Sight.{Sight, Written, nothing_written, clock_in, list_in, row_in}
 use Rattle.casa_answer.specs.FlightCalls.{refusal}
 use Rattle.casa_answer.specs.Issue.{with_issued_row}
 use Rattle.casa_answer.specs.Told.{done}
@@ -26,7 +26,7 @@ swap_issued v key row other mate (Some cto) None = refusal NotIssued
 swap_issued v key row other mate (Some cto) (Some time) =
     let x : Exchange = record { key = key; row = row; cto = cto; other = other; mate = mate; time = time } in
     swap_if v x (is_shared row mate)
-    (are_too_early (clock_in v) (option_and_then v.list row.governing) (option_and_then v.list mate.governing) x)
+    (are_too_early (clock_in v) (option_and_then (list_in v) row.governing) (option_and_then (list_in v) mate.governing) x)
 
 abbrev pub swapped : Sight → Text → Text → Option Row → Option Row → Reply × Written
 swapped v key other None mate = refusal NoFlight
@@ -35,4 +35,4 @@ swapped v key other (Some row) (Some mate) = swap_issued v key row other mate ro
 
 -- the answer to an exchange of slots
 abbrev pub swap : Sight → Text → Text → Reply × Written
-swap v key other = swapped v key other (v.row key) (v.row other)
+swap v key other = swapped v key other (row_in v key) (row_in v other)

@@ -10,7 +10,7 @@ use Rattle.casa_flight.specs.Text.{Text}
 use Rattle.casa_flight.specs.FlightPlan.{etot}
 use Rattle.casa_flight.specs.Listing.{Listing, delay_in}
 use Rattle.casa_flight.specs.Replies.{is_issued, message_of}
-use Rattle.casa_answer.specs.Sight.{Sight, Written, list_with}
+use Rattle.casa_answer.specs.Sight.{Sight, Written, list_with, list_in, row_in}
 
 -- a flight's delay and its calculated take-off time, by these lists
 abbrev pub delay_by : (Text → Option Listing) → Text → Row → ℕ
@@ -21,13 +21,13 @@ ctot_by lists key row = etot row.plan + delay_by lists key row
 
 -- the calculated take-off time of a flight as a view shows it
 abbrev pub ctot_shown : Sight → Text → ℕ
-ctot_shown v key = option_map_or (ctot_by (λ id. v.list id) key) (v.row key) 0
+ctot_shown v key = option_map_or (ctot_by (λ id. list_in v id) key) (row_in v key) 0
 
 -- the message to the operator of a flight that a change writes
 abbrev pub message_shown : Sight → Written → Text → Row → Option Message
 message_shown v w key row =
     let ctot : ℕ = ctot_by (list_with v w) key row in
-    message_of key row.governing (is_issued (v.row key)) (is_some row.issued) (ctot_shown v key) ctot
+    message_of key row.governing (is_issued (row_in v key)) (is_some row.issued) (ctot_shown v key) ctot
 
 abbrev pub messages_shown : Sight → Written → List Message
 messages_shown v w = filter_map (λ (e : Text × Option Row). option_and_then (message_shown v w e.0) e.1) w.rows

@@ -8,7 +8,7 @@ use Rattle.casa_flight.specs.Text.{Text, at_name, put, without}
 use Rattle.casa_flight.specs.State.{is_governed_by}
 use Rattle.casa_flight.specs.Listing.{Listing, stance}
 use Rattle.casa_footprint.specs.Finding.{crossed}
-use Rattle.casa_answer.specs.Sight.{Sight, Written}
+use Rattle.casa_answer.specs.Sight.{Sight, Written, list_in}
 
 -- lists by their identifiers, each there or not, and how a flight is to stand in lists: so, or not at all
 abbrev pub Lists : Type 0
@@ -26,7 +26,7 @@ with_flight l key (Some s) = record l { flights = put l.flights key s }
 abbrev pub with_stances : Sight → Text → Lists → Stances → Lists
 with_stances v key lists stances =
     fold (λ (ls : Lists) (e : Text × Option Stance).
-    put ls e.0 (option_map (λ (l : Listing). with_flight l key e.1) (unwrap_or (at_name ls e.0) (v.list e.0)))) lists stances
+    put ls e.0 (option_map (λ (l : Listing). with_flight l key e.1) (unwrap_or (at_name ls e.0) (list_in v e.0)))) lists stances
 
 -- the one way in which a flight is written: it has this row, or none, and stands so in these lists
 abbrev pub write_flight : Sight → Written → Text → Option Row → Stances → Written
