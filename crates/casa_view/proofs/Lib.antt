@@ -10,3 +10,4 @@ pub mod Taken
 pub mod WhatIsRead
 pub mod RowsOf
 pub mod ViewRows
+pub mod ViewLists

@@ -1,4 +1,4 @@
-use Rattle.std.specs.Prelude.{ℕ, List, Option, None, Some}
+use Rattle.std.specs.Prelude.{ℕ, List, map, Option, None, Some}
 use Rattle.std.specs.Option.{option_map, option_and_then}
 use Rattle.casa_flight.specs.declared.regulation.Regulation.{Regulation}
 use Rattle.casa_flight.specs.declared.row.Row.{Row}
@@ -57,3 +57,15 @@ module _ {V : Type 0} (item_of : V → Item) where
   -- the rows that a view shows
   abbrev pub rows_shown : View V → List (Text × Row)
   rows_shown v = rows_in v.rows
+
+  -- the lists that a part of a view has, and which it has not, as its entries come
+  abbrev pub list_named : Option V → Option Listing
+  list_named w = option_and_then (λ (v : V). list_of (item_of v)) w
+
+  abbrev pub lists_in : {K I : Type 0} → Part K V I → List (Text × Option Listing)
+  lists_in (All entries) = map (λ (e : Text × V). (e.0, list_of (item_of e.1))) entries
+  lists_in (Named noted) = map (λ (e : Text × Option V). (e.0, list_named e.1)) noted
+
+  -- the lists that a view shows
+  abbrev pub lists_shown : View V → List (Text × Option Listing)
+  lists_shown v = lists_in v.lists

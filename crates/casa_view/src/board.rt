@@ -36,12 +36,12 @@ impl<K: Kept> Drop for Board<K> {
 }
 
 impl<K: Kept> Board<K> {
-    ghost use Rattle.casa_view.specs.Standing.{standing, opening};
+    ghost use Rattle.casa_view.specs.Standing.{opening};
 
     /// The board with the clock at midnight and no regulation and no flight, over this store. `AllocError` where there is
     /// no memory for it.
     pub fn new(alloc: Global, store: K) -> Result<Board<K>, AllocError>
-        ensures { IfOk result (λ board. standing K.Version.item_of K.Version.number (versions board.items) ≡ opening) }
+        ensures { IfOk result (λ board. ⟦<Board<K> as World>⟧.state board ≡ opening) }
     {
         let mut store = store;
         let clock = store.put(0, Arc::new(alloc, Item::Clock(Moment::new(0).unwrap()))?)?;
@@ -66,42 +66,38 @@ impl<K: Kept> Board<K> {
 impl<K: Kept> Board<K> {
     ghost use Rattle.std.specs.Option.{option_copied};
     ghost use Rattle.casa_flight.specs.State.{row_of};
-    ghost use Rattle.casa_view.specs.Standing.{standing};
 
     /// The clock.
     pub fn clock(&self) -> Moment
-        ensures { result ≡ (standing K.Version.item_of K.Version.number (versions self.now.items)).state.clock }
+        ensures { result ≡ (⟦<Board<K> as World>⟧.state self.now).state.clock }
     {
         clock_in(self.items.clock.item())
     }
 
     /// The open regulations.
     pub fn catalogue(&self) -> &[Regulation]
-        ensures { result.now ≡ (standing K.Version.item_of K.Version.number (versions self.now.items)).catalogue }
+        ensures { result.now ≡ (⟦<Board<K> as World>⟧.state self.now).catalogue }
     {
         regulations_in(self.items.catalogue.item())
     }
 
     /// The row of the flight with this key.
     pub fn row(&self, key: &Key) -> Option<&Row>
-        ensures { option_copied result ≡
-            row_of (standing K.Version.item_of K.Version.number (versions self.now.items)).state key.now }
+        ensures { option_copied result ≡ row_of (⟦<Board<K> as World>⟧.state self.now).state key.now }
     {
         row_in(self.items.rows.get(key)?.item())
     }
 
     /// The list of the regulation with this identifier.
     pub fn list(&self, id: &RegId) -> Option<&SlotList>
-        ensures { option_copied result ≡
-            (standing K.Version.item_of K.Version.number (versions self.now.items)).list id.now }
+        ensures { option_copied result ≡ (⟦<Board<K> as World>⟧.state self.now).list id.now }
     {
         list_in(self.items.lists.get(id)?.item())
     }
 
     /// The same list as it is shared, so that others may have it too.
     pub fn shared_list(&self, id: &RegId) -> Option<&SharedList>
-        ensures { option_copied result ≡
-            (standing K.Version.item_of K.Version.number (versions self.now.items)).list id.now }
+        ensures { option_copied result ≡ (⟦<Board<K> as World>⟧.state self.now).list id.now }
     {
         shared_list_in(self.items.lists.get(id)?.item())
     }
