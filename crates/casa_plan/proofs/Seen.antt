@@ -15,6 +15,7 @@ use Rattle.casa_view.specs.View.{shown, Shows, IsViewOf, IsFor}
 use Rattle.casa_view.specs.Shown.{HasRowsInOrder}
 use Rattle.casa_view.proofs.Reading.{clock-is, catalogue-is, row-is, list-is}
 use Rattle.casa_view.proofs.ViewRows.{rows-ordered, rows-shown}
+use Rattle.casa_view.proofs.ViewLists.{lists-shown}
 use Rattle.casa_answer.specs.Sight.{IsSightOf}
 use Rattle.casa_plan.specs.Seen.{sight}
 
@@ -39,8 +40,8 @@ module _ {V : Type 0} (item_of : V → Item) (v : View V) where
   sight_of m call good ordered is = record {
     clock = λ e. ap Some (clock-is item_of v m.clock (held m call is the_clock e));
     catalogue = λ e. ap Some (catalogue-is item_of v (catalogue m) (held m call is the_catalogue e));
-    row = λ key e. row-is item_of v key (row_of m key) (held m call is (a_row key) e);
-    list = λ id e. list-is item_of v id (list_of m id) (held m call is (a_list id) e);
+    row = λ key e. rows-shown item_of v.rows key ordered ∙ row-is item_of v key (row_of m key) (held m call is (a_row key) e);
+    list = λ id e. lists-shown item_of v.lists id ∙ list-is item_of v id (list_of m id) (held m call is (a_list id) e);
     rows = λ all. same_entries _ m.rows (rows-ordered item_of v.rows ordered) good.rows_in_order
         (λ key. rows-shown item_of v.rows key ordered ∙ row-is item_of v key (row_of m key) (held m call is (a_row key) (all key)));
   }

@@ -8,13 +8,13 @@ use Rattle.casa_flight.specs.declared.comp.Comp.{Comp}
 use Rattle.casa_flight.specs.declared.regulation.Regulation.{Regulation}
 use Rattle.casa_flight.specs.declared.row.Row.{Row}
 use Rattle.casa_flight.specs.declared.row.Stance.{Stance}
-use Rattle.casa_flight.specs.Text.{Text, at_name, put}
+use Rattle.casa_flight.specs.Text.{Text, put}
 use Rattle.casa_flight.specs.Listing.{Listing}
 use Rattle.casa_flight.specs.Steps.{may_compete, flights_over}
 use Rattle.casa_flight.specs.Good.{AreInOrder}
-use Rattle.casa_flight.proofs.Entries.{all-each, each_found}
+use Rattle.casa_flight.proofs.Entries.{each_found}
 use Rattle.casa_footprint.specs.Finding.{by_id}
-use Rattle.casa_answer.specs.Sight.{Sight, Written, nothing_written, clock_in, regulations_in}
+use Rattle.casa_answer.specs.Sight.{Sight, Written, nothing_written, clock_in, regulations_in, row_in}
 use Rattle.casa_answer.specs.Enter.{with_entries}
 use Rattle.casa_answer.specs.TakingIn.{with_regulation, list_over, stance_by, stances_by, taking_in}
 use Rattle.casa_answer.proofs.Entries.{entries_catalogue}
@@ -24,10 +24,6 @@ use Rattle.casa_answer.proofs.TakingIn.{values-by_id}
 use Rattle.casa_table.specs.declared.item.Item.{Item}
 use Rattle.casa_table.specs.Asking.{HaveRows}
 use Rattle.casa_table.specs.Versions.{row_of}
-use Rattle.casa_view.specs.declared.view.View.{View}
-use Rattle.casa_view.specs.Shown.{row_shown, rows_shown, HasRowsInOrder}
-use Rattle.casa_view.proofs.ViewRows.{rows-shown}
-use Rattle.casa_plan.specs.Seen.{ShowRows}
 use Rattle.casa_plan.specs.TakingIn.{stances_of}
 
 -- regulations are what is put under identifiers
@@ -36,44 +32,39 @@ with_as all rs r h = sym (values-by_id all) ∙ ap (map (λ (e : Text × Regulat
 
 -- the catalogue is written last
 pub taking_in_as : (v : Sight) (r : Regulation) (profile : List Period) (clock : ℕ) (rs : List Regulation) (over : List Comp) (list : Listing)
-    → AreInOrder v.rows → ((key : Text) → at_name v.rows key ≡ v.row key) → clock ≡ clock_in v → rs ≡ with_regulation r (regulations_in v)
+    → AreInOrder v.rows → clock ≡ clock_in v → rs ≡ with_regulation r (regulations_in v)
     → over ≡ flights_over (λ (row : Row). true) r v.rows
-    → list ≡ record { profile = profile; flights = stances_by r.id v.row over }
-    → record (with_entries clock rs v (record nothing_written { lists = put [] r.id (Some list) }) (filter (λ (c : Comp). option_map_or (may_compete clock) (v.row c.key) false) over)) { catalogue = Some rs } ≡ taking_in v r profile
-taking_in_as v r profile clock rs over list sorted rows clock_is rs_is over_is list_is =
-    sym (entries_catalogue clock rs v (record nothing_written { lists = put [] r.id (Some list) }) (Some rs) (filter (λ (c : Comp). option_map_or (may_compete clock) (v.row c.key) false) over))
+    → list ≡ record { profile = profile; flights = stances_by r.id (row_in v) over }
+    → record (with_entries clock rs v (record nothing_written { lists = put [] r.id (Some list) }) (filter (λ (c : Comp). option_map_or (may_compete clock) (row_in v c.key) false) over)) { catalogue = Some rs } ≡ taking_in v r profile
+taking_in_as v r profile clock rs over list sorted clock_is rs_is over_is list_is =
+    sym (entries_catalogue clock rs v (record nothing_written { lists = put [] r.id (Some list) }) (Some rs) (filter (λ (c : Comp). option_map_or (may_compete clock) (row_in v c.key) false) over))
     ∙ (λ i. change (clock_is i) (rs_is i) (list_now i) (new_now i))
   where
     change : ℕ → List Regulation → Listing → List Comp → Written
     change clock rs list new = with_entries clock rs v (record nothing_written { catalogue = Some rs; lists = put [] r.id (Some list) }) new
 
-    found : AllByRecursion (λ (e : Text × Row). v.row e.0 ≡ Some e.1) v.rows
-    found = all-each (λ (e : Text × Row). at_name v.rows e.0 ≡ Some e.1) (λ (e : Text × Row). v.row e.0 ≡ Some e.1) (λ e f. sym (rows e.0) ∙ f) v.rows (each_found v.rows sorted)
+    found : AllByRecursion (λ (e : Text × Row). row_in v e.0 ≡ Some e.1) v.rows
+    found = each_found v.rows sorted
 
     list_now : list ≡ list_over v.rows r profile
-    list_now = list_is ∙ (λ i. record { profile = profile; flights = (ap (stances_by r.id v.row) over_is ∙ each_over v.row r v.rows sorted found) i })
+    list_now = list_is ∙ (λ i. record { profile = profile; flights = (ap (stances_by r.id (row_in v)) over_is ∙ each_over (row_in v) r v.rows sorted found) i })
 
-    new_now : filter (λ (c : Comp). option_map_or (may_compete clock) (v.row c.key) false) over ≡ flights_over (may_compete (clock_in v)) r v.rows
-    new_now = (λ i. filter (λ (c : Comp). option_map_or (may_compete (clock_is i)) (v.row c.key) false) (over_is i)) ∙ newcomers v.row (may_compete (clock_in v)) r v.rows found
+    new_now : filter (λ (c : Comp). option_map_or (may_compete clock) (row_in v c.key) false) over ≡ flights_over (may_compete (clock_in v)) r v.rows
+    new_now = (λ i. filter (λ (c : Comp). option_map_or (may_compete (clock_is i)) (row_in v c.key) false) (over_is i)) ∙ newcomers (row_in v) (may_compete (clock_in v)) r v.rows found
 
-module _ {V : Type 0} (item_of : V → Item) (v : View V) where
-  -- the versions of the rows that a view holds are of those that it shows
-  pub shown_rows : (flights : List (Comp × V)) → HasRowsInOrder v → HaveRows item_of (rows_shown item_of v) flights → ShowRows item_of v flights
-  shown_rows [] ordered h = tt
-  shown_rows (e ∷ flights) ordered h = (sym (rows-shown item_of v.rows e.0.key ordered) ∙ h.0, shown_rows flights ordered h.1)
-
+module _ {V : Type 0} (item_of : V → Item) (v : Sight) where
   -- a flight put by its key among others, as it stands by this row
   abbrev with_stance : Text → List (Text × Stance) → Comp → Option Row → List (Text × Stance)
   with_stance id es c row = option_map_or (λ (s : Stance). put es c.key s) (stance_by id c.eto row) es
 
-  stances_from : (id : Text) (es : List (Text × Stance)) (flights : List (Comp × V)) → ShowRows item_of v flights
+  stances_from : (id : Text) (es : List (Text × Stance)) (flights : List (Comp × V)) → HaveRows item_of v.rows flights
       → fold (λ (es : List (Text × Stance)) (e : Comp × V). with_stance id es e.0 (row_of (item_of e.1))) es flights
-      ≡ fold (λ (es : List (Text × Stance)) (c : Comp). with_stance id es c (row_shown item_of v c.key)) es (keys_of flights)
+      ≡ fold (λ (es : List (Text × Stance)) (c : Comp). with_stance id es c (row_in v c.key)) es (keys_of flights)
   stances_from id es [] h = refl
   stances_from id es (e ∷ flights) h =
       stances_from id (with_stance id es e.0 (row_of (item_of e.1))) flights h.1
-      ∙ ap (λ (row : Option Row). fold (λ (es : List (Text × Stance)) (c : Comp). with_stance id es c (row_shown item_of v c.key)) (with_stance id es e.0 row) (keys_of flights)) (sym h.0)
+      ∙ ap (λ (row : Option Row). fold (λ (es : List (Text × Stance)) (c : Comp). with_stance id es c (row_in v c.key)) (with_stance id es e.0 row) (keys_of flights)) (sym h.0)
 
-  -- so flights stand by the versions of their rows as by the rows that the view shows
-  pub stances_shown : (id : Text) (flights : List (Comp × V)) → ShowRows item_of v flights → stances_of item_of id flights ≡ stances_by id (row_shown item_of v) (keys_of flights)
+  -- so flights stand by the versions of their rows as by the rows that are shown
+  pub stances_shown : (id : Text) (flights : List (Comp × V)) → HaveRows item_of v.rows flights → stances_of item_of id flights ≡ stances_by id (row_in v) (keys_of flights)
   stances_shown id flights h = stances_from id [] flights h

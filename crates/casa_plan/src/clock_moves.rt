@@ -3,21 +3,21 @@
 ghost use Rattle.std.specs.Prelude.{◌≡◌, IfOk, OnOk};
 ghost use Rattle.std.specs.Option.{option_and_then};
 ghost use Rattle.casa_flight.specs.Listing.{Listing, cto_of};
+ghost use Rattle.casa_answer.specs.Sight.{list_in};
 ghost use Rattle.casa_answer.specs.Issue.{with_issue, with_issues, tick};
-ghost use Rattle.casa_plan.specs.Seen.{sight};
 
 use crate::issuing::write_issued;
 use crate::replies::{done, refused};
-use crate::sighted::clock;
+use crate::shown::Shown;
 use casa_flight::{Key, Refusal, Reply, Row};
 use casa_time::Moment;
-use casa_view::{Change, Version, View};
+use casa_view::{Change, Version};
 use std::alloc::{AllocError, Global};
 
 /// The calculated time over that a flight has in the list that governs it, as the view shows that.
-fn time_shown<V: Version>(view: &View<V>, key: &Key, row: &Row) -> Option<Moment>
+fn time_shown<V: Version>(view: &Shown<V>, key: &Key, row: &Row) -> Option<Moment>
     ensures { result ≡ option_and_then (λ (l : Listing). cto_of l key.now)
-        (option_and_then (sight V.item_of view.now).list row.now.governing) }
+        (option_and_then (list_in view.now) row.now.governing) }
 {
     let list = view.list(&row.governing?)?;
     let stance = list.stance_of(key)?;
@@ -27,11 +27,11 @@ fn time_shown<V: Version>(view: &View<V>, key: &Key, row: &Row) -> Option<Moment
 /// Issues a flight. `AllocError` where there is no memory for that.
 fn issue<V: Version>(
     alloc: Global,
-    view: &View<V>,
+    view: &Shown<V>,
     draft: &mut Change,
     key: Key,
 ) -> Result<(), AllocError>
-    ensures { OnOk result (draft.new ≡ with_issue (sight V.item_of view.now) draft.old key) }
+    ensures { OnOk result (draft.new ≡ with_issue view.now draft.old key) }
 {
     let Some(row) = view.row(&key) else {
         return Ok(());
@@ -44,11 +44,11 @@ fn issue<V: Version>(
 /// Issues these flights, one by one. `AllocError` where there is no memory for that.
 fn issue_each<V: Version>(
     alloc: Global,
-    view: &View<V>,
+    view: &Shown<V>,
     draft: &mut Change,
     keys: &[Key],
 ) -> Result<(), AllocError>
-    ensures { OnOk result (draft.new ≡ with_issues (sight V.item_of view.now) draft.old keys.now) }
+    ensures { OnOk result (draft.new ≡ with_issues view.now draft.old keys.now) }
 {
     for key in keys {
         issue(alloc, view, draft, *key)?;
@@ -60,12 +60,12 @@ fn issue_each<V: Version>(
 /// for the answer.
 pub(crate) fn tick<V: Version>(
     alloc: Global,
-    view: &View<V>,
+    view: &Shown<V>,
     at: Moment,
 ) -> Result<(Reply, Change), AllocError>
-    ensures { IfOk result (λ p. p ≡ tick (sight V.item_of view.now) at) }
+    ensures { IfOk result (λ p. p ≡ tick view.now at) }
 {
-    if at < clock(view) {
+    if at < view.clock() {
         return Ok(refused(alloc, Refusal::BackInTime));
     }
     let due = view.due(alloc, at)?;

@@ -7,23 +7,22 @@ ghost use Rattle.casa_flight.specs.Text.{Text};
 ghost use Rattle.casa_answer.specs.Sight.{regulations_in};
 ghost use Rattle.casa_answer.specs.Closing.{without_regulation, governed_comp, governed_flights};
 ghost use Rattle.casa_answer.specs.Closing.{after_closing, close_reg};
-ghost use Rattle.casa_plan.specs.Seen.{sight};
 
 use crate::entering::enter_all;
 use crate::replies::{done, refused};
-use crate::sighted::clock;
+use crate::shown::Shown;
 use casa_flight::{Comp, Key, Refusal, RegId, Reply, Stance, sort_comps};
 use casa_list::SlotList;
-use casa_view::{Catalogue, Change, Version, View};
+use casa_view::{Catalogue, Change, Version};
 use std::alloc::{AllocError, Global};
 
 /// The catalogue of what a view shows, but for one regulation. `AllocError` where there is no memory for it.
 fn without_regulation<V: Version>(
     alloc: Global,
-    view: &View<V>,
+    view: &Shown<V>,
     id: &RegId,
 ) -> Result<Catalogue, AllocError>
-    ensures { IfOk result (λ all. all ≡ without_regulation id.now (regulations_in (sight V.item_of view.now))) }
+    ensures { IfOk result (λ all. all ≡ without_regulation id.now (regulations_in view.now)) }
 {
     match view.catalogue() {
         Some(catalogue) => catalogue.without(alloc, id),
@@ -59,18 +58,18 @@ fn governed_flights(alloc: Global, list: &SlotList) -> Result<Vec<Comp>, AllocEr
 /// no memory for that.
 fn after_closing<V: Version>(
     alloc: Global,
-    view: &View<V>,
+    view: &Shown<V>,
     id: RegId,
     list: &SlotList,
 ) -> Result<Change, AllocError>
-    ensures { IfOk result (λ draft. draft ≡ after_closing (sight V.item_of view.now) id list.now) }
+    ensures { IfOk result (λ draft. draft ≡ after_closing view.now id list.now) }
 {
     let catalogue = without_regulation(alloc, view, &id)?;
     let comps = governed_flights(alloc, list)?;
     let comps = comps.as_slice();
     let mut draft = Change::new(alloc);
     draft.set_list(id, None)?;
-    enter_all(alloc, view, &mut draft, clock(view), &catalogue, comps)?;
+    enter_all(alloc, view, &mut draft, view.clock(), &catalogue, comps)?;
     draft.set_catalogue(catalogue)?;
     Ok(draft)
 }
@@ -78,10 +77,10 @@ fn after_closing<V: Version>(
 /// A regulation closes, and the flights that it governed enter anew. `AllocError` where there is no memory for the answer.
 pub(crate) fn close_reg<V: Version>(
     alloc: Global,
-    view: &View<V>,
+    view: &Shown<V>,
     id: RegId,
 ) -> Result<(Reply, Change), AllocError>
-    ensures { IfOk result (λ p. p ≡ close_reg (sight V.item_of view.now) id) }
+    ensures { IfOk result (λ p. p ≡ close_reg view.now id) }
 {
     let Some(list) = view.list(&id) else {
         return Ok(refused(alloc, Refusal::NoRegulation));

@@ -3,22 +3,21 @@
 ghost use Rattle.std.specs.Prelude.{◌≡◌, IfOk, OnOk, option_copied};
 ghost use Rattle.casa_flight.specs.Entry.{entered};
 ghost use Rattle.casa_footprint.specs.Finding.{crossed};
-ghost use Rattle.casa_answer.specs.Sight.{row_with};
+ghost use Rattle.casa_answer.specs.Sight.{row_with, row_in};
 ghost use Rattle.casa_answer.specs.Enter.{situation_with, with_reentry, with_entries};
-ghost use Rattle.casa_plan.specs.Seen.{sight};
 
 use crate::offers::best_offer;
-use crate::sighted::row_with;
+use crate::shown::{Shown, row_with};
 use crate::write::write_flight;
 use casa_flight::{Comp, Key, Row};
 use casa_time::Moment;
-use casa_view::{Catalogue, Change, Crossings, Version, View};
+use casa_view::{Catalogue, Change, Crossings, Version};
 use std::alloc::{AllocError, Global};
 
 /// An ungoverned flight as it stands once it has entered, where these regulations are open. `AllocError` where there is no
 /// memory to work it out.
 fn entered<V: Version>(
-    view: &View<V>,
+    view: &Shown<V>,
     draft: &Change,
     clock: Moment,
     _catalogue: &Catalogue,
@@ -28,7 +27,7 @@ fn entered<V: Version>(
 ) -> Result<Row, AllocError>
     requires { over.now ≡ crossed row.plan _catalogue.now }
     ensures { IfOk result (λ new. new ≡
-        entered (situation_with clock _catalogue.now (sight V.item_of view.now) draft.now) key row) }
+        entered (situation_with clock _catalogue.now view.now draft.now) key row) }
 {
     if row.is_exempt() || row.plan.is_gone(clock) {
         return Ok(row);
@@ -43,17 +42,17 @@ fn entered<V: Version>(
 /// view shows it. `AllocError` where there is no memory for that.
 pub(crate) fn reenter<V: Version>(
     alloc: Global,
-    view: &View<V>,
+    view: &Shown<V>,
     draft: &mut Change,
     clock: Moment,
     catalogue: &Catalogue,
     key: Key,
     shown: Option<&Row>,
 ) -> Result<(), AllocError>
-    requires { option_copied shown ≡ (sight V.item_of view.now).row key }
+    requires { option_copied shown ≡ row_in view.now key }
     ensures { OnOk result (draft.new ≡
-        with_reentry clock catalogue.now (sight V.item_of view.now) draft.old key
-        (row_with (sight V.item_of view.now) draft.old key)) }
+        with_reentry clock catalogue.now view.now draft.old key
+        (row_with view.now draft.old key)) }
 {
     let Some(row) = row_with(draft, &key, shown) else {
         return Ok(());
@@ -67,14 +66,14 @@ pub(crate) fn reenter<V: Version>(
 /// These flights enter one by one, where these regulations are open. `AllocError` where there is no memory for that.
 pub(crate) fn enter_all<V: Version>(
     alloc: Global,
-    view: &View<V>,
+    view: &Shown<V>,
     draft: &mut Change,
     clock: Moment,
     catalogue: &Catalogue,
     comps: &[Comp],
 ) -> Result<(), AllocError>
     ensures { OnOk result (draft.new ≡
-        with_entries clock catalogue.now (sight V.item_of view.now) draft.old comps.now) }
+        with_entries clock catalogue.now view.now draft.old comps.now) }
 {
     for comp in comps {
         let row = view.row(&comp.key);

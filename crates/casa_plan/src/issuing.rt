@@ -4,12 +4,12 @@ ghost use Rattle.std.specs.Prelude.{◌≡◌, OnOk, option_copied};
 ghost use Rattle.std.specs.Option.{option_and_then};
 ghost use Rattle.casa_answer.specs.Write.{with_stances};
 ghost use Rattle.casa_answer.specs.Issue.{governed_stance, governed_stances, with_issued_row};
-ghost use Rattle.casa_plan.specs.Seen.{sight};
 
+use crate::shown::Shown;
 use crate::write::stand;
 use casa_flight::{Key, Row, Stance};
 use casa_list::SlotList;
-use casa_view::{Change, Version, View};
+use casa_view::{Change, Version};
 use std::alloc::{AllocError, Global};
 
 /// How a flight with this row stands in a list that governs it, by the time over that it has there.
@@ -23,13 +23,13 @@ fn governed_stance(list: Option<&SlotList>, key: &Key, row: &Row) -> Option<Stan
 /// Has a flight stand as this row says in the list that governs it. `AllocError` where there is no memory for that.
 fn stand_governed<V: Version>(
     alloc: Global,
-    view: &View<V>,
+    view: &Shown<V>,
     draft: &mut Change,
     key: Key,
     row: &Row,
 ) -> Result<(), AllocError>
     ensures { OnOk result (draft.new ≡ record draft.old {
-      lists = with_stances (sight V.item_of view.now) key draft.old.lists (governed_stances (sight V.item_of view.now) key row.now);
+      lists = with_stances view.now key draft.old.lists (governed_stances view.now key row.now);
     }) }
 {
     let Some(id) = row.governing else {
@@ -43,12 +43,12 @@ fn stand_governed<V: Version>(
 /// they are. `AllocError` where there is no memory for that.
 pub(crate) fn write_issued<V: Version>(
     alloc: Global,
-    view: &View<V>,
+    view: &Shown<V>,
     draft: &mut Change,
     key: Key,
     row: Row,
 ) -> Result<(), AllocError>
-    ensures { OnOk result (draft.new ≡ with_issued_row (sight V.item_of view.now) draft.old key row) }
+    ensures { OnOk result (draft.new ≡ with_issued_row view.now draft.old key row) }
 {
     stand_governed(alloc, view, draft, key, &row)?;
     draft.set_row(key, Some(row))

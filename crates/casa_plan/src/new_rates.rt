@@ -2,15 +2,14 @@
 
 ghost use Rattle.std.specs.Prelude.{◌≡◌, IfOk};
 ghost use Rattle.casa_answer.specs.NewRates.{new_rates, extended, rates};
-ghost use Rattle.casa_plan.specs.Seen.{sight};
 
 use crate::replies::{done, no_messages, refused};
-use crate::sighted::regulation;
+use crate::shown::Shown;
 use crate::taking_in::taking_in;
 use casa_flight::{Answer, Refusal, RegId, Regulation, Reply, ends_later, keeps_span};
 use casa_grid::{Grid, Profile};
 use casa_list::{SharedList, SlotList};
-use casa_view::{Change, Version, View};
+use casa_view::{Change, Version};
 use std::alloc::{AllocError, Global};
 
 /// The list with a new profile, to be written. `AllocError` where there is no memory for it.
@@ -32,11 +31,11 @@ fn new_rates(
 /// The regulation with the later end of this profile takes flights in. `AllocError` where there is no memory for the answer.
 fn extended<V: Version>(
     alloc: Global,
-    view: &View<V>,
+    view: &Shown<V>,
     profile: &Profile,
     regulation: &Regulation,
 ) -> Result<(Reply, Change), AllocError>
-    ensures { IfOk result (λ p. p ≡ extended (sight V.item_of view.now) profile.now regulation.now) }
+    ensures { IfOk result (λ p. p ≡ extended view.now profile.now regulation.now) }
 {
     let (_, end) = profile.span();
     let later = Regulation { end, ..*regulation };
@@ -49,11 +48,11 @@ fn extended<V: Version>(
 /// is no memory for the answer.
 pub(crate) fn rates<V: Version>(
     alloc: Global,
-    view: &View<V>,
+    view: &Shown<V>,
     id: RegId,
     profile: &Profile,
 ) -> Result<(Reply, Change), AllocError>
-    ensures { IfOk result (λ p. p ≡ rates (sight V.item_of view.now) id profile.now) }
+    ensures { IfOk result (λ p. p ≡ rates view.now id profile.now) }
 {
     let Some(list) = view.list(&id) else {
         return Ok(refused(alloc, Refusal::NoRegulation));
@@ -66,7 +65,7 @@ pub(crate) fn rates<V: Version>(
         let draft = new_rates(alloc, id, profile, list)?;
         return Ok((Reply::Answered(Answer::Done, no_messages(alloc)?), draft));
     }
-    match regulation(view, &id) {
+    match view.regulation(&id) {
         Some(regulation) => extended(alloc, view, profile, regulation),
         None => Ok(refused(alloc, Refusal::NoRegulation)),
     }

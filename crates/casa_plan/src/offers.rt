@@ -8,14 +8,13 @@ ghost use Rattle.casa_flight.specs.Entry.{with_competitor, offer_in, most_penali
 ghost use Rattle.casa_footprint.specs.Finding.{crossed};
 ghost use Rattle.casa_answer.specs.Sight.{list_with, regulations_in};
 ghost use Rattle.casa_answer.specs.OneFlight.{offers_of, entry_offer, with_offer, offered_delay};
-ghost use Rattle.casa_plan.specs.Seen.{sight};
 
 use crate::flight_lists::take_out;
-use crate::sighted::{clock, list_with};
+use crate::shown::Shown;
 use casa_flight::{Comp, Key, Offer, RegId, Row, Stance, more_penalising};
 use casa_list::SlotList;
 use casa_time::Moment;
-use casa_view::{Change, Crossings, Version, View};
+use casa_view::{Change, Crossings, Version};
 use std::alloc::{AllocError, Global};
 
 /// The calculated time over that a flight would have as a competitor once it had left, worked out on a copy.
@@ -57,16 +56,16 @@ pub(crate) fn time_there(list: &SlotList, comp: &Comp) -> Result<Moment, AllocEr
 /// What the regulation with this identifier offers a flight with this time over, by the list that is written or else shown;
 /// `None` without a list. `AllocError` where there is no memory to work it out.
 fn offer_of<V: Version>(
-    view: &View<V>,
+    view: &Shown<V>,
     draft: &Change,
     key: Key,
     id: RegId,
     eto: Moment,
 ) -> Result<Option<Offer>, AllocError>
     ensures { IfOk result (λ offer. offer ≡
-        offer_in id key (list_with (sight V.item_of view.now) draft.now id) (Some eto)) }
+        offer_in id key (list_with view.now draft.now id) (Some eto)) }
 {
-    let Some(list) = list_with(view, draft, &id) else {
+    let Some(list) = view.list_with(draft, &id) else {
         return Ok(None);
     };
     let cto = time_there(list, &Comp { eto, key })?;
@@ -75,13 +74,13 @@ fn offer_of<V: Version>(
 
 /// The most penalising offer of these regulations. `AllocError` where there is no memory to work it out.
 pub(crate) fn best_offer<V: Version>(
-    view: &View<V>,
+    view: &Shown<V>,
     draft: &Change,
     key: Key,
     over: &Crossings,
 ) -> Result<Option<Offer>, AllocError>
     ensures { IfOk result (λ best. best ≡
-        most_penalising (offers_of (list_with (sight V.item_of view.now) draft.now) key over.now)) }
+        most_penalising (offers_of (list_with view.now draft.now) key over.now)) }
 {
     let mut best = None;
     for (id, eto) in over.iter() {
@@ -96,15 +95,15 @@ pub(crate) fn best_offer<V: Version>(
 /// `AllocError` where there is no memory to work it out.
 pub(crate) fn entry_offer<V: Version>(
     alloc: Global,
-    view: &View<V>,
+    view: &Shown<V>,
     key: Key,
     row: &Row,
     over: &Crossings,
 ) -> Result<Option<Offer>, AllocError>
-    requires { over.now ≡ crossed row.now.plan (regulations_in (sight V.item_of view.now)) }
-    ensures { IfOk result (λ offer. offer ≡ entry_offer (sight V.item_of view.now) key row.now) }
+    requires { over.now ≡ crossed row.now.plan (regulations_in view.now) }
+    ensures { IfOk result (λ offer. offer ≡ entry_offer view.now key row.now) }
 {
-    if row.is_exempt() || row.plan.is_gone(clock(view)) {
+    if row.is_exempt() || row.plan.is_gone(view.clock()) {
         return Ok(None);
     }
     best_offer(view, &Change::new(alloc), key, over)

@@ -1,30 +1,30 @@
 //! The planners of the calls on one flight.
 
-ghost use Rattle.std.specs.Prelude.{◌≡◌, ◌≤◌, IfOk, option_copied, false, nat_lt};
+ghost use Rattle.std.specs.Prelude.{◌≡◌, ◌≤◌, ◌||◌, IfOk, false, is_some, nat_lt, not, option_copied};
 ghost use Rattle.casa_time.specs.Moment.{last_moment};
 ghost use Rattle.casa_footprint.specs.Finding.{crossed};
-ghost use Rattle.casa_answer.specs.Sight.{clock_in, regulations_in};
+ghost use Rattle.casa_answer.specs.Sight.{clock_in, regulations_in, list_in};
+ghost use Rattle.casa_answer.specs.Told.{delay_by};
 ghost use Rattle.casa_answer.specs.FlightCalls.{unchanged, rewritten, taking, entering, file, amend, cancel, is_taken, revise, exempted_if, exempt, show};
-ghost use Rattle.casa_plan.specs.Seen.{sight};
 
 use crate::offers::{entry_offer, offered_delay, with_offer};
 use crate::replies::refused;
-use crate::sighted::{clock, crossed};
+use crate::shown::Shown;
 use crate::telling::{ctot_shown, delay_shown, told};
 use crate::write::flight_written;
 use casa_flight::{Answer, FlightReply, Key, Messages, Offer, Plan, Refusal, Reply, Row};
 use casa_named::Few;
-use casa_view::{Change, Crossings, Version, View};
+use casa_view::{Change, Crossings, Version};
 use std::alloc::{AllocError, Global};
 
 /// The flight as it is shown.
 fn unchanged<V: Version>(
     alloc: Global,
-    view: &View<V>,
+    view: &Shown<V>,
     key: Key,
     row: &Row,
 ) -> Result<(Reply, Change), AllocError>
-    ensures { IfOk result (λ p. p ≡ unchanged (sight V.item_of view.now) key row.now) }
+    ensures { IfOk result (λ p. p ≡ unchanged view.now key row.now) }
 {
     let flight = FlightReply::of(key, row, delay_shown(view, key, row));
     let messages = Messages::from_vec(Vec::new(alloc))?;
@@ -35,7 +35,7 @@ fn unchanged<V: Version>(
 /// A flight that stood so now stands so, with this delay in seconds, subject to these regulations.
 fn rewritten<V: Version>(
     alloc: Global,
-    view: &View<V>,
+    view: &Shown<V>,
     key: Key,
     was: Option<&Row>,
     row: Row,
@@ -43,9 +43,8 @@ fn rewritten<V: Version>(
     has: &Crossings,
 ) -> Result<(Reply, Change), AllocError>
     requires in_range { delay ≤ last_moment }
-    requires subject { has.now ≡ crossed row.plan (regulations_in (sight V.item_of view.now)) }
-    ensures { IfOk result (λ p.
-        p ≡ rewritten (sight V.item_of view.now) key (option_copied was.entry) row delay) }
+    requires subject { has.now ≡ crossed row.plan (regulations_in view.now) }
+    ensures { IfOk result (λ p. p ≡ rewritten view.now key (option_copied was.entry) row delay) }
 {
     let reply = told(alloc, view, key, was, &row, delay)?;
     let draft = flight_written(alloc, view, key, was, Some(row), has)?;
@@ -55,51 +54,49 @@ fn rewritten<V: Version>(
 /// An ungoverned flight, subject to these regulations, takes an offer, in place of how it stood.
 fn taking<V: Version>(
     alloc: Global,
-    view: &View<V>,
+    view: &Shown<V>,
     key: Key,
     was: Option<&Row>,
     row: Row,
     offer: &Option<Offer>,
     has: &Crossings,
 ) -> Result<(Reply, Change), AllocError>
-    requires { has.now ≡ crossed row.plan (regulations_in (sight V.item_of view.now)) }
-    ensures { IfOk result (λ p.
-        p ≡ taking (sight V.item_of view.now) key (option_copied was.entry) row offer.now) }
+    requires { has.now ≡ crossed row.plan (regulations_in view.now) }
+    ensures { IfOk result (λ p. p ≡ taking view.now key (option_copied was.entry) row offer.now) }
 {
-    let row = with_offer(clock(view), row, offer);
+    let row = with_offer(view.clock(), row, offer);
     rewritten(alloc, view, key, was, row, offered_delay(offer), has)
 }
 
 /// An ungoverned flight enters, in place of how it stood.
 fn entering<V: Version>(
     alloc: Global,
-    view: &View<V>,
+    view: &Shown<V>,
     key: Key,
     was: Option<&Row>,
     row: Row,
 ) -> Result<(Reply, Change), AllocError>
-    ensures { IfOk result (λ p.
-        p ≡ entering (sight V.item_of view.now) key (option_copied was.entry) row) }
+    ensures { IfOk result (λ p. p ≡ entering view.now key (option_copied was.entry) row) }
 {
-    let has = crossed(alloc, view, &row.plan)?;
+    let has = view.crossed(alloc, &row.plan)?;
     let offer = entry_offer(alloc, view, key, &row, &has)?;
     taking(alloc, view, key, was, row, &offer, &has)
 }
 
 /// Whether a plan's off-block time has passed.
-fn is_late<V: Version>(view: &View<V>, plan: &Plan) -> bool
-    ensures { result ≡ nat_lt plan.now.eobt (clock_in (sight V.item_of view.now)) }
+fn is_late<V: Version>(view: &Shown<V>, plan: &Plan) -> bool
+    ensures { result ≡ nat_lt plan.now.eobt (clock_in view.now) }
 {
-    plan.eobt() < clock(view)
+    plan.eobt() < view.clock()
 }
 
 /// A filed flight is added and enters.
 pub(crate) fn file<V: Version>(
     alloc: Global,
-    view: &View<V>,
+    view: &Shown<V>,
     plan: &Plan,
 ) -> Result<(Reply, Change), AllocError>
-    ensures { IfOk result (λ p. p ≡ file (sight V.item_of view.now) plan.now) }
+    ensures { IfOk result (λ p. p ≡ file view.now plan.now) }
 {
     let key = plan.key();
     if let Some(_row) = view.row(&key) {
@@ -114,10 +111,10 @@ pub(crate) fn file<V: Version>(
 /// An amended flight enters with its new plan; a desk's mark stays.
 pub(crate) fn amend<V: Version>(
     alloc: Global,
-    view: &View<V>,
+    view: &Shown<V>,
     plan: &Plan,
 ) -> Result<(Reply, Change), AllocError>
-    ensures { IfOk result (λ p. p ≡ amend (sight V.item_of view.now) plan.now) }
+    ensures { IfOk result (λ p. p ≡ amend view.now plan.now) }
 {
     let key = plan.key();
     let Some(row) = view.row(&key) else {
@@ -132,10 +129,10 @@ pub(crate) fn amend<V: Version>(
 /// A cancelled flight is removed.
 pub(crate) fn cancel<V: Version>(
     alloc: Global,
-    view: &View<V>,
+    view: &Shown<V>,
     key: Key,
 ) -> Result<(Reply, Change), AllocError>
-    ensures { IfOk result (λ p. p ≡ cancel (sight V.item_of view.now) key) }
+    ensures { IfOk result (λ p. p ≡ cancel view.now key) }
 {
     let Some(row) = view.row(&key) else {
         return Ok(refused(alloc, Refusal::NoFlight));
@@ -148,31 +145,41 @@ pub(crate) fn cancel<V: Version>(
 
 /// Whether a revised flight takes the offer: what is not issued always does; what is issued does before it is gone, and
 /// only if it leaves earlier.
-fn is_taken<V: Version>(view: &View<V>, key: Key, row: &Row, offer: &Option<Offer>) -> bool
-    ensures { result ≡ is_taken (sight V.item_of view.now) key row.now offer.now }
+fn is_taken<V: Version>(view: &Shown<V>, key: Key, row: &Row, offer: &Option<Offer>) -> bool
+    ensures { result ≡ is_taken view.now key row.now offer.now }
 {
     if !row.issued.is_some() {
         return true;
     }
-    if row.plan.is_gone(clock(view)) {
+    if row.plan.is_gone(view.clock()) {
         return false;
     }
     row.plan.etot() + offered_delay(offer) < ctot_shown(view, key, row)
 }
 
+/// Whether a revised flight may take some offer: what is issued without a delay cannot leave earlier, whatever it is offered.
+fn may_move<V: Version>(view: &Shown<V>, key: Key, row: &Row) -> bool
+    ensures { result ≡ (not (is_some row.now.issued) || nat_lt 0 (delay_by (list_in view.now) key row.now)) }
+{
+    !row.issued.is_some() || 0 < delay_shown(view, key, row)
+}
+
 /// A revised flight takes what it would get as it enters anew, or it stays as it is.
 pub(crate) fn revise<V: Version>(
     alloc: Global,
-    view: &View<V>,
+    view: &Shown<V>,
     key: Key,
 ) -> Result<(Reply, Change), AllocError>
-    ensures { IfOk result (λ p. p ≡ revise (sight V.item_of view.now) key) }
+    ensures { IfOk result (λ p. p ≡ revise view.now key) }
 {
     let Some(row) = view.row(&key) else {
         return Ok(refused(alloc, Refusal::NoFlight));
     };
+    if !may_move(view, key, row) {
+        return unchanged(alloc, view, key, row);
+    }
     let free = row.ungoverned()?;
-    let has = crossed(alloc, view, &free.plan)?;
+    let has = view.crossed(alloc, &free.plan)?;
     let offer = entry_offer(alloc, view, key, &free, &has)?;
     if is_taken(view, key, row, &offer) {
         taking(alloc, view, key, Some(row), free, &offer, &has)
@@ -184,23 +191,23 @@ pub(crate) fn revise<V: Version>(
 /// A flight that is not exempt is marked and governed by nothing.
 fn exempted<V: Version>(
     alloc: Global,
-    view: &View<V>,
+    view: &Shown<V>,
     key: Key,
     row: &Row,
 ) -> Result<(Reply, Change), AllocError>
-    ensures { IfOk result (λ p. p ≡ exempted_if (sight V.item_of view.now) key row.now false) }
+    ensures { IfOk result (λ p. p ≡ exempted_if view.now key row.now false) }
 {
-    let has = crossed(alloc, view, &row.plan)?;
+    let has = view.crossed(alloc, &row.plan)?;
     rewritten(alloc, view, key, Some(row), row.exempted()?, 0, &has)
 }
 
 /// An exempted flight is marked and governed by nothing.
 pub(crate) fn exempt<V: Version>(
     alloc: Global,
-    view: &View<V>,
+    view: &Shown<V>,
     key: Key,
 ) -> Result<(Reply, Change), AllocError>
-    ensures { IfOk result (λ p. p ≡ exempt (sight V.item_of view.now) key) }
+    ensures { IfOk result (λ p. p ≡ exempt view.now key) }
 {
     let Some(row) = view.row(&key) else {
         return Ok(refused(alloc, Refusal::NoFlight));
@@ -214,10 +221,10 @@ pub(crate) fn exempt<V: Version>(
 /// A flight is shown as it stands.
 pub(crate) fn show<V: Version>(
     alloc: Global,
-    view: &View<V>,
+    view: &Shown<V>,
     key: Key,
 ) -> Result<(Reply, Change), AllocError>
-    ensures { IfOk result (λ p. p ≡ show (sight V.item_of view.now) key) }
+    ensures { IfOk result (λ p. p ≡ show view.now key) }
 {
     match view.row(&key) {
         Some(row) => unchanged(alloc, view, key, row),

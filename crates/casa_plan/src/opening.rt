@@ -3,14 +3,13 @@
 ghost use Rattle.std.specs.Prelude.{◌≡◌, IfOk};
 ghost use Rattle.casa_flight.specs.State.{regulation};
 ghost use Rattle.casa_answer.specs.Opening.{open_reg};
-ghost use Rattle.casa_plan.specs.Seen.{sight};
 
 use crate::replies::{done, refused};
-use crate::sighted::regulations;
+use crate::shown::Shown;
 use crate::taking_in::taking_in;
 use casa_flight::{Loc, MAX_REGULATIONS, Refusal, RegId, Regulation, Reply};
 use casa_grid::Profile;
-use casa_view::{Change, Version, View};
+use casa_view::{Change, Version};
 use std::alloc::{AllocError, Global};
 
 /// A regulation as the catalogue has it.
@@ -30,17 +29,17 @@ fn regulation(id: RegId, loc: Loc, profile: &Profile) -> Regulation
 /// memory for the answer.
 pub(crate) fn open_reg<V: Version>(
     alloc: Global,
-    view: &View<V>,
+    view: &Shown<V>,
     id: RegId,
     loc: Loc,
     profile: &Profile,
 ) -> Result<(Reply, Change), AllocError>
-    ensures { IfOk result (λ p. p ≡ open_reg (sight V.item_of view.now) id loc profile.now) }
+    ensures { IfOk result (λ p. p ≡ open_reg view.now id loc profile.now) }
 {
     if view.list(&id).is_some() {
         return Ok(refused(alloc, Refusal::DuplicateRegulation));
     }
-    if MAX_REGULATIONS <= regulations(view).len() {
+    if MAX_REGULATIONS <= view.regulations().len() {
         return Ok(refused(alloc, Refusal::TooManyRegulations));
     }
     let regulation = regulation(id, loc, profile);

@@ -7,15 +7,14 @@ ghost use Rattle.casa_flight.specs.Replies.{reply};
 ghost use Rattle.casa_footprint.specs.Change.{IsChange};
 ghost use Rattle.casa_view.specs.View.{IsFor, Shows};
 ghost use Rattle.casa_answer.specs.Sight.{IsPlanned, says};
-ghost use Rattle.casa_plan.specs.Seen.{sight};
 
 use crate::clock_moves::tick;
 use crate::closing::close_reg;
 use crate::new_rates::rates;
 use crate::one_flight::{amend, cancel, exempt, file, revise, show};
 use crate::opening::open_reg;
+use crate::shown::Shown;
 use crate::shown_list::list;
-use crate::sighted::in_order;
 use crate::swapping::swap;
 use casa_commit::Gate;
 use casa_flight::{Call, Reply};
@@ -25,10 +24,10 @@ use std::alloc::{AllocError, Global};
 /// The reply to a call, and what the call writes, by what a view shows.
 fn planned<V: Version>(
     alloc: Global,
-    view: &View<V>,
+    view: &Shown<V>,
     call: &Call,
 ) -> Result<(Reply, Change), AllocError>
-    ensures { IfOk result (IsPlanned (sight V.item_of view.now) call.now) }
+    ensures { IfOk result (IsPlanned view.now call.now) }
 {
     match call {
         Call::File(plan) => file(alloc, view, plan),
@@ -57,8 +56,7 @@ pub fn plan<V: Version>(
     ensures { IfOk result (λ p. (m : State) → IsGood m → Shows V.item_of m view.now →
         (p.0 ≡ reply m call.now) × IsChange m call.now (says p.1)) }
 {
-    in_order(view);
-    planned(alloc, view, call)
+    planned(alloc, &Shown::by(view), call)
 }
 
 /// The gate of programs: works each answer out at once.

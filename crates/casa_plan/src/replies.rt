@@ -6,13 +6,12 @@ ghost use Rattle.casa_time.specs.Moment.{last_moment};
 ghost use Rattle.casa_flight.specs.Listing.{Listing, delay_in};
 ghost use Rattle.casa_answer.specs.Sight.{nothing_written, list_with};
 ghost use Rattle.casa_answer.specs.Told.{ctot_by, message_shown, messages_shown, done};
-ghost use Rattle.casa_plan.specs.Seen.{sight};
 
-use crate::sighted::list_with;
+use crate::shown::Shown;
 use crate::telling::{ctot_shown_if, delay_in};
 use casa_flight::{Answer, Key, Message, Messages, Refusal, Reply, Row, is_issued};
 use casa_list::SlotList;
-use casa_view::{Change, Version, View, WrittenRow};
+use casa_view::{Change, Version, WrittenRow};
 use std::alloc::{AllocError, Global};
 
 /// A refused call, which writes nothing.
@@ -41,19 +40,19 @@ fn delay_at(list: Option<&SlotList>, key: &Key) -> u32
 }
 
 /// The calculated take-off time of a flight with a draft laid over the view, in seconds from midnight UTC.
-fn ctot_drafted<V: Version>(view: &View<V>, draft: &Change, key: &Key, row: &Row) -> u32
-    ensures { result ≡ ctot_by (list_with (sight V.item_of view.now) draft.now) key.now row.now }
+fn ctot_drafted<V: Version>(view: &Shown<V>, draft: &Change, key: &Key, row: &Row) -> u32
+    ensures { result ≡ ctot_by (list_with view.now draft.now) key.now row.now }
 {
     let Some(id) = row.governing else {
         return row.plan.etot();
     };
-    row.plan.etot() + delay_at(list_with(view, draft, &id), key)
+    row.plan.etot() + delay_at(view.list_with(draft, &id), key)
 }
 
 /// The message to the operator of a flight that a draft writes. Take-off times are worked out only where it depends on
 /// them.
-fn message_to<V: Version>(view: &View<V>, draft: &Change, key: &Key, row: &Row) -> Option<Message>
-    ensures { result ≡ message_shown (sight V.item_of view.now) draft.now key.now row.now }
+fn message_to<V: Version>(view: &Shown<V>, draft: &Change, key: &Key, row: &Row) -> Option<Message>
+    ensures { result ≡ message_shown view.now draft.now key.now row.now }
 {
     let was_issued = is_issued(view.row(key));
     let is_issued = row.issued.is_some();
@@ -72,12 +71,12 @@ fn message_to<V: Version>(view: &View<V>, draft: &Change, key: &Key, row: &Row) 
 
 /// The message of a row that a draft writes, if it writes one.
 fn message_of_row<V: Version>(
-    view: &View<V>,
+    view: &Shown<V>,
     draft: &Change,
     key: &Key,
     row: &WrittenRow,
 ) -> Option<Message>
-    ensures { result ≡ option_and_then (message_shown (sight V.item_of view.now) draft.now key.now) row.now }
+    ensures { result ≡ option_and_then (message_shown view.now draft.now key.now) row.now }
 {
     message_to(view, draft, key, row.row()?)
 }
@@ -86,10 +85,10 @@ fn message_of_row<V: Version>(
 /// they need, since the history keeps them. `AllocError` where there is none.
 fn messages<V: Version>(
     alloc: Global,
-    view: &View<V>,
+    view: &Shown<V>,
     draft: &Change,
 ) -> Result<Vec<Message>, AllocError>
-    ensures { IfOk result (λ all. all.items ≡ messages_shown (sight V.item_of view.now) draft.now) }
+    ensures { IfOk result (λ all. all.items ≡ messages_shown view.now draft.now) }
 {
     let mut all = Vec::new(alloc);
     for (key, row) in draft.rows().iter() {
@@ -105,10 +104,10 @@ fn messages<V: Version>(
 /// there is no memory for them.
 pub(crate) fn done<V: Version>(
     alloc: Global,
-    view: &View<V>,
+    view: &Shown<V>,
     draft: Change,
 ) -> Result<(Reply, Change), AllocError>
-    ensures { IfOk result (λ p. p ≡ done (sight V.item_of view.now) draft) }
+    ensures { IfOk result (λ p. p ≡ done view.now draft) }
 {
     let messages = Messages::from_vec(messages(alloc, view, &draft)?)?;
     Ok((Reply::Answered(Answer::Done, messages), draft))

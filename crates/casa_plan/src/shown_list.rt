@@ -7,26 +7,26 @@ ghost use Rattle.casa_flight.specs.declared.comp.Comp.{Comp};
 ghost use Rattle.casa_flight.specs.Good.{AreInOrder};
 ghost use Rattle.casa_list.specs.declared.standing.Standing.{Standing};
 ghost use Rattle.casa_list.specs.Standings.{standings};
+ghost use Rattle.casa_answer.specs.Sight.{list_in, row_in};
 ghost use Rattle.casa_answer.specs.Told.{delay_by};
 ghost use Rattle.casa_answer.specs.Look.{rows_shown, list_shown, list};
 ghost use Rattle.casa_plan.specs.Rows.{row_as};
-ghost use Rattle.casa_plan.specs.Seen.{sight};
 
 use crate::replies::{no_messages, refused};
-use crate::sighted::regulation;
+use crate::shown::Shown;
 use crate::telling::delay_shown;
 use casa_flight::{
     Answer, Comp, Key, Kind, ListReply, ListRow, Refusal, RegId, Regulation, Reply, Rows,
     slot_number, sort_rows,
 };
 use casa_list::{SlotList, Standing};
-use casa_view::{Change, Version, View};
+use casa_view::{Change, Version};
 use std::alloc::{AllocError, Global};
 
 /// The delay that a flight is shown with, in seconds; none where the view does not show it.
-fn forced_delay<V: Version>(view: &View<V>, key: &Key) -> u32
+fn forced_delay<V: Version>(view: &Shown<V>, key: &Key) -> u32
     ensures value { result ≡
-        option_map_or (delay_by (sight V.item_of view.now).list key.now) ((sight V.item_of view.now).row key.now) 0 }
+        option_map_or (delay_by (list_in view.now) key.now) (row_in view.now key.now) 0 }
     ensures in_range { result ≤ last_moment }
 {
     match view.row(key) {
@@ -36,8 +36,13 @@ fn forced_delay<V: Version>(view: &View<V>, key: &Key) -> u32
 }
 
 /// A flight as its list shows it, by how it stands there.
-fn row_shown<V: Version>(view: &View<V>, list: &SlotList, comp: Comp, standing: Standing) -> ListRow
-    ensures { result ≡ row_as (sight V.item_of view.now) list.now comp standing }
+fn row_shown<V: Version>(
+    view: &Shown<V>,
+    list: &SlotList,
+    comp: Comp,
+    standing: Standing,
+) -> ListRow
+    ensures { result ≡ row_as view.now list.now comp standing }
 {
     let (kind, cto, slot) = match standing {
         Standing::Pre(place) => {
@@ -63,11 +68,11 @@ fn row_shown<V: Version>(view: &View<V>, list: &SlotList, comp: Comp, standing: 
 /// for them.
 fn flights_shown<V: Version>(
     alloc: Global,
-    view: &View<V>,
+    view: &Shown<V>,
     list: &SlotList,
 ) -> Result<Vec<ListRow>, AllocError>
     ensures rows { IfOk result (λ rows. rows.items ≡
-        map (λ (f : Comp × Standing). row_as (sight V.item_of view.now) list.now f.0 f.1) (standings list.now)) }
+        map (λ (f : Comp × Standing). row_as view.now list.now f.0 f.1) (standings list.now)) }
     ensures keys { AreInOrder list.now.flights }
 {
     let count = list.flights().len();
@@ -82,10 +87,10 @@ fn flights_shown<V: Version>(
 /// The flights of a list as it shows them, in their order. `AllocError` where there is no memory for them.
 fn rows_shown<V: Version>(
     alloc: Global,
-    view: &View<V>,
+    view: &Shown<V>,
     list: &SlotList,
 ) -> Result<Rows, AllocError>
-    ensures { IfOk result (λ rows. rows ≡ rows_shown (sight V.item_of view.now) list.now) }
+    ensures { IfOk result (λ rows. rows ≡ rows_shown view.now list.now) }
 {
     let mut rows = flights_shown(alloc, view, list)?;
     sort_rows(&mut rows)?;
@@ -95,11 +100,11 @@ fn rows_shown<V: Version>(
 /// A regulation's list as it is answered. `AllocError` where there is no memory for it.
 fn list_shown<V: Version>(
     alloc: Global,
-    view: &View<V>,
+    view: &Shown<V>,
     regulation: &Regulation,
     list: &SlotList,
 ) -> Result<ListReply, AllocError>
-    ensures { IfOk result (λ reply. reply ≡ list_shown (sight V.item_of view.now) regulation.now list.now) }
+    ensures { IfOk result (λ reply. reply ≡ list_shown view.now regulation.now list.now) }
 {
     Ok(ListReply {
         reg: regulation.id,
@@ -114,12 +119,12 @@ fn list_shown<V: Version>(
 /// A regulation's list as it stands. `AllocError` where there is no memory for the answer.
 pub(crate) fn list<V: Version>(
     alloc: Global,
-    view: &View<V>,
+    view: &Shown<V>,
     id: RegId,
 ) -> Result<(Reply, Change), AllocError>
-    ensures { IfOk result (λ p. p ≡ list (sight V.item_of view.now) id) }
+    ensures { IfOk result (λ p. p ≡ list view.now id) }
 {
-    let Some(regulation) = regulation(view, &id) else {
+    let Some(regulation) = view.regulation(&id) else {
         return Ok(refused(alloc, Refusal::NoRegulation));
     };
     let Some(list) = view.list(&id) else {

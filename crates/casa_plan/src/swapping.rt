@@ -4,18 +4,17 @@ ghost use Rattle.std.specs.Prelude.{◌≡◌, ◌≤◌, IfOk, OnOk, option_cop
 ghost use Rattle.std.specs.Option.{option_and_then};
 ghost use Rattle.casa_time.specs.Moment.{last_moment};
 ghost use Rattle.casa_flight.specs.Steps.{reissued, eto_in, is_too_early, is_shared};
-ghost use Rattle.casa_answer.specs.Sight.{clock_in};
+ghost use Rattle.casa_answer.specs.Sight.{clock_in, list_in};
 ghost use Rattle.casa_answer.specs.Issue.{with_issued_row};
 ghost use Rattle.casa_answer.specs.Swapping.{swap};
-ghost use Rattle.casa_plan.specs.Seen.{sight};
 
 use crate::issuing::write_issued;
 use crate::replies::{done, refused};
-use crate::sighted::clock;
+use crate::shown::Shown;
 use casa_flight::{Key, Refusal, Reply, Row};
 use casa_list::SlotList;
 use casa_time::Moment;
-use casa_view::{Change, Version, View};
+use casa_view::{Change, Version};
 use std::alloc::{AllocError, Global};
 
 /// The time over that a flight has in a list, in seconds from midnight UTC: midnight where there is no list, and where the
@@ -34,21 +33,21 @@ fn eto_in(list: Option<&SlotList>, key: &Key) -> u32
 }
 
 /// The list that governs a flight with this row, as the view shows it.
-fn governing_list<'a, V: Version>(view: &'a View<V>, row: &Row) -> Option<&'a SlotList>
-    ensures { option_copied result ≡ option_and_then (sight V.item_of view.now).list row.now.governing }
+fn governing_list<'a, V: Version>(view: &'a Shown<V>, row: &Row) -> Option<&'a SlotList>
+    ensures { option_copied result ≡ option_and_then (list_in view.now) row.now.governing }
 {
     view.list(&row.governing?)
 }
 
 /// Whether a time is too early for a flight with this row: it is before the time over that the flight has in the list that
 /// governs it, or the flight would have to take off before the clock.
-fn is_too_early<V: Version>(view: &View<V>, key: &Key, row: &Row, time: Moment) -> bool
-    ensures { result ≡ is_too_early (clock_in (sight V.item_of view.now))
-        (option_and_then (sight V.item_of view.now).list row.now.governing) key.now row.now time }
+fn is_too_early<V: Version>(view: &Shown<V>, key: &Key, row: &Row, time: Moment) -> bool
+    ensures { result ≡ is_too_early (clock_in view.now)
+        (option_and_then (list_in view.now) row.now.governing) key.now row.now time }
 {
     let eto = eto_in(governing_list(view, row), key);
     let cto = time.secs();
-    cto < eto || row.plan.etot() + (cto - eto) < clock(view).secs()
+    cto < eto || row.plan.etot() + (cto - eto) < view.clock().secs()
 }
 
 /// Whether the regulation that governs a flight governs the other one too.
@@ -64,14 +63,14 @@ fn is_shared(row: &Row, mate: &Row) -> bool
 /// Writes an issued flight at another time. `AllocError` where there is no memory for that.
 fn reissue<V: Version>(
     alloc: Global,
-    view: &View<V>,
+    view: &Shown<V>,
     draft: &mut Change,
     key: Key,
     row: &Row,
     time: Moment,
 ) -> Result<(), AllocError>
     ensures { OnOk result (draft.new ≡
-        with_issued_row (sight V.item_of view.now) draft.old key (reissued row.now time)) }
+        with_issued_row view.now draft.old key (reissued row.now time)) }
 {
     let mut new = row.clone()?;
     new.issued = Some(time);
@@ -82,11 +81,11 @@ fn reissue<V: Version>(
 /// is no memory for the answer.
 pub(crate) fn swap<V: Version>(
     alloc: Global,
-    view: &View<V>,
+    view: &Shown<V>,
     key: Key,
     other: Key,
 ) -> Result<(Reply, Change), AllocError>
-    ensures { IfOk result (λ p. p ≡ swap (sight V.item_of view.now) key other) }
+    ensures { IfOk result (λ p. p ≡ swap view.now key other) }
 {
     let Some(row) = view.row(&key) else {
         return Ok(refused(alloc, Refusal::NoFlight));

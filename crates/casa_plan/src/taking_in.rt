@@ -6,20 +6,20 @@ ghost use Rattle.std.specs.List.{filter};
 ghost use Rattle.std.specs.Map.{keys_of};
 ghost use Rattle.casa_flight.specs.declared.comp.Comp.{Comp};
 ghost use Rattle.casa_flight.specs.Steps.{may_compete};
-ghost use Rattle.casa_answer.specs.Sight.{regulations_in};
+ghost use Rattle.casa_table.specs.Asking.{HaveRows};
+ghost use Rattle.casa_answer.specs.Sight.{regulations_in, row_in};
 ghost use Rattle.casa_answer.specs.Enter.{with_entries};
 ghost use Rattle.casa_answer.specs.TakingIn.{with_regulation, stance_by, taking_in};
-ghost use Rattle.casa_plan.specs.Seen.{sight, ShowRows};
 ghost use Rattle.casa_plan.specs.TakingIn.{stances_of};
 
 use crate::entering::reenter;
-use crate::sighted::clock;
+use crate::shown::Shown;
 use casa_flight::{Comp, Key, RegId, Regulation, Row, Stance};
 use casa_grid::{Grid, Profile};
 use casa_list::{SharedList, SlotList};
 use casa_table::row_in;
 use casa_time::Moment;
-use casa_view::{Catalogue, Change, Version, View};
+use casa_view::{Catalogue, Change, Version};
 use std::alloc::{AllocError, Global};
 use std::collections::BTreeMap;
 
@@ -27,10 +27,10 @@ use std::collections::BTreeMap;
 /// where there is no memory for it.
 fn with_regulation<V: Version>(
     alloc: Global,
-    view: &View<V>,
+    view: &Shown<V>,
     regulation: Regulation,
 ) -> Result<Catalogue, AllocError>
-    ensures { IfOk result (λ all. all ≡ with_regulation regulation (regulations_in (sight V.item_of view.now))) }
+    ensures { IfOk result (λ all. all ≡ with_regulation regulation (regulations_in view.now)) }
 {
     match view.catalogue() {
         Some(catalogue) => catalogue.with(alloc, regulation),
@@ -97,16 +97,16 @@ fn may_compete(clock: Moment, row: Option<&Row>) -> bool
 /// regulations are open. `AllocError` where there is no memory for that.
 fn enter_newcomers<V: Version>(
     alloc: Global,
-    view: &View<V>,
+    view: &Shown<V>,
     draft: &mut Change,
     clock: Moment,
     catalogue: &Catalogue,
     flights: &BTreeMap<Comp, V>,
 ) -> Result<(), AllocError>
-    requires { ShowRows V.item_of view.now flights.now.entries }
+    requires { HaveRows V.item_of view.now.rows flights.now.entries }
     ensures { OnOk result (draft.new ≡
-        with_entries clock catalogue.now (sight V.item_of view.now) draft.old (filter (λ (c : Comp).
-        option_map_or (may_compete clock) ((sight V.item_of view.now).row c.key) false) (keys_of flights.now.entries))) }
+        with_entries clock catalogue.now view.now draft.old (filter (λ (c : Comp).
+        option_map_or (may_compete clock) (row_in view.now c.key) false) (keys_of flights.now.entries))) }
 {
     for (comp, version) in flights {
         let row = row_in(version.item());
@@ -122,13 +122,13 @@ fn enter_newcomers<V: Version>(
 /// for that.
 pub(crate) fn taking_in<V: Version>(
     alloc: Global,
-    view: &View<V>,
+    view: &Shown<V>,
     regulation: Regulation,
     profile: &Profile,
 ) -> Result<Change, AllocError>
-    ensures { IfOk result (λ draft. draft ≡ taking_in (sight V.item_of view.now) regulation profile.now) }
+    ensures { IfOk result (λ draft. draft ≡ taking_in view.now regulation profile.now) }
 {
-    let clock = clock(view);
+    let clock = view.clock();
     let catalogue = with_regulation(alloc, view, regulation)?;
     let over = view.flights_over(alloc, &regulation)?;
     let mut draft = Change::new(alloc);

@@ -4,13 +4,14 @@ ghost use Rattle.std.specs.Prelude.{◌≡◌, ◌≤◌, IfOk, is_some, option_
 ghost use Rattle.casa_time.specs.Moment.{last_moment};
 ghost use Rattle.casa_flight.specs.Listing.{delay_in};
 ghost use Rattle.casa_flight.specs.Replies.{message_of, is_issued};
+ghost use Rattle.casa_answer.specs.Sight.{list_in};
 ghost use Rattle.casa_answer.specs.OneFlight.{ctot_shown_if, told};
 ghost use Rattle.casa_answer.specs.Told.{delay_by, ctot_by};
-ghost use Rattle.casa_plan.specs.Seen.{sight};
 
+use crate::shown::Shown;
 use casa_flight::{Answer, FlightReply, Key, Message, Messages, Reply, Row, is_issued};
 use casa_list::SlotList;
-use casa_view::{Version, View};
+use casa_view::Version;
 use std::alloc::{AllocError, Global};
 
 /// The delay that a flight has in a list, in seconds; none where it is not there.
@@ -27,8 +28,8 @@ pub(crate) fn delay_in(list: &SlotList, key: &Key) -> u32
 }
 
 /// The delay that a flight is shown with, in the list of the regulation that governs it, in seconds.
-pub(crate) fn delay_shown<V: Version>(view: &View<V>, key: Key, row: &Row) -> u32
-    ensures value { result ≡ delay_by (sight V.item_of view.now).list key row.now }
+pub(crate) fn delay_shown<V: Version>(view: &Shown<V>, key: Key, row: &Row) -> u32
+    ensures value { result ≡ delay_by (list_in view.now) key row.now }
     ensures in_range { result ≤ last_moment }
 {
     let Some(id) = row.governing else {
@@ -41,16 +42,16 @@ pub(crate) fn delay_shown<V: Version>(view: &View<V>, key: Key, row: &Row) -> u3
 }
 
 /// The calculated take-off time that a flight is shown with, in seconds from midnight UTC.
-pub(crate) fn ctot_shown<V: Version>(view: &View<V>, key: Key, row: &Row) -> u32
-    ensures { result ≡ ctot_by (sight V.item_of view.now).list key row.now }
+pub(crate) fn ctot_shown<V: Version>(view: &Shown<V>, key: Key, row: &Row) -> u32
+    ensures { result ≡ ctot_by (list_in view.now) key row.now }
 {
     let delay = delay_shown(view, key, row);
     row.plan.etot() + delay
 }
 
 /// The same, and midnight where there is no flight.
-pub(crate) fn ctot_shown_if<V: Version>(view: &View<V>, key: Key, was: Option<&Row>) -> u32
-    ensures { result ≡ ctot_shown_if (sight V.item_of view.now) key (option_copied was.entry) }
+pub(crate) fn ctot_shown_if<V: Version>(view: &Shown<V>, key: Key, was: Option<&Row>) -> u32
+    ensures { result ≡ ctot_shown_if view.now key (option_copied was.entry) }
 {
     match was {
         Some(row) => ctot_shown(view, key, row),
@@ -61,14 +62,14 @@ pub(crate) fn ctot_shown_if<V: Version>(view: &View<V>, key: Key, was: Option<&R
 /// The message to the operator of a flight that stood so and now has this calculated take-off time. That before is worked
 /// out only where the message could depend on it.
 fn message_to<V: Version>(
-    view: &View<V>,
+    view: &Shown<V>,
     key: Key,
     was: Option<&Row>,
     row: &Row,
     ctot: u32,
 ) -> Option<Message>
     ensures { result ≡ message_of key row.now.governing (is_issued (option_copied was.entry))
-        (is_some row.now.issued) (ctot_shown_if (sight V.item_of view.now) key (option_copied was.entry)) ctot }
+        (is_some row.now.issued) (ctot_shown_if view.now key (option_copied was.entry)) ctot }
 {
     let was_issued = is_issued(was);
     let is_issued = row.issued.is_some();
@@ -84,7 +85,7 @@ fn message_to<V: Version>(
 /// `AllocError` where there is no memory for the message.
 pub(crate) fn told<V: Version>(
     alloc: Global,
-    view: &View<V>,
+    view: &Shown<V>,
     key: Key,
     was: Option<&Row>,
     row: &Row,
@@ -92,7 +93,7 @@ pub(crate) fn told<V: Version>(
 ) -> Result<Reply, AllocError>
     requires { delay ≤ last_moment }
     ensures { IfOk result (λ reply.
-        reply ≡ told (sight V.item_of view.now) key (option_copied was.entry) row.now delay) }
+        reply ≡ told view.now key (option_copied was.entry) row.now delay) }
 {
     let flight = FlightReply::of(key, row, delay);
     let mut messages = Vec::new(alloc);

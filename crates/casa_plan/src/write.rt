@@ -8,24 +8,23 @@ ghost use Rattle.casa_flight.specs.Good.{AreInOrder};
 ghost use Rattle.casa_answer.specs.Sight.{regulations_in, list_with};
 ghost use Rattle.casa_answer.specs.Write.{with_flight, with_stances, crossed_by, left, standing, write_flight};
 ghost use Rattle.casa_answer.specs.OneFlight.{flight_written};
-ghost use Rattle.casa_plan.specs.Seen.{sight};
 
 use crate::flight_lists::with_flight;
-use crate::sighted::crossed;
+use crate::shown::Shown;
 use casa_flight::{Key, RegId, Row, Stance};
 use casa_list::SharedList;
 use casa_named::Few;
-use casa_view::{Change, Crossings, Version, View};
+use casa_view::{Change, Crossings, Version};
 use std::alloc::{AllocError, Global};
 
 /// Takes out the list of a regulation as it is written; what the view shows where it is not written. `AllocError` where it
 /// is shared too often to count.
 fn take_shared<V: Version>(
-    view: &View<V>,
+    view: &Shown<V>,
     draft: &mut Change,
     id: &RegId,
 ) -> Result<Option<SharedList>, AllocError>
-    ensures list { IfOk result (λ list. list ≡ list_with (sight V.item_of view.now) draft.old id.now) }
+    ensures list { IfOk result (λ list. list ≡ list_with view.now draft.old id.now) }
     ensures left { OnOk result (draft.new ≡ record draft.old { lists = without draft.old.lists id.now }) }
     ensures ordered { AreInOrder draft.old.lists }
 {
@@ -63,14 +62,14 @@ fn stood(
 /// Has a flight stand so in a list, or not at all. `AllocError` where there is no memory for the list.
 pub(crate) fn stand<V: Version>(
     alloc: Global,
-    view: &View<V>,
+    view: &Shown<V>,
     draft: &mut Change,
     key: Key,
     id: RegId,
     stance: Option<Stance>,
 ) -> Result<(), AllocError>
     ensures { OnOk result (draft.new ≡ record draft.old {
-      lists = with_stances (sight V.item_of view.now) key draft.old.lists ((id, stance) ∷ []);
+      lists = with_stances view.now key draft.old.lists ((id, stance) ∷ []);
     }) }
 {
     let list = take_shared(view, draft, &id)?;
@@ -81,14 +80,14 @@ pub(crate) fn stand<V: Version>(
 /// Has a flight stand no more in the lists that it had and has not now. `AllocError` where there is no memory for them.
 fn leave_lists<V: Version>(
     alloc: Global,
-    view: &View<V>,
+    view: &Shown<V>,
     draft: &mut Change,
     key: Key,
     had: &Crossings,
     has: &Crossings,
 ) -> Result<(), AllocError>
     ensures { OnOk result (draft.new ≡ record draft.old {
-      lists = with_stances (sight V.item_of view.now) key draft.old.lists (left had.now has.now);
+      lists = with_stances view.now key draft.old.lists (left had.now has.now);
     }) }
 {
     for (id, _) in had.iter() {
@@ -103,14 +102,14 @@ fn leave_lists<V: Version>(
 /// for them.
 fn stand_in_lists<V: Version>(
     alloc: Global,
-    view: &View<V>,
+    view: &Shown<V>,
     draft: &mut Change,
     key: Key,
     now: Option<&Row>,
     has: &Crossings,
 ) -> Result<(), AllocError>
     ensures { OnOk result (draft.new ≡ record draft.old {
-      lists = with_stances (sight V.item_of view.now) key draft.old.lists
+      lists = with_stances view.now key draft.old.lists
           (standing (option_copied now.entry) has.now);
     }) }
 {
@@ -128,14 +127,14 @@ fn stand_in_lists<V: Version>(
 /// lists how it stands. `AllocError` where there is no memory for that.
 pub(crate) fn write_flight<V: Version>(
     alloc: Global,
-    view: &View<V>,
+    view: &Shown<V>,
     draft: &mut Change,
     key: Key,
     now: Option<Row>,
     had: &Crossings,
     has: &Crossings,
 ) -> Result<(), AllocError>
-    ensures { OnOk result (draft.new ≡ write_flight (sight V.item_of view.now) draft.old key now
+    ensures { OnOk result (draft.new ≡ write_flight view.now draft.old key now
         (left had.now has.now ++ standing now has.now)) }
 {
     leave_lists(alloc, view, draft, key, had, has)?;
@@ -146,14 +145,14 @@ pub(crate) fn write_flight<V: Version>(
 /// The regulations to which a flight is subject, if there is a flight. `AllocError` where there is no memory for them.
 fn crossed_by<V: Version>(
     alloc: Global,
-    view: &View<V>,
+    view: &Shown<V>,
     row: Option<&Row>,
 ) -> Result<Crossings, AllocError>
     ensures { IfOk result (λ found.
-        found ≡ crossed_by (regulations_in (sight V.item_of view.now)) (option_copied row.entry)) }
+        found ≡ crossed_by (regulations_in view.now) (option_copied row.entry)) }
 {
     match row {
-        Some(row) => crossed(alloc, view, &row.plan),
+        Some(row) => view.crossed(alloc, &row.plan),
         None => Ok(Few::new(alloc)),
     }
 }
@@ -162,15 +161,15 @@ fn crossed_by<V: Version>(
 /// `AllocError` where there is no memory for that.
 pub(crate) fn flight_written<V: Version>(
     alloc: Global,
-    view: &View<V>,
+    view: &Shown<V>,
     key: Key,
     was: Option<&Row>,
     now: Option<Row>,
     has: &Crossings,
 ) -> Result<Change, AllocError>
-    requires { has.now ≡ crossed_by (regulations_in (sight V.item_of view.now)) now }
+    requires { has.now ≡ crossed_by (regulations_in view.now) now }
     ensures { IfOk result (λ draft.
-        draft ≡ flight_written (sight V.item_of view.now) key (option_copied was.entry) now) }
+        draft ≡ flight_written view.now key (option_copied was.entry) now) }
 {
     let had = crossed_by(alloc, view, was)?;
     let mut draft = Change::new(alloc);

@@ -3,13 +3,12 @@ use Rattle.casa_flight.specs.declared.regulation.Regulation.{Regulation}
 use Rattle.casa_flight.specs.Text.{Text, put}
 use Rattle.casa_answer.specs.Sight.{Sight, Written}
 use Rattle.casa_answer.specs.Enter.{with_entries}
-use Rattle.casa_plan.specs.Seen.{sight}
 use Rattle.casa_plan.proofs.Closed.{closing_as}
 use Rattle.casa_plan.proofs.closing.after_closing.Goals as goal
 
 pub returns : goal.returns
 returns g c =
-    let v : Sight = sight g.V.Version.item_of c.args.view.now in
+    let v : Sight = c.args.view.now in
     let id : Text = c.args.id in
     let rs : List Regulation = c.in_ok-catalogue.catalogue in
     c.in_ok-set_catalogue.ensures.written

@@ -10,12 +10,11 @@ use Rattle.casa_footprint.specs.Finding.{crossed}
 use Rattle.casa_answer.specs.Sight.{Sight, Written}
 use Rattle.casa_answer.specs.Write.{left, standing, write_flight}
 use Rattle.casa_answer.specs.Enter.{situation_with, with_reentry}
-use Rattle.casa_plan.specs.Seen.{sight}
 use Rattle.casa_plan.proofs.entering.reenter.Goals as goal
 
 pub returns : goal.returns
 returns g c =
-    let v : Sight = sight g.V.Version.item_of c.args.view.now in
+    let v : Sight = c.args.view.now in
     let w : Written = c.args.draft.now in
     let key : Text = c.args.key in
     let s : Situation = situation_with c.args.clock c.args.catalogue.now v w in

@@ -3,10 +3,9 @@ use Rattle.casa_flight.specs.Entry.{most_penalising}
 use Rattle.casa_flight.proofs.Offers.{most_from}
 use Rattle.casa_answer.specs.Sight.{list_with}
 use Rattle.casa_answer.specs.OneFlight.{offers_of}
-use Rattle.casa_plan.specs.Seen.{sight}
 use Rattle.casa_plan.proofs.offers.best_offer.Given as goal
 
 abbrev pub invariant-loop-id : goal.invariant-loop-id
 invariant-loop-id g l =
-    most_from l.best (offers_of (list_with (sight g.V.Version.item_of l.view) l.draft) l.key l.id-iterator)
-    ≡ most_penalising (offers_of (list_with (sight g.V.Version.item_of l.view) l.draft) l.key l.over)
+    most_from l.best (offers_of (list_with l.view l.draft) l.key l.id-iterator)
+    ≡ most_penalising (offers_of (list_with l.view l.draft) l.key l.over)

@@ -3,11 +3,10 @@ use Rattle.casa_flight.specs.declared.reply.Reply.{Reply}
 use Rattle.casa_flight.specs.Entry.{Offer}
 use Rattle.casa_answer.specs.Sight.{Sight, Written}
 use Rattle.casa_answer.specs.FlightCalls.{taking}
-use Rattle.casa_plan.specs.Seen.{sight}
 use Rattle.casa_plan.proofs.one_flight.entering.Goals as goal
 
 pub returns : goal.returns
 returns g c =
-    let v : Sight = sight g.V.Version.item_of c.args.view.now in
+    let v : Sight = c.args.view.now in
     subst (λ (q : Reply × Written). IfOk c.taking.result (λ p. p ≡ q))
     (ap (λ (o : Option Offer). taking v c.args.key (option_copied c.args.was) c.args.row o) c.in_ok-offer.ensures) c.taking.ensures

@@ -5,12 +5,11 @@ use Rattle.casa_flight.specs.Entry.{Offer}
 use Rattle.casa_answer.specs.Sight.{Sight, Written}
 use Rattle.casa_answer.specs.OneFlight.{entry_offer}
 use Rattle.casa_answer.specs.FlightCalls.{is_taken, taking, taking_if, revised_by, revised}
-use Rattle.casa_plan.specs.Seen.{sight}
 use Rattle.casa_plan.proofs.one_flight.revise.Goals as goal
 
 pub returns-then-is_taken : goal.returns-then-is_taken
 returns-then-is_taken g c =
-    let v : Sight = sight g.V.Version.item_of c.args.view.now in
+    let v : Sight = c.args.view.now in
     let key = c.args.key in
     let row : Row = c.in-Some.row.now in
     let offer : Option Offer = c.in_ok-offer.offer in

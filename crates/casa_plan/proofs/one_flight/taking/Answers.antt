@@ -3,12 +3,11 @@ use Rattle.casa_flight.specs.declared.reply.Reply.{Reply}
 use Rattle.casa_answer.specs.Sight.{Sight, Written, clock_in}
 use Rattle.casa_answer.specs.OneFlight.{with_offer, offered_delay}
 use Rattle.casa_answer.specs.FlightCalls.{rewritten}
-use Rattle.casa_plan.specs.Seen.{sight}
 use Rattle.casa_plan.proofs.one_flight.taking.Goals as goal
 
 pub returns : goal.returns
 returns g c =
-    let v : Sight = sight g.V.Version.item_of c.args.view.now in
+    let v : Sight = c.args.view.now in
     let row_is : c.with_offer-row.result ≡ with_offer (clock_in v) c.args.row c.args.offer.now =
     c.with_offer-row.ensures ∙ ap (λ (clock : ℕ). with_offer clock c.args.row c.args.offer.now) c.clock.ensures in
     let delay_is : c.offered_delay.result ≡ offered_delay c.args.offer.now = c.offered_delay.ensures.value in

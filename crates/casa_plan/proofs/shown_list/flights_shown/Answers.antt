@@ -10,7 +10,6 @@ use Rattle.casa_list.specs.declared.standing.Standing.TheVariants.{Forced as NoS
 use Rattle.casa_list.specs.Standings.{standings}
 use Rattle.casa_plan.proofs.Members.{length-standings}
 use Rattle.casa_plan.specs.Rows.{row_as}
-use Rattle.casa_plan.specs.Seen.{sight}
 use Rattle.casa_plan.proofs.shown_list.flights_shown.Goals as goal
 
 pub unwrap-comp-requires : goal.unwrap-comp-requires
@@ -28,7 +27,7 @@ loop-n-preserved g c =
     let n : ℕ = c.loop-n.n in
     let fs : List (Comp × Standing) = standings list in
     let f : Comp × Standing = c.unwrap-comp.result in
-    let row : Comp × Standing → ListRow = λ f. row_as (sight g.V.Version.item_of c.args.view.now) list f.0 f.1 in
+    let row : Comp × Standing → ListRow = λ f. row_as c.args.view.now list f.0 f.1 in
     let found : slice_get fs n ≡ Some f = sym c.nth.ensures.flight ∙ c.unwrap-comp.ensures in
     let next : take (n + 1) fs ≡ take n fs ++ f ∷ [] =
     take_more fs n f (slice_get_within fs n f found) ∙ ap (λ g. take n fs ++ g ∷ []) (get_or_from_slice_get fs n f f found) in
@@ -42,4 +41,4 @@ returns-clause-rows g c =
     let count : length c.flights-count.result.now ≡ length list.flights = ap length c.flights-count.ensures.flights in
     let all : take c.loop-n.n fs ≡ fs =
     take_all c.loop-n.n fs (omega (arith, c.loop-n-test.false, count, length-standings list c.flights-count.ensures.keys)) in
-    c.loop-n.invariant ∙ ap (map (λ (f : Comp × Standing). row_as (sight g.V.Version.item_of c.args.view.now) list f.0 f.1)) all
+    c.loop-n.invariant ∙ ap (map (λ (f : Comp × Standing). row_as c.args.view.now list f.0 f.1)) all

@@ -3,9 +3,8 @@ use Rattle.casa_flight.specs.declared.comp.Comp.{Comp}
 use Rattle.casa_list.specs.declared.standing.Standing.{Standing}
 use Rattle.casa_list.specs.Standings.{standings}
 use Rattle.casa_plan.specs.Rows.{row_as}
-use Rattle.casa_plan.specs.Seen.{sight}
 use Rattle.casa_plan.proofs.shown_list.flights_shown.Given as goal
 
 abbrev pub invariant-loop-n : goal.invariant-loop-n
 invariant-loop-n g l =
-    l.rows.items ≡ map (λ (f : Comp × Standing). row_as (sight g.V.Version.item_of l.view) l.list f.0 f.1) (take l.n (standings l.list))
+    l.rows.items ≡ map (λ (f : Comp × Standing). row_as l.view l.list f.0 f.1) (take l.n (standings l.list))

@@ -2,12 +2,11 @@ use Rattle.std.proofs.Common.{◌≡◌, List, ap, subst, ◌∙◌, IfOk}
 use Rattle.casa_flight.specs.declared.reply.ListRow.{ListRow}
 use Rattle.casa_flight.specs.Listing.{in_order}
 use Rattle.casa_flight.specs.Replies.{is_row_before}
-use Rattle.casa_plan.specs.Seen.{sight}
 use Rattle.casa_plan.proofs.Rows.{rows_alike}
 use Rattle.casa_plan.proofs.shown_list.rows_shown.Goals as goal
 
 pub returns : goal.returns
 returns g c =
-    let rows = rows_alike (sight g.V.Version.item_of c.args.view.now) c.args.list.now c.flights_shown.ensures.keys in
+    let rows = rows_alike c.args.view.now c.args.list.now c.flights_shown.ensures.keys in
     subst (λ (shown : List ListRow). IfOk c.from_vec.result (λ rows. rows ≡ shown))
     (c.in_ok-sort_rows.ensures.order ∙ ap (in_order is_row_before) c.in_ok-rows.ensures.rows ∙ rows) c.from_vec.ensures

@@ -7,12 +7,11 @@ use Rattle.casa_flight.specs.Good.{AreInOrder}
 use Rattle.casa_laws.proofs.Kept.{put-without}
 use Rattle.casa_answer.specs.Sight.{Sight, Written, list_with}
 use Rattle.casa_answer.specs.Write.{with_flight}
-use Rattle.casa_plan.specs.Seen.{sight}
 use Rattle.casa_plan.proofs.write.stand.Goals as goal
 
 pub returns : goal.returns
 returns g c =
-    let v : Sight = sight g.V.Version.item_of c.args.view.now in
+    let v : Sight = c.args.view.now in
     let w : Written = c.args.draft.now in
     let id : Text = c.args.id in
     let set : Listing → Listing = λ l. with_flight l c.args.key c.args.stance in
