@@ -102,7 +102,7 @@ fn outdated<K: Kept>(rt: &impl Abort, alloc: Global, store: K) {
 fn outdated_on<V: Shelving, R: Abort + Wait>(rt: &R, alloc: Global, items: &boxcar::Vec<Arc<Item>>)
     requires { items.now ≡ V.shelves }
 {
-    let shelf: Shelf<V, R> = Shelf::new(alloc, items, rt);
+    let shelf: Shelf<V, R> = Shelf::new(items, rt);
     outdated(rt, alloc, Copies::new());
     outdated(rt, alloc, shelf);
 }

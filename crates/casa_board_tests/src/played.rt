@@ -95,13 +95,13 @@ fn told<V: Shelving, R: Abort + Wait>(
     for line in lines {
         events.push(called(rt, alloc, line)).expect(rt, "memory");
         if let Event::Commit(worker) = line {
-            let shelf: Shelf<V, R> = Shelf::new(alloc, items, rt);
+            let shelf: Shelf<V, R> = Shelf::new(items, rt);
             let events = events.as_slice();
             push_outcome(rt, alloc, &mut copied, Copies::new(), events, *worker);
             push_outcome(rt, alloc, &mut shelved, shelf, events, *worker);
         }
     }
-    let shelf: Shelf<V, R> = Shelf::new(alloc, items, rt);
+    let shelf: Shelf<V, R> = Shelf::new(items, rt);
     push_end(rt, alloc, &mut copied, Copies::new(), events.as_slice());
     push_end(rt, alloc, &mut shelved, shelf, events.as_slice());
     (copied, shelved)

@@ -38,7 +38,7 @@ fn positions_tell<V: Shelving, R: Abort + Wait>(
     requires { items.now ≡ V.shelves }
 {
     let at = Moment::new(100).expect(rt, "a moment");
-    let mut shelf: Shelf<V, R> = Shelf::new(alloc, items, rt);
+    let mut shelf: Shelf<V, R> = Shelf::new(items, rt);
     let clock = Arc::new(alloc, Item::Clock(at)).expect(rt, "memory");
     let again = Arc::try_clone(&clock).expect(rt, "memory");
     let one = shelf.put(5, clock).expect(rt, "memory");

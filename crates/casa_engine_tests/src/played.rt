@@ -203,7 +203,7 @@ fn played_on<V: Shelving + Send + Sync, L: Ledger + Send + Sync, R: Threads + Wa
     requires vector { items.now ≡ V.shelves }
     requires ledger { IsBlankOf L.name L.parts blank.name blank.parts }
 {
-    let shelf: Shelf<V, R> = Shelf::new(alloc, items, rt);
+    let shelf: Shelf<V, R> = Shelf::new(items, rt);
     played_over::<Shelf<V, R>, L, R>(rt, alloc, shelf, blank, script)
 }
 

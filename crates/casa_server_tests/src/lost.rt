@@ -91,7 +91,7 @@ fn settled_on<V: Shelving + Send + Sync, L: Ledger, R: Wait + Abort>(
     requires vector { items.now ≡ V.shelves }
     requires ledger { IsBlankOf L.name L.parts blank.name blank.parts }
 {
-    let shelf: Shelf<V, R> = Shelf::new(alloc, items, rt);
+    let shelf: Shelf<V, R> = Shelf::new(items, rt);
     settled_over::<Shelf<V, R>, L, R>(rt, alloc, shelf, blank)
 }
 

@@ -108,7 +108,7 @@ fn play_on<
     requires vector { items.now ≡ V.shelves }
     requires ledger { IsBlankOf L.name L.parts blank.name blank.parts }
 {
-    let shelf: Shelf<V, R> = Shelf::new(alloc, items, rt);
+    let shelf: Shelf<V, R> = Shelf::new(items, rt);
     let engine = Engine::<Shelf<V, R>, L, Direct>::new(alloc, shelf, blank, 7, Direct).expect(
         rt, "memory",
     );

@@ -4,7 +4,7 @@ ghost use Rattle.std.specs.Prelude.{◌≡◌, [], IsTrue};
 ghost use Rattle.boxcar.specs.Table.{Shelves};
 
 use casa_table::{Item, Kept, Version};
-use std::alloc::{AllocError, Global};
+use std::alloc::AllocError;
 use std::marker::{Brand, Model, PhantomData};
 use std::sync::{Arc, Wait};
 
@@ -18,13 +18,13 @@ impl Shelving for Brand {
     ghost shelves = { record { tag = []; buckets = [] } };
 }
 
-/// A version on a shelf: its stamp, and its position there, which copies of the version share.
+/// A version on a shelf: its stamp, and its position there. A copy takes no memory, and no count that threads share.
 ///
 /// Contracts see the stamp, the position and the item, which stays where it was put.
 #[derive(Drop)]
 pub struct Shelved<'a, V: Shelving> {
     number: usize,
-    token: Arc<boxcar::Pushed<Arc<Item>>>,
+    token: boxcar::Pushed<Arc<Item>>,
     items: &'a boxcar::Vec<Arc<Item>>,
     name: PhantomData<V>,
 }
@@ -37,9 +37,9 @@ impl<'a, V: Shelving> Model for Shelved<'a, V> {
 
     ghost Value = { ℕ × ℕ × Item };
 
-    ghost view = { λ s. (s.number, (arc_value s.token).index, arc_value (arc_value s.token).value) };
+    ghost view = { λ s. (s.number, s.token.index, arc_value s.token.value) };
 
-    ghost invariant = { λ s. Shows V.shelves (arc_value s.token) × (s.items.now ≡ V.shelves) };
+    ghost invariant = { λ s. Shows V.shelves s.token × (s.items.now ≡ V.shelves) };
 }
 
 impl<'a, V: Shelving> Shelved<'a, V> {
@@ -86,7 +86,7 @@ impl<'a, V: Shelving> Version for Shelved<'a, V> {
     fn try_clone(&self) -> Result<Shelved<'a, V>, AllocError> {
         Ok(Shelved {
             number: self.number,
-            token: Arc::try_clone(&self.token)?,
+            token: self.token.again(),
             items: self.items,
             name: PhantomData,
         })
@@ -103,7 +103,6 @@ impl<'a, V: Shelving> Version for Shelved<'a, V> {
 /// The type V names the vector, so that versions of another one are of another type. To put one may wait for another
 /// thread that does the same, which is what the runtime R is for.
 pub struct Shelf<'a, V: Shelving, R> {
-    alloc: Global,
     items: &'a boxcar::Vec<Arc<Item>>,
     rt: &'a R,
     name: PhantomData<V>,
@@ -112,11 +111,10 @@ pub struct Shelf<'a, V: Shelving, R> {
 
 impl<'a, V: Shelving, R> Shelf<'a, V, R> {
     /// The store over this vector. It takes no memory.
-    pub fn new(alloc: Global, items: &'a boxcar::Vec<Arc<Item>>, rt: &'a R) -> Shelf<'a, V, R>
+    pub fn new(items: &'a boxcar::Vec<Arc<Item>>, rt: &'a R) -> Shelf<'a, V, R>
         requires { items.now ≡ V.shelves }
     {
         Shelf {
-            alloc,
             items,
             rt,
             name: PhantomData,
@@ -127,7 +125,6 @@ impl<'a, V: Shelving, R> Shelf<'a, V, R> {
 impl<'a, V: Shelving, R> Drop for Shelf<'a, V, R> {
     fn drop(self) {
         let Shelf {
-            alloc: _,
             items: _,
             rt: _,
             name: _,
@@ -139,12 +136,12 @@ impl<'a, V: Shelving, R: Wait> Kept for Shelf<'a, V, R> {
     type Version = Shelved<'a, V>;
 
     fn put(&mut self, number: usize, item: Arc<Item>) -> Result<Shelved<'a, V>, AllocError> {
-        let Ok(pushed) = self.items.push_shown(self.rt, item) else {
+        let Ok(token) = self.items.push_shown(self.rt, item) else {
             return Err(AllocError);
         };
         Ok(Shelved {
             number,
-            token: Arc::new(self.alloc, pushed)?,
+            token,
             items: self.items,
             name: PhantomData,
         })

@@ -87,7 +87,7 @@ fn serve_on<
     requires ledger { IsBlankOf L.name L.parts blank.name blank.parts }
     ensures { IfOk result (λ served. served.sessions ≡ connections) }
 {
-    let shelf: Shelf<V, R> = Shelf::new(alloc, items, rt);
+    let shelf: Shelf<V, R> = Shelf::new(items, rt);
     let engine = Engine::<Shelf<V, R>, L, Direct>::new(alloc, shelf, blank, ENGINE, Direct)?;
     Ok(serve_by(rt, alloc, listener, &engine, connections, timing)?)
 }
