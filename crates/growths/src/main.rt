@@ -1,0 +1,74 @@
+//! Calls of all layers, tried with memory refused: `growths` tells all scenarios, and `growths SCENARIO CASE` tries one.
+#![tactic(auto)]
+
+use std::alloc::Global;
+use std::env;
+use std::io::{self, Read, Write};
+use std::process::ExitCode;
+use trials::{Ending, Fault, Trial};
+
+/// The words of the command line, without the program's name.
+fn words(rt: &HostRuntime) -> Option<Vec<String>> {
+    env::args(rt).ok()?.skip(1).collect(rt.alloc()).ok()
+}
+
+/// Writes the names of all scenarios with their cases.
+fn print_all<W: Write>(writer: &mut W) -> io::Result<()> {
+    growths_of_values::print_all(writer)?;
+    growths_of_boards::print_all(writer)?;
+    growths_of_rooms::print_all(writer)?;
+    growths_of_sessions::print_all(writer)
+}
+
+/// Tries the call of the scenario's case with these names.
+fn try_scenario<R: Read + Drop>(alloc: Global, mut reader: R, scenario: &str, case: &str) -> Trial {
+    if let Some(found) = growths_of_values::try_scenario(alloc, &mut reader, scenario, case) {
+        return found;
+    }
+    if let Some(found) = growths_of_boards::try_scenario(alloc, &mut reader, scenario, case) {
+        return found;
+    }
+    if let Some(found) = growths_of_rooms::try_scenario(alloc, &mut reader, scenario, case) {
+        return found;
+    }
+    match growths_of_sessions::try_scenario(alloc, reader, scenario, case) {
+        Some(found) => found,
+        None => Err(Fault::NoSetUp),
+    }
+}
+
+/// What a trial found, in words.
+fn text_of(trial: Trial) -> &'static str {
+    match trial {
+        Ok(Ending::Made) => "ok, answered at once",
+        Ok(Ending::Refused) => "ok, refused",
+        Err(fault) => fault.text(),
+    }
+}
+
+/// Does what the words ask for, and says whether all is right.
+fn carry_out<R: Read + Drop, W: Write>(
+    alloc: Global,
+    reader: R,
+    writer: &mut W,
+    words: &[String],
+) -> io::Result<bool> {
+    let [scenario, case] = words else {
+        print_all(writer)?;
+        return Ok(true);
+    };
+    let trial = try_scenario(alloc, reader, scenario.as_str(), case.as_str());
+    writeln!(writer, "{scenario} {case}: {}", text_of(trial))?;
+    Ok(trial.is_ok())
+}
+
+fn main(rt: HostRuntime) -> ExitCode {
+    let mut writer = io::writer(&rt);
+    let Some(words) = words(&rt) else {
+        return ExitCode::FAILURE;
+    };
+    match carry_out(rt.alloc(), rt.reader(), &mut writer, words.as_slice()) {
+        Ok(true) => ExitCode::SUCCESS,
+        _ => ExitCode::FAILURE,
+    }
+}
