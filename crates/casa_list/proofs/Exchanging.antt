@@ -14,14 +14,14 @@ use Rattle.casa_flight.specs.Text.{Text, without}
 use Rattle.casa_flight.specs.Listing.{Listing, eto_as, issued_cto, competitors, occupancy, places, stance_of}
 use Rattle.casa_flight.proofs.Entries.{text_cmp, same_name, at-put, sorted-put, put-put}
 use Rattle.casa_laws.proofs.SwapPlaces.{places_exchanged}
-use Rattle.casa_list.specs.declared.standing.Standing.{Standing}
-use Rattle.casa_list.specs.declared.standing.Standing.TheVariants.{Issued as IssuedAt}
+use Rattle.casa_slots.specs.declared.standing.Standing.{Standing}
+use Rattle.casa_slots.specs.declared.standing.Standing.TheVariants.{Issued as IssuedAt}
 use Rattle.casa_list.specs.declared.standing.Times.{Times}
-use Rattle.casa_list.specs.Blocked.{issued_counts}
+use Rattle.casa_slots.specs.Blocked.{issued_counts}
 use Rattle.casa_list.specs.Kept.{Kept, IsKept}
 use Rattle.casa_list.specs.Standings.{issued_flights, forced_flights, index_in, issued_times, can_exchange_at, can_exchange}
-use Rattle.casa_list.proofs.Rightly.{count_by-cons}
-use Rattle.casa_list.proofs.Counted.{count_by-put}
+use Rattle.casa_slots.proofs.Rightly.{count_by-cons}
+use Rattle.casa_list.proofs.Listed.{count_by-put}
 use Rattle.casa_list.proofs.Changes.{with_flight, without_flight, competitors-put_other, issued-put, forced-put_other, length-places}
 use Rattle.casa_list.proofs.Keeping.{Out, out}
 use Rattle.casa_list.proofs.Flights.{flight_set}

@@ -5,7 +5,8 @@ use Rattle.std.proofs.lemmas.List.{length-take-le, length-drop, length-map, leng
 use Rattle.std.proofs.lemmas.List.Edits.{length-insert, length-remove}
 use Rattle.std.proofs.lemmas.List.Elements.{All-set}
 use Rattle.casa_flight.specs.declared.comp.Assigned.{Assigned}
-use Rattle.casa_list.specs.Governing.{Governing, HoldsTime, AreGoverning, governing, issued_in}
+use Rattle.casa_list.specs.Governing.{Governing, AreGoverning, governing}
+use Rattle.casa_slots.specs.Seat.{HoldsTime, issued_in}
 use Rattle.casa_list.proofs.Seated.{drop-put_front, drop-out_front, drop-put_behind, drop-out_behind, All-insert, All-remove}
 
 -- how many of both there are

@@ -5,7 +5,7 @@ use Rattle.std.specs.List.Sorted.{IsSortedBy}
 use Rattle.std.proofs.lemmas.List.{length-map, get_or-map}
 use Rattle.std.proofs.lemmas.List.Elements.{All-nil, All-head, All-tail}
 use Rattle.casa_flight.specs.Listing.{in_order, put_by}
-use Rattle.casa_list.proofs.Ordered.{index_is}
+use Rattle.casa_slots.proofs.Found.{index_is}
 use Rattle.casa_list.proofs.Seated.{All-insert}
 
 position-map : {X Y : Type 0} (f : X → Y) (p : Y → Bool) (xs : List X) → position_or_len p (map f xs) ≡ position_or_len (λ x. p (f x)) xs

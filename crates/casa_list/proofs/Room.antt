@@ -6,9 +6,9 @@ use Rattle.casa_grid.specs.declared.slot.Window.{Window}
 use Rattle.casa_flight.specs.declared.comp.Comp.{Comp}
 use Rattle.casa_flight.specs.declared.comp.Assigned.{Assigned}
 use Rattle.casa_flight.specs.Listing.{put_by}
-use Rattle.casa_list.specs.declared.standing.Standing.{Standing}
+use Rattle.casa_slots.specs.declared.standing.Standing.{Standing}
 use Rattle.casa_list.specs.Standings.{is_flight_before}
-use Rattle.casa_list.specs.Walk.{place_low, low_after, low_behind, count_below, walked, followed, walked_from_slot, comps_in}
+use Rattle.casa_slots.specs.Walk.{place_low, low_after, low_behind, count_below, walked, followed, walked_from_slot, comps_in}
 use Rattle.casa_list.proofs.Ordered.{length-put}
 
 length-walked : (ws : List Window) (bs : List ℕ) (low : ℕ) (cs : List Comp) → length (walked ws bs low cs) ≡ length cs

@@ -9,22 +9,21 @@ ghost use Rattle.casa_flight.specs.declared.row.Stance.{Stance};
 ghost use Rattle.casa_flight.specs.Text.{Text};
 ghost use Rattle.casa_flight.specs.Good.{AreInOrder};
 ghost use Rattle.casa_flight.specs.Listing.{in_order, is_before, put_by, competitor};
-ghost use Rattle.casa_list.specs.declared.standing.Standing.{Standing};
-ghost use Rattle.casa_list.specs.Governing.{HoldsTime, issued_in, pre_in};
+ghost use Rattle.casa_slots.specs.declared.standing.Standing.{Standing};
+ghost use Rattle.casa_list.specs.Governing.{pre_in};
+ghost use Rattle.casa_slots.specs.Seat.{HoldsTime, issued_in};
 ghost use Rattle.casa_list.specs.Standings.{is_flight_before, issued_flight, index_in};
-ghost use Rattle.casa_list.specs.Walk.{place_low, low_behind, walked, followed, comps_in, FollowFirst, PlacesRise, FollowFrom, walked_from_slot};
+ghost use Rattle.casa_slots.specs.Walk.{place_low, low_behind, walked, followed, comps_in, FollowFirst, PlacesRise, FollowFrom, walked_from_slot};
 
-use crate::blocked::Blocked;
-use crate::copies::copied;
 use crate::fresh::{competitors_of, issued_of};
-use crate::grid::SharedGrid;
 use crate::order::index_of;
-use crate::seat::Seat;
 use crate::stances::Stances;
-use crate::standing::{Entry, Standing};
-use crate::walk::{count_below, place_behind, walk_all, walk_on};
+use crate::standing::Entry;
 use casa_flight::Comp;
 use casa_grid::Place;
+use casa_slots::{
+    Blocked, Seat, SharedGrid, Standing, copied, count_below, place_behind, walk_all, walk_on,
+};
 use casa_time::Moment;
 use std::alloc::{AllocError, Global};
 use std::marker::Model;

@@ -9,22 +9,22 @@ ghost use Rattle.casa_flight.specs.Assignment.{place_from};
 ghost use Rattle.casa_flight.specs.Listing.{places, place_of, cto_of, cto_as, stance_of};
 ghost use Rattle.casa_flight.specs.Entry.{with_competitor};
 ghost use Rattle.casa_flight.specs.Good.{AreInOrder};
-ghost use Rattle.casa_list.specs.Walk.{IsWithin};
+ghost use Rattle.casa_slots.specs.Walk.{IsWithin};
 ghost use Rattle.casa_flight.specs.IssuedTimes.{with_issued};
 ghost use Rattle.casa_list.specs.Standings.{standings, count_governed, governed_place, governed_cto, issue_cto, is_forced, competing_eto, forced_eto, issued_times, can_exchange, exchanged};
 
-use crate::blocked::{Blocked, block, counted, slot_of, unblock};
-use crate::copies::copied;
 use crate::fresh::forced_of;
 use crate::governed::Governed;
-use crate::grid::SharedGrid;
 use crate::member::Member;
 use crate::order::{forced_entry, free_flight, index_of, put_forced, take_forced};
 use crate::stances::Stances;
-use crate::standing::{Standing, Times};
-use crate::walk::{cto_at, place_behind, place_from};
+use crate::standing::Times;
 use casa_flight::{Comp, Key, Stance};
 use casa_grid::{Grid, Place};
+use casa_slots::{
+    Blocked, SharedGrid, Standing, block, copied, counted, cto_at, place_behind, place_from,
+    slot_of, unblock,
+};
 use casa_time::Moment;
 use std::alloc::{AllocError, Global};
 use std::collections::BTreeMap;

@@ -3,7 +3,7 @@ use Rattle.std.specs.List.{filter_map}
 use Rattle.casa_flight.specs.declared.row.Stance.{Stance}
 use Rattle.casa_flight.specs.Text.{Text}
 use Rattle.casa_flight.specs.Listing.{competitor}
-use Rattle.casa_list.specs.Walk.{comps_in}
+use Rattle.casa_slots.specs.Walk.{comps_in}
 use Rattle.casa_list.proofs.fresh.competing_by_key.Given as goal
 
 abbrev pub invariant-loop-member : goal.invariant-loop-member

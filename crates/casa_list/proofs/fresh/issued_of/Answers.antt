@@ -1,7 +1,7 @@
 use Rattle.std.proofs.Common.{◌≡◌, ◌∙◌, ap, map, sym, subst, rules}
 use Rattle.std.specs.List.{All}
 use Rattle.casa_flight.specs.Listing.{in_order}
-use Rattle.casa_list.specs.Governing.{HoldsTime, issued_in}
+use Rattle.casa_slots.specs.Seat.{HoldsTime, issued_in}
 use Rattle.casa_list.specs.Standings.{is_flight_before}
 use Rattle.casa_list.proofs.Mapped.{in_order-map, All-in_order}
 use Rattle.casa_list.proofs.Searched.{assigned_before}

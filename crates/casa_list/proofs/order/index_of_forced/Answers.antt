@@ -3,11 +3,12 @@ use Rattle.std.proofs.lemmas.List.Sorted.{IsPartitionPoint-from_clause}
 use Rattle.casa_flight.specs.declared.comp.Comp.{Comp}
 use Rattle.casa_flight.specs.Listing.{is_before}
 use Rattle.casa_flight.proofs.Planning.{comps_order}
-use Rattle.casa_list.specs.declared.standing.Standing.{Standing}
+use Rattle.casa_slots.specs.declared.standing.Standing.{Standing}
 use Rattle.casa_list.specs.Governing.{forced_in}
 use Rattle.casa_list.specs.Standings.{is_flight_before}
 use Rattle.casa_list.proofs.Mapped.{first-map, sorted_read}
-use Rattle.casa_list.proofs.Searched.{partitioned, first_behind}
+use Rattle.casa_slots.proofs.Found.{first_behind}
+use Rattle.casa_list.proofs.Searched.{partitioned}
 use Rattle.casa_list.proofs.order.index_of_forced.Goals as goal
 
 pub returns-clause-value : goal.returns-clause-value

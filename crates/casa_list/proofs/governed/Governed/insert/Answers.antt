@@ -1,6 +1,7 @@
 use Rattle.std.proofs.Common.{◌≡◌, ◌∙◌, ◌+◌, ◌≤◌, refl, ap, take, drop, map, rules, arith}
 use Rattle.std.specs.List.{insert}
-use Rattle.casa_list.specs.Governing.{Governing, issued_in}
+use Rattle.casa_list.specs.Governing.{Governing}
+use Rattle.casa_slots.specs.Seat.{issued_in}
 use Rattle.casa_list.proofs.Governs.{many_first, governs_put}
 use Rattle.casa_list.proofs.Seated.{take-put_front, drop-put_front}
 use Rattle.casa_list.proofs.governed.Governed.insert.Goals as goal

@@ -2,8 +2,8 @@ use Rattle.std.proofs.Common.{◌≡◌, ◌∙◌, length, take, ap, rules}
 use Rattle.std.specs.List.{insert}
 use Rattle.casa_grid.specs.declared.slot.Place.{Place}
 use Rattle.casa_grid.specs.Slots.{slots}
-use Rattle.casa_list.specs.Walk.{place_low, low_behind}
-use Rattle.casa_list.proofs.Walks.{walked_put, follow_put}
+use Rattle.casa_slots.specs.Walk.{place_low, low_behind}
+use Rattle.casa_slots.proofs.Walks.{walked_put, follow_put}
 use Rattle.casa_list.proofs.governed.Governed.put.Goals as goal
 
 pub walk_on-requires-clause-follow : goal.walk_on-requires-clause-follow

@@ -3,8 +3,9 @@ use Rattle.std.specs.List.Sorted.{IsSortedBy}
 use Rattle.std.proofs.lemmas.List.{drop-set-add, map-set}
 use Rattle.casa_flight.specs.declared.comp.Comp.{Comp}
 use Rattle.casa_flight.specs.Listing.{is_before}
-use Rattle.casa_list.specs.declared.standing.Standing.{Standing}
-use Rattle.casa_list.specs.Governing.{Governing, issued_in}
+use Rattle.casa_slots.specs.declared.standing.Standing.{Standing}
+use Rattle.casa_list.specs.Governing.{Governing}
+use Rattle.casa_slots.specs.Seat.{issued_in}
 use Rattle.casa_list.specs.Standings.{is_flight_before, index_in}
 use Rattle.casa_list.proofs.Governs.{many_behind, governs_set_behind}
 use Rattle.casa_list.proofs.Mapped.{first-map, sorted_read}

@@ -2,7 +2,8 @@ use Rattle.std.proofs.Common.{◌≡◌, ◌∙◌, ◌-◌, ◌<◌, ap, sym, g
 use Rattle.std.specs.List.{remove, slice_get}
 use Rattle.std.proofs.lemmas.List.{get_or-take, length-take-le}
 use Rattle.std.proofs.lemmas.Option.{slice_get_read}
-use Rattle.casa_list.specs.Governing.{Governing, issued_in}
+use Rattle.casa_list.specs.Governing.{Governing}
+use Rattle.casa_slots.specs.Seat.{issued_in}
 use Rattle.casa_list.proofs.Governs.{many_first, governs_out}
 use Rattle.casa_list.proofs.Seated.{take-out_front, drop-out_front}
 use Rattle.casa_list.proofs.governed.Governed.remove.Goals as goal

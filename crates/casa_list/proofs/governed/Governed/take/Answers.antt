@@ -1,6 +1,6 @@
 use Rattle.std.proofs.Common.{◌≡◌, ◌∙◌, ◌+◌, take, drop, ap, subst, sym}
 use Rattle.casa_grid.specs.Slots.{slots}
-use Rattle.casa_list.specs.Walk.{FollowFirst, followed, comps_in}
+use Rattle.casa_slots.specs.Walk.{FollowFirst, followed, comps_in}
 use Rattle.casa_list.proofs.Seated.{taken_front, taken_rest}
 use Rattle.casa_list.proofs.governed.Governed.take.Goals as goal
 

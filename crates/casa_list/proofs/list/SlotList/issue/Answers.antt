@@ -13,7 +13,7 @@ use Rattle.casa_list.proofs.Issuing.{kept_issued, issue_time}
 use Rattle.casa_list.proofs.Searched.{sorted_places, sorted_issued}
 use Rattle.casa_list.proofs.Room.{many_held}
 use Rattle.std.proofs.lemmas.List.Edits.{length-remove}
-use Rattle.casa_list.specs.declared.standing.Standing.TheVariants.{Issued}
+use Rattle.casa_slots.specs.declared.standing.Standing.TheVariants.{Issued}
 use Rattle.casa_list.proofs.list.SlotList.issue.Goals as goal
 
 pub issue-requires-clause-within : goal.issue-requires-clause-within

@@ -1,0 +1,9 @@
+pub mod Inserted
+pub mod Found
+pub mod Walks
+pub mod Rightly
+pub mod Walked
+pub mod Sparse
+pub mod Counts
+pub mod Few
+pub mod Asked

@@ -1,0 +1,4 @@
+pub mod Walk
+pub mod Seat
+pub mod Blocked
+pub mod Sparse
