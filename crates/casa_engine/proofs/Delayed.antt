@@ -12,8 +12,8 @@ use Rattle.casa_flight.specs.declared.row.Stance.TheVariants.{Competing, Issued,
 use Rattle.casa_flight.specs.Text.{Text}
 use Rattle.casa_flight.specs.Good.{AreInOrder}
 use Rattle.casa_flight.specs.Listing.{Listing, is_before, competitor, competitors, places, stance_of, delay_in}
-use Rattle.casa_list.specs.declared.standing.Standing.{Standing}
-use Rattle.casa_list.specs.declared.standing.Standing.TheVariants.{Pre, Issued as IssuedAt}
+use Rattle.casa_slots.specs.declared.standing.Standing.{Standing}
+use Rattle.casa_slots.specs.declared.standing.Standing.TheVariants.{Pre, Issued as IssuedAt}
 use Rattle.casa_list.specs.Standings.{issued_flight, is_flight_before, issued_flights, forced_flights, standings, standing_as, count_governed, governed_cto}
 use Rattle.casa_list.proofs.Changes.{comps-places}
 use Rattle.casa_list.proofs.Once.{standings_who}

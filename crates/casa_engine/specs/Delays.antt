@@ -10,7 +10,7 @@ use Rattle.casa_flight.specs.declared.state.State.{State}
 use Rattle.casa_flight.specs.Text.{Text}
 use Rattle.casa_flight.specs.Listing.{Listing, listing, delay_in}
 use Rattle.casa_list.specs.declared.list.SlotList.{SlotList}
-use Rattle.casa_list.specs.declared.standing.Standing.{Standing}
+use Rattle.casa_slots.specs.declared.standing.Standing.{Standing}
 use Rattle.casa_list.specs.Standings.{standings}
 use Rattle.casa_engine.specs.declared.audit.Audit.{Audit}
 

@@ -15,7 +15,7 @@ use Rattle.casa_flight.specs.Listing.{Listing, stance_of, eto_as, governing_list
 use Rattle.casa_flight.specs.Entry.{Offer, situation, offers, most_penalising}
 use Rattle.casa_flight.specs.Replies.{flight_reply}
 use Rattle.casa_list.specs.Standings.{governed_place, place_as}
-use Rattle.casa_list.specs.Walk.{low_after}
+use Rattle.casa_slots.specs.Walk.{low_after}
 use Rattle.casa_inquiry.specs.declared.why.Reasons.{Reasons}
 use Rattle.casa_inquiry.specs.declared.why.Holding.{Holding}
 use Rattle.casa_inquiry.specs.declared.why.Rule.{Rule}

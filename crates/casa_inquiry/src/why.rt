@@ -8,7 +8,7 @@ ghost use Rattle.casa_flight.specs.declared.row.Stance.{Stance};
 ghost use Rattle.casa_flight.specs.State.{subject};
 ghost use Rattle.casa_flight.specs.Listing.{cto_as, delay_in};
 ghost use Rattle.casa_flight.specs.Entry.{most_penalising, offer_in, with_competitor};
-ghost use Rattle.casa_list.specs.Walk.{low_after};
+ghost use Rattle.casa_slots.specs.Walk.{low_after};
 ghost use Rattle.casa_inquiry.specs.Why.{has_slot, held_by, holdings, holdings_at, is_tied, rule_by, rule_free, rule_of, slot_with, slots_waited};
 
 use casa_flight::{

@@ -15,8 +15,8 @@ use Rattle.casa_flight.specs.Good.{AreInOrder}
 use Rattle.casa_flight.specs.Listing.{Listing, put_by, in_order, is_before, competitor, competitors, places}
 use Rattle.casa_flight.proofs.Entries.{all-each, each_found}
 use Rattle.casa_flight.proofs.PutBy.{each_itself}
-use Rattle.casa_list.specs.declared.standing.Standing.{Standing}
-use Rattle.casa_list.specs.declared.standing.Standing.TheVariants.{Pre, Forced as NoSlot}
+use Rattle.casa_slots.specs.declared.standing.Standing.{Standing}
+use Rattle.casa_slots.specs.declared.standing.Standing.TheVariants.{Pre, Forced as NoSlot}
 use Rattle.casa_list.specs.Standings.{issued_flight, forced_flight, is_flight_before, issued_flights, forced_flights, standings, standing_as, standing_of}
 use Rattle.casa_list.proofs.Changes.{comps-places}
 use Rattle.casa_list.proofs.Once.{standings_who}

@@ -18,7 +18,7 @@ use Rattle.casa_flight.proofs.Entries.{each_found}
 use Rattle.casa_flight.proofs.Planning.{rows_order, tied_comps}
 use Rattle.casa_flight.proofs.Sorting.{ranked-in_order, sorted_of_same}
 use Rattle.casa_laws.proofs.InOrder.{pairs_from_recursion}
-use Rattle.casa_list.specs.declared.standing.Standing.{Standing}
+use Rattle.casa_slots.specs.declared.standing.Standing.{Standing}
 use Rattle.casa_list.specs.Standings.{standings, standing_as}
 use Rattle.casa_answer.specs.Sight.{Sight}
 use Rattle.casa_answer.specs.Look.{row_shown, rows_shown}

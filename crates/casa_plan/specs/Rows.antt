@@ -7,8 +7,8 @@ use Rattle.casa_flight.specs.declared.reply.Kind.TheVariants.{Pre as PreKind, Is
 use Rattle.casa_flight.specs.declared.reply.ListRow.{ListRow}
 use Rattle.casa_flight.specs.Listing.{Listing}
 use Rattle.casa_flight.specs.Replies.{slot_number}
-use Rattle.casa_list.specs.declared.standing.Standing.{Standing}
-use Rattle.casa_list.specs.declared.standing.Standing.TheVariants.{Pre, Issued, Forced}
+use Rattle.casa_slots.specs.declared.standing.Standing.{Standing}
+use Rattle.casa_slots.specs.declared.standing.Standing.TheVariants.{Pre, Issued, Forced}
 use Rattle.casa_answer.specs.Sight.{Sight}
 use Rattle.casa_answer.specs.Look.{forced_shown}
 

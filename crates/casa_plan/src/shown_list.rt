@@ -5,7 +5,7 @@ ghost use Rattle.std.specs.Option.{option_map_or};
 ghost use Rattle.casa_time.specs.Moment.{last_moment};
 ghost use Rattle.casa_flight.specs.declared.comp.Comp.{Comp};
 ghost use Rattle.casa_flight.specs.Good.{AreInOrder};
-ghost use Rattle.casa_list.specs.declared.standing.Standing.{Standing};
+ghost use Rattle.casa_slots.specs.declared.standing.Standing.{Standing};
 ghost use Rattle.casa_list.specs.Standings.{standings};
 ghost use Rattle.casa_answer.specs.Sight.{list_in, row_in};
 ghost use Rattle.casa_answer.specs.Told.{delay_by};

@@ -3,7 +3,7 @@ use Rattle.std.specs.List.{sum_by}
 use Rattle.std.proofs.lemmas.List.Sums.{sum_by_push}
 use Rattle.casa_flight.specs.declared.comp.Comp.{Comp}
 use Rattle.casa_flight.specs.Listing.{delay_in}
-use Rattle.casa_list.specs.declared.standing.Standing.{Standing}
+use Rattle.casa_slots.specs.declared.standing.Standing.{Standing}
 use Rattle.casa_list.specs.Standings.{standings, count_governed}
 use Rattle.casa_engine.specs.Delays.{delay_at, numbered_delay, numbered_delays}
 use Rattle.casa_engine.proofs.Delayed.{governed_delays}

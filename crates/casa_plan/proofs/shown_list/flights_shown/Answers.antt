@@ -5,8 +5,8 @@ use Rattle.std.proofs.lemmas.List.{map-append, take_all, take_more}
 use Rattle.std.proofs.lemmas.Option.{get_or_from_slice_get, slice_get-get_or, slice_get_within}
 use Rattle.casa_flight.specs.declared.comp.Comp.{Comp}
 use Rattle.casa_flight.specs.declared.reply.ListRow.{ListRow}
-use Rattle.casa_list.specs.declared.standing.Standing.{Standing}
-use Rattle.casa_list.specs.declared.standing.Standing.TheVariants.{Forced as NoSlot}
+use Rattle.casa_slots.specs.declared.standing.Standing.{Standing}
+use Rattle.casa_slots.specs.declared.standing.Standing.TheVariants.{Forced as NoSlot}
 use Rattle.casa_list.specs.Standings.{standings}
 use Rattle.casa_plan.proofs.Members.{length-standings}
 use Rattle.casa_plan.specs.Rows.{row_as}

@@ -1,6 +1,6 @@
 use Rattle.std.proofs.Common.{◌≡◌, map, take}
 use Rattle.casa_flight.specs.declared.comp.Comp.{Comp}
-use Rattle.casa_list.specs.declared.standing.Standing.{Standing}
+use Rattle.casa_slots.specs.declared.standing.Standing.{Standing}
 use Rattle.casa_list.specs.Standings.{standings}
 use Rattle.casa_plan.specs.Rows.{row_as}
 use Rattle.casa_plan.proofs.shown_list.flights_shown.Given as goal
