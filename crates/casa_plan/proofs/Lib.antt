@@ -1,6 +1,5 @@
 pub mod Seen
 pub mod Replayed
-pub mod Standing
 pub mod Entered
 pub mod TakenIn
 pub mod Closed

@@ -9,7 +9,7 @@ use Rattle.casa_laws.proofs.Kept.{same_entries}
 use Rattle.casa_footprint.specs.Items.{ItemName, the_clock, the_catalogue, a_row, a_list, contents, AgreeOn}
 use Rattle.casa_footprint.specs.Footprint.{reads}
 use Rattle.casa_footprint.proofs.EachCall.{reads_same}
-use Rattle.casa_table.specs.declared.item.Item.{Item}
+use Rattle.casa_item.specs.declared.item.Item.{Item}
 use Rattle.casa_view.specs.declared.view.View.{View}
 use Rattle.casa_view.specs.View.{shown, Shows, IsViewOf, IsFor}
 use Rattle.casa_view.specs.Shown.{HasRowsInOrder}

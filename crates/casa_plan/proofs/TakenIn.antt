@@ -21,9 +21,9 @@ use Rattle.casa_answer.proofs.Entries.{entries_catalogue}
 use Rattle.casa_answer.proofs.ListOver.{each_over}
 use Rattle.casa_answer.proofs.Newcomers.{newcomers}
 use Rattle.casa_answer.proofs.TakingIn.{values-by_id}
-use Rattle.casa_table.specs.declared.item.Item.{Item}
+use Rattle.casa_item.specs.declared.item.Item.{Item}
 use Rattle.casa_table.specs.Asking.{HaveRows}
-use Rattle.casa_table.specs.Versions.{row_of}
+use Rattle.casa_item.specs.Versions.{row_of}
 use Rattle.casa_plan.specs.TakingIn.{stances_of}
 
 -- regulations are what is put under identifiers

@@ -1,5 +1,5 @@
 use Rattle.std.specs.Prelude.{[], Some, unwrap_or}
-use Rattle.casa_table.specs.declared.item.Item.{Item}
+use Rattle.casa_item.specs.declared.item.Item.{Item}
 use Rattle.casa_view.specs.declared.view.View.{View}
 use Rattle.casa_view.specs.Shown.{clock_shown, catalogue_shown, rows_shown, lists_shown}
 use Rattle.casa_answer.specs.Sight.{Sight}

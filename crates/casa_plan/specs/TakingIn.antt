@@ -5,8 +5,8 @@ use Rattle.casa_flight.specs.declared.comp.Comp.{Comp}
 use Rattle.casa_flight.specs.declared.row.Stance.{Stance}
 use Rattle.casa_flight.specs.Text.{Text, put}
 use Rattle.casa_answer.specs.TakingIn.{stance_by}
-use Rattle.casa_table.specs.declared.item.Item.{Item}
-use Rattle.casa_table.specs.Versions.{row_of}
+use Rattle.casa_item.specs.declared.item.Item.{Item}
+use Rattle.casa_item.specs.Versions.{row_of}
 
 -- flights with versions of their rows, by keys, each as it stands in the list of a regulation
 abbrev pub stances_of : {V : Type 0} → (V → Item) → Text → List (Comp × V) → List (Text × Stance)

@@ -5,7 +5,6 @@
 mod clock_moves;
 mod closing;
 mod entering;
-mod flight_lists;
 mod issuing;
 mod laws;
 mod new_rates;

@@ -2,56 +2,17 @@
 
 ghost use Rattle.std.specs.Prelude.{◌≡◌, ◌≤◌, Some, IfOk};
 ghost use Rattle.casa_time.specs.Moment.{last_moment};
-ghost use Rattle.casa_flight.specs.declared.row.Stance.{Stance};
-ghost use Rattle.casa_flight.specs.Listing.{cto_as};
-ghost use Rattle.casa_flight.specs.Entry.{with_competitor, offer_in, most_penalising};
+ghost use Rattle.casa_flight.specs.Entry.{offer_in, most_penalising};
 ghost use Rattle.casa_footprint.specs.Finding.{crossed};
 ghost use Rattle.casa_answer.specs.Sight.{list_with, regulations_in};
 ghost use Rattle.casa_answer.specs.OneFlight.{offers_of, entry_offer, with_offer, offered_delay};
 
-use crate::flight_lists::take_out;
 use crate::shown::Shown;
-use casa_flight::{Comp, Key, Offer, RegId, Row, Stance, more_penalising};
-use casa_list::SlotList;
+use casa_flight::{Comp, Key, Offer, RegId, Row, more_penalising};
+use casa_stance::time_there;
 use casa_time::Moment;
 use casa_view::{Change, Crossings, Version};
 use std::alloc::{AllocError, Global};
-
-/// The calculated time over that a flight would have as a competitor once it had left, worked out on a copy.
-/// `AllocError` where there is no memory for that.
-fn time_anew(list: &SlotList, comp: &Comp) -> Result<Moment, AllocError>
-    ensures { IfOk result (λ time. time ≡
-        cto_as (with_competitor list.now comp.now.key comp.now.eto) comp.now.key (Stance.Competing comp.now.eto)) }
-{
-    let mut rest = list.try_clone()?;
-    let stance = rest.stance_of(&comp.key);
-    take_out(&mut rest, &comp.key, &stance);
-    Ok(rest.would_pass(comp))
-}
-
-/// The calculated time over that a flight would have as a competitor, in place of how it stands in the list.
-///
-/// Only where it is issued there, or competes with another time over, is the list copied; `AllocError` where there is no
-/// memory for that.
-pub(crate) fn time_there(list: &SlotList, comp: &Comp) -> Result<Moment, AllocError>
-    ensures { IfOk result (λ time. time ≡
-        cto_as (with_competitor list.now comp.now.key comp.now.eto) comp.now.key (Stance.Competing comp.now.eto)) }
-{
-    let Some(stance) = list.stance_of(&comp.key) else {
-        return Ok(list.would_pass(comp));
-    };
-    match stance {
-        Stance::Competing { eto } => {
-            if eto == comp.eto {
-                Ok(list.cto_of(&comp.key).unwrap())
-            } else {
-                time_anew(list, comp)
-            }
-        }
-        Stance::Issued { .. } => time_anew(list, comp),
-        Stance::Forced { .. } => Ok(list.would_pass(comp)),
-    }
-}
 
 /// What the regulation with this identifier offers a flight with this time over, by the list that is written or else shown;
 /// `None` without a list. `AllocError` where there is no memory to work it out.

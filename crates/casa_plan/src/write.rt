@@ -9,11 +9,11 @@ ghost use Rattle.casa_answer.specs.Sight.{regulations_in, list_with};
 ghost use Rattle.casa_answer.specs.Write.{with_flight, with_stances, crossed_by, left, standing, write_flight};
 ghost use Rattle.casa_answer.specs.OneFlight.{flight_written};
 
-use crate::flight_lists::with_flight;
 use crate::shown::Shown;
 use casa_flight::{Key, RegId, Row, Stance};
 use casa_list::SharedList;
 use casa_named::Few;
+use casa_stance::with_flight;
 use casa_view::{Change, Crossings, Version};
 use std::alloc::{AllocError, Global};
 

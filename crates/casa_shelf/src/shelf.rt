@@ -3,7 +3,7 @@
 ghost use Rattle.std.specs.Prelude.{◌≡◌, [], IsTrue};
 ghost use Rattle.boxcar.specs.Table.{Shelves};
 
-use casa_table::{Item, Kept, Version};
+use casa_item::{Item, Kept, Version};
 use std::alloc::AllocError;
 use std::marker::{Brand, Model, PhantomData};
 use std::sync::{Arc, Wait};
@@ -33,7 +33,7 @@ impl<'a, V: Shelving> Model for Shelved<'a, V> {
     ghost use Rattle.std.specs.Prelude.{◌≡◌, ℕ};
     ghost use Rattle.std.specs.Arc.{arc_value};
     ghost use Rattle.boxcar.specs.Table.{Shows};
-    ghost use Rattle.casa_table.specs.declared.item.Item.{Item};
+    ghost use Rattle.casa_item.specs.declared.item.Item.{Item};
 
     ghost Value = { ℕ × ℕ × Item };
 

@@ -8,9 +8,9 @@ use Rattle.casa_flight.specs.Text.{Text, at_name}
 use Rattle.casa_flight.specs.Good.{AreInOrder}
 use Rattle.casa_flight.specs.Listing.{kept}
 use Rattle.casa_flight.proofs.Entries.{each_found}
-use Rattle.casa_table.specs.declared.item.Item.{Item}
+use Rattle.casa_item.specs.declared.item.Item.{Item}
 use Rattle.casa_table.specs.declared.asking.Question.{Question}
-use Rattle.casa_table.specs.Versions.{row_of}
+use Rattle.casa_item.specs.Versions.{row_of}
 use Rattle.casa_table.specs.Flights.{rows_of, row_named}
 use Rattle.casa_table.specs.Asking.{answer, answered, times, AreOf}
 use Rattle.casa_table.proofs.LaidFound.{row_under}

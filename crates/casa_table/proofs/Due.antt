@@ -20,7 +20,7 @@ use Rattle.casa_table.specs.Laid.{where_put}
 use Rattle.casa_footprint.specs.Finding.{due_keys}
 use Rattle.casa_table.specs.Waiting.{due_row, is_waiting, is_waiting_at, has_departure, departure, HaveWaiting}
 use Rattle.casa_table.specs.Waiting.{due_names}
-use Rattle.casa_table.specs.Gathered.{is_named}
+use Rattle.casa_item.specs.Gathered.{is_named}
 use Rattle.casa_table.proofs.Exact.{IsExact}
 
 -- departures that compare Equal are the same

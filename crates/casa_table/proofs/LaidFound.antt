@@ -10,12 +10,12 @@ use Rattle.casa_flight.specs.Good.{AreInOrder}
 use Rattle.casa_flight.specs.Listing.{kept}
 use Rattle.casa_flight.proofs.Entries.{text_cmp, at-put_other, at-without_other}
 use Rattle.casa_laws.proofs.Kept.{at-kept}
-use Rattle.casa_table.specs.declared.item.Item.{Item}
-use Rattle.casa_table.specs.Versions.{row_of}
-use Rattle.casa_table.specs.Gathered.{is_named, HasGathered}
+use Rattle.casa_item.specs.declared.item.Item.{Item}
+use Rattle.casa_item.specs.Versions.{row_of}
+use Rattle.casa_item.specs.Gathered.{is_named, HasGathered}
 use Rattle.casa_table.specs.Laid.{with_value, laid}
 use Rattle.casa_table.specs.Flights.{rows_of, row_named}
-use Rattle.casa_table.proofs.Gathered.{AreFound, gathered_both, gathered_is}
+use Rattle.casa_item.proofs.Gathered.{AreFound, gathered_both, gathered_is}
 use Rattle.casa_table.proofs.Layers.{sorted-laid}
 
 at-with_other : {X : Type 0} (q k : Text) (w : Option X) (es : List (Text × X)) → is_eq (text_cmp q k) ≡ false

@@ -1,10 +1,5 @@
-pub mod Equal
 pub mod Layers
 pub mod Compared
-pub mod Gathered
-pub mod InTurn
-pub mod Crossed
-pub mod Listed
 pub mod Exact
 pub mod Due
 pub mod Over

@@ -11,9 +11,9 @@ use Rattle.casa_flight.specs.Good.{AreInOrder}
 use Rattle.casa_flight.specs.Listing.{kept}
 use Rattle.casa_flight.specs.Steps.{flights_over}
 use Rattle.casa_laws.proofs.Kept.{at-kept, sorted-kept}
-use Rattle.casa_table.specs.declared.item.Item.{Item}
+use Rattle.casa_item.specs.declared.item.Item.{Item}
 use Rattle.casa_table.specs.declared.asking.Question.TheVariants.{Over}
-use Rattle.casa_table.specs.Versions.{row_of}
+use Rattle.casa_item.specs.Versions.{row_of}
 use Rattle.casa_table.specs.Passing.{over_row}
 use Rattle.casa_table.specs.Asking.{answered, HaveRows, with_flight}
 use Rattle.casa_table.specs.Flights.{row_named, rows_named}

@@ -2,10 +2,10 @@
 use Rattle.std.proofs.Common.{◌≡◌, List, Bool, true, false, sym, ◌∙◌, Option, Some, if◌then◌else◌}
 use Rattle.casa_flight.specs.declared.row.Row.{Row}
 use Rattle.casa_flight.specs.Text.{Text, same_text}
-use Rattle.casa_table.specs.declared.item.Item.{Item}
+use Rattle.casa_item.specs.declared.item.Item.{Item}
 use Rattle.casa_table.specs.declared.flights.Departure.{Departure}
 use Rattle.casa_table.specs.declared.flights.Passing.{Passing}
-use Rattle.casa_table.specs.Versions.{row_of}
+use Rattle.casa_item.specs.Versions.{row_of}
 use Rattle.casa_table.specs.Laid.{where_put}
 use Rattle.casa_table.specs.Flights.{IsIndexed, row_where, row_named, fewer_rows}
 

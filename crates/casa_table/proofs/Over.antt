@@ -25,7 +25,7 @@ use Rattle.casa_table.specs.contracts.flights.PassingOrd.TheImpl.{ghosts as pass
 use Rattle.casa_table.specs.Laid.{where_put}
 use Rattle.casa_table.specs.Passing.{over_row, has_passing, passing, HaveMore, HaveVia, HavePassings, at_start, at_end}
 use Rattle.casa_table.specs.Passing.{in_span, names}
-use Rattle.casa_table.specs.Gathered.{is_named}
+use Rattle.casa_item.specs.Gathered.{is_named}
 use Rattle.casa_table.proofs.Exact.{IsExact}
 
 -- passings that compare Equal are the same

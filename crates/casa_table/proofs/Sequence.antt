@@ -23,8 +23,8 @@ use Rattle.casa_flight.proofs.Entries.{text_cmp, same_name}
 use Rattle.casa_laws.proofs.Competitors.{less_apart, before_one_way}
 use Rattle.casa_flight.proofs.PutBy.{put_later, put_first, all-put_by}
 use Rattle.std.specs.Map.{keys_of}
-use Rattle.casa_table.specs.declared.item.Item.{Item}
-use Rattle.casa_table.specs.Versions.{row_of}
+use Rattle.casa_item.specs.declared.item.Item.{Item}
+use Rattle.casa_item.specs.Versions.{row_of}
 use Rattle.casa_table.specs.Passing.{over_row, comps}
 use Rattle.casa_table.specs.Asking.{times, HaveRows, with_flight}
 

@@ -8,8 +8,8 @@ use Rattle.casa_flight.specs.declared.row.Row.{Row}
 use Rattle.casa_flight.specs.Text.{Text, at_name}
 use Rattle.casa_table.specs.declared.asking.Question.{Question}
 use Rattle.casa_table.specs.declared.asking.Question.TheVariants.{Due, Over}
-use Rattle.casa_table.specs.declared.item.Item.{Item}
-use Rattle.casa_table.specs.Versions.{row_of}
+use Rattle.casa_item.specs.declared.item.Item.{Item}
+use Rattle.casa_item.specs.Versions.{row_of}
 use Rattle.casa_table.specs.Waiting.{due_row}
 use Rattle.casa_table.specs.Passing.{over_row}
 

@@ -1,9 +1,5 @@
 pub mod Laid
 pub mod Same
-pub mod Gathered
-pub mod Crossed
-pub mod Copies
-pub mod Versions
 pub mod Waiting
 pub mod Passing
 pub mod Flights

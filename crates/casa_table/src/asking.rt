@@ -8,7 +8,7 @@ ghost use Rattle.casa_flight.specs.Text.{Text, at_name};
 ghost use Rattle.casa_flight.specs.Good.{AreInOrder};
 ghost use Rattle.casa_flight.specs.Listing.{kept, in_order, is_before};
 ghost use Rattle.casa_flight.specs.Steps.{flights_over};
-ghost use Rattle.casa_table.specs.Gathered.{noted, HasGathered};
+ghost use Rattle.casa_item.specs.Gathered.{noted, HasGathered};
 ghost use Rattle.casa_footprint.specs.Finding.{due_keys};
 ghost use Rattle.casa_table.specs.Waiting.{due_row, due_names, HaveWaiting};
 ghost use Rattle.casa_table.specs.Passing.{passings_at, HavePassings, in_span, names, comps};
@@ -17,10 +17,9 @@ ghost use Rattle.casa_table.specs.declared.asking.Question.TheVariants.{Due, Ove
 ghost use Rattle.casa_table.specs.Asking.{answer, answered, times, AreOf, HaveRows, with_flight};
 
 use crate::flights::{Departure, FlightIndex, Passing, Passings, is_waiting};
-use crate::item::row_in;
 use crate::table::{Base, Changes, Shared};
-use crate::version::Version;
 use casa_flight::{Comp, Key, OfFlight, Regulation, Row, subject};
+use casa_item::{Version, row_in};
 use casa_named::Few;
 use casa_time::{Moment, due};
 use std::alloc::{AllocError, Global};

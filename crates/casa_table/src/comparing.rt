@@ -7,8 +7,8 @@ ghost use Rattle.casa_table.specs.Same.{same_version};
 
 use crate::index::Index;
 use crate::table::{Shared, Table, Values};
-use crate::version::Version;
 use casa_flight::Name;
+use casa_item::Version;
 use casa_named::Few;
 use std::collections::BTreeMap;
 

@@ -5,7 +5,7 @@ ghost use Rattle.std.specs.Option.{option_copied, option_map_or};
 ghost use Rattle.casa_flight.specs.Text.{Text};
 ghost use Rattle.casa_flight.specs.PlanEquality.{plan_eq};
 ghost use Rattle.casa_flight.specs.declared.row.Row.{Row};
-ghost use Rattle.casa_table.specs.Versions.{row_of};
+ghost use Rattle.casa_item.specs.Versions.{row_of};
 ghost use Rattle.casa_table.specs.Laid.{where_put};
 ghost use Rattle.casa_flight.specs.declared.plan.Crossing.{Crossing};
 ghost use Rattle.casa_table.specs.Waiting.{is_waiting, is_waiting_at, departure, has_departure, HaveWaiting};
@@ -13,9 +13,8 @@ ghost use Rattle.casa_table.specs.Passing.{passing, has_passing, passings_at, Ha
 ghost use Rattle.casa_table.specs.Flights.{IsIndexed, row_named};
 
 use crate::index::Index;
-use crate::item::row_in;
-use crate::version::Version;
 use casa_flight::{Crossing, Key, Loc, Name, OfFlight, Plan, Row};
+use casa_item::{Version, row_in};
 use casa_time::Moment;
 use std::alloc::{AllocError, Global};
 use std::collections::{BTreeMap, BTreeSet};

@@ -8,8 +8,8 @@ ghost use Rattle.casa_flight.specs.Good.{AreInOrder};
 ghost use Rattle.casa_table.specs.Laid.{with_value, laid};
 
 use crate::index::Index;
-use crate::version::Version;
 use casa_flight::Name;
+use casa_item::Version;
 use std::alloc::{AllocError, Global};
 use std::collections::BTreeMap;
 use std::marker::Model;

@@ -4,10 +4,10 @@ use Rattle.std.specs.Prelude.{◌↔◌, IsTrue, MatchOption}
 use Rattle.std.specs.Option.{option_map}
 use Rattle.casa_flight.specs.Good.{AreInOrder}
 use Rattle.casa_footprint.specs.Items.{ItemName, the_clock, the_catalogue, a_row, a_list, Content, contents}
-use Rattle.casa_table.specs.declared.item.Item.{Item}
+use Rattle.casa_item.specs.declared.item.Item.{Item}
 use Rattle.casa_view.specs.declared.items.Items.{Items}
 use Rattle.casa_view.specs.declared.view.View.{View}
-use Rattle.casa_table.specs.Versions.{Versions, content_as, shown_state}
+use Rattle.casa_item.specs.Versions.{Versions, content_as, shown_state}
 use Rattle.casa_view.specs.Standing.{StandsWell, standing}
 use Rattle.casa_view.specs.Board.{versions}
 use Rattle.casa_table.specs.Same.{same_version}

@@ -1,9 +1,9 @@
 -- the versions of an empty board
 use Rattle.std.proofs.Common.{◌≡◌, ℕ, [], refl, ap, ◌∙◌, None}
 use Rattle.casa_footprint.specs.Items.{ItemName, the_clock, the_catalogue, a_row, a_list}
-use Rattle.casa_table.specs.declared.item.Item.{Item}
-use Rattle.casa_table.specs.declared.item.Item.TheVariants.{Clock, Catalogue}
-use Rattle.casa_table.specs.Versions.{Versions, measures, moment_of, regulations_of, shown_state, stamp_at, list_at}
+use Rattle.casa_item.specs.declared.item.Item.{Item}
+use Rattle.casa_item.specs.declared.item.Item.TheVariants.{Clock, Catalogue}
+use Rattle.casa_item.specs.Versions.{Versions, measures, moment_of, regulations_of, shown_state, stamp_at, list_at}
 use Rattle.casa_view.specs.Standing.{standing, opening}
 
 module _ {V : Type 0} (item_of : V → Item) (number : V → ℕ) (vs : Versions V) (clock_is : item_of vs.clock ≡ Clock 0)

@@ -5,8 +5,8 @@ use Rattle.std.specs.Option.{option_map}
 use Rattle.casa_flight.specs.declared.row.Row.{Row}
 use Rattle.casa_flight.specs.Text.{Text, at_name}
 use Rattle.casa_footprint.specs.Items.{ItemName, a_row, Content}
-use Rattle.casa_table.specs.declared.item.Item.{Item}
-use Rattle.casa_table.specs.Versions.{Versions, IsOrderly, row_of, content_as}
+use Rattle.casa_item.specs.declared.item.Item.{Item}
+use Rattle.casa_item.specs.Versions.{Versions, IsOrderly, row_of, content_as}
 use Rattle.casa_view.specs.Change.{is_absence, IsApplied}
 
 there : (o : Option Row) → not (is_some o) ≡ false → IsSome o

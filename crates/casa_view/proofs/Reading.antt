@@ -10,11 +10,11 @@ use Rattle.casa_flight.specs.Good.{AreInOrder}
 use Rattle.casa_laws.proofs.Kept.{at-kept}
 use Rattle.casa_footprint.specs.Items.{ItemName, the_clock, the_catalogue, a_row, a_list}
 use Rattle.casa_footprint.specs.Items.{Content, moment, regulations, row_or_none, list_or_none}
-use Rattle.casa_table.specs.declared.item.Item.{Item}
-use Rattle.casa_table.specs.declared.item.Item.TheVariants.{Clock, Catalogue, Row as RowOf, List as ListOf}
+use Rattle.casa_item.specs.declared.item.Item.{Item}
+use Rattle.casa_item.specs.declared.item.Item.TheVariants.{Clock, Catalogue, Row as RowOf, List as ListOf}
 use Rattle.casa_view.specs.declared.view.View.{View}
-use Rattle.casa_table.specs.Versions.{Versions, shown_state, content_as, moment_of, regulations_of}
-use Rattle.casa_table.specs.Versions.{row_of as row_of_item, list_of}
+use Rattle.casa_item.specs.Versions.{Versions, shown_state, content_as, moment_of, regulations_of}
+use Rattle.casa_item.specs.Versions.{row_of as row_of_item, list_of}
 use Rattle.casa_view.specs.View.{seen, shown}
 use Rattle.casa_view.specs.Shown.{catalogue_of, clock_shown, catalogue_shown, row_shown, list_shown}
 

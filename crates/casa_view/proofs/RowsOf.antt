@@ -14,8 +14,8 @@ use Rattle.casa_flight.specs.Listing.{kept}
 use Rattle.casa_flight.specs.Good.{AreInOrder}
 use Rattle.casa_flight.proofs.Entries.{sorted-put}
 use Rattle.casa_laws.proofs.Kept.{set_at, kept-put, kept-without}
-use Rattle.casa_table.specs.declared.item.Item.{Item}
-use Rattle.casa_table.specs.Versions.{row_of}
+use Rattle.casa_item.specs.declared.item.Item.{Item}
+use Rattle.casa_item.specs.Versions.{row_of}
 use Rattle.casa_table.specs.Flights.{rows_of, rows_named}
 use Rattle.casa_table.specs.Laid.{with_value, laid}
 use Rattle.casa_named.specs.Overlaid.{overlaid, present}

@@ -5,7 +5,7 @@ use Rattle.std.specs.Option.{option_map}
 use Rattle.casa_flight.specs.Text.{Text, at_name}
 use Rattle.casa_footprint.specs.Items.{the_clock, the_catalogue, a_row, a_list}
 use Rattle.casa_view.specs.declared.view.View.{View}
-use Rattle.casa_table.specs.Versions.{Versions}
+use Rattle.casa_item.specs.Versions.{Versions}
 use Rattle.casa_view.specs.View.{seen_in, IsTaken}
 use Rattle.casa_view.specs.Taking.{named}
 

@@ -12,10 +12,10 @@ use Rattle.casa_flight.specs.Good.{AreInOrder}
 use Rattle.casa_flight.proofs.Entries.{text_cmp}
 use Rattle.casa_footprint.specs.Items.{ItemName, the_clock, the_catalogue, a_row, a_list, Content, moment, regulations}
 use Rattle.casa_footprint.specs.Items.{row_or_none, list_or_none}
-use Rattle.casa_table.specs.declared.item.Item.{Item}
+use Rattle.casa_item.specs.declared.item.Item.{Item}
 use Rattle.casa_table.specs.Laid.{laid}
-use Rattle.casa_table.specs.Versions.{Versions, IsInOrder, moment_of, regulations_of, content_as}
-use Rattle.casa_table.specs.Versions.{version_at}
+use Rattle.casa_item.specs.Versions.{Versions, IsInOrder, moment_of, regulations_of, content_as}
+use Rattle.casa_item.specs.Versions.{version_at}
 use Rattle.casa_view.specs.Change.{is_absence, IsApplied}
 use Rattle.casa_answer.specs.Sight.{Written, says}
 use Rattle.casa_view.specs.Next.{AreAlike, NextOne, NextRow, NextList}

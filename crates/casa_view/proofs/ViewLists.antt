@@ -4,8 +4,8 @@ use Rattle.std.specs.Option.{option_map, option_and_then, option_flatten}
 use Rattle.std.specs.Ordering.{is_eq}
 use Rattle.casa_flight.specs.Text.{Text, at_name}
 use Rattle.casa_flight.proofs.Entries.{text_cmp}
-use Rattle.casa_table.specs.declared.item.Item.{Item}
-use Rattle.casa_table.specs.Versions.{list_of}
+use Rattle.casa_item.specs.declared.item.Item.{Item}
+use Rattle.casa_item.specs.Versions.{list_of}
 use Rattle.casa_view.specs.declared.view.Part.{Part}
 use Rattle.casa_view.specs.declared.view.Part.TheVariants.{All, Named}
 use Rattle.casa_view.specs.View.{seen_in}

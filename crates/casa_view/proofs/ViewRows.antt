@@ -4,10 +4,10 @@ use Rattle.std.specs.Option.{option_map, option_and_then}
 use Rattle.casa_flight.specs.Text.{Text, at_name}
 use Rattle.casa_flight.specs.Good.{AreInOrder}
 use Rattle.casa_laws.proofs.Kept.{at-kept, sorted-kept}
-use Rattle.casa_table.specs.declared.item.Item.{Item}
+use Rattle.casa_item.specs.declared.item.Item.{Item}
 use Rattle.casa_view.specs.declared.view.Part.{Part}
 use Rattle.casa_view.specs.declared.view.Part.TheVariants.{All, Named}
-use Rattle.casa_table.specs.Versions.{row_of}
+use Rattle.casa_item.specs.Versions.{row_of}
 use Rattle.casa_view.specs.View.{seen_in}
 use Rattle.casa_table.specs.Flights.{row_named}
 use Rattle.casa_view.specs.Shown.{IsInOrder, rows_in}

@@ -5,9 +5,9 @@ use Rattle.std.specs.Option.{option_map}
 use Rattle.casa_flight.specs.declared.call.Call.{Call}
 use Rattle.casa_flight.specs.Good.{AreInOrder}
 use Rattle.casa_footprint.specs.Items.{ItemName, contents}
-use Rattle.casa_table.specs.declared.item.Item.{Item}
+use Rattle.casa_item.specs.declared.item.Item.{Item}
 use Rattle.casa_view.specs.declared.view.View.{View}
-use Rattle.casa_table.specs.Versions.{Versions, version_at, content_as, shown_state}
+use Rattle.casa_item.specs.Versions.{Versions, version_at, content_as, shown_state}
 use Rattle.casa_view.specs.Standing.{StandsWell, standing}
 use Rattle.casa_view.specs.View.{shown, IsTaken, IsFor, IsCurrent, Shows}
 use Rattle.casa_view.specs.Taking.{IsRead}

@@ -31,11 +31,11 @@ use Rattle.casa_laws.proofs.Kept.{Above, at_above, at-kept}
 use Rattle.casa_footprint.specs.Items.{ItemName, the_clock, the_catalogue, a_row, a_list}
 use Rattle.casa_footprint.specs.Footprint.{reads, is_subject, is_list_of, governs, is_forced}
 use Rattle.casa_footprint.proofs.Catalogue.{at-catalogue}
-use Rattle.casa_table.specs.declared.item.Item.{Item}
+use Rattle.casa_item.specs.declared.item.Item.{Item}
 use Rattle.casa_view.specs.declared.view.View.{View}
-use Rattle.casa_table.specs.Versions.{Versions, version_at, regulations_of, row_of, list_at, shown_state}
+use Rattle.casa_item.specs.Versions.{Versions, version_at, regulations_of, row_of, list_at, shown_state}
 use Rattle.casa_view.specs.Standing.{StandsWell, standing}
-use Rattle.casa_table.specs.Crossed.{meets}
+use Rattle.casa_item.specs.Crossed.{meets}
 use Rattle.casa_view.specs.View.{IsTaken}
 use Rattle.casa_view.specs.Taking.{meets_if, meets_either, is_of, named, row_at, plan_at, governing_at, has_forced}
 use Rattle.casa_view.specs.Taking.{forced_at, governs_forced_at, extends_in, read_by_rates, IsRead}

@@ -1,9 +1,9 @@
 -- boards with the same versions
 use Rattle.std.proofs.Common.{◌≡◌, ℕ, ◌↔◌, Bool, sym, ap, subst, Option}
 use Rattle.casa_footprint.specs.Items.{ItemName, Content}
-use Rattle.casa_table.specs.declared.item.Item.{Item}
+use Rattle.casa_item.specs.declared.item.Item.{Item}
 use Rattle.casa_view.specs.declared.view.View.{View}
-use Rattle.casa_table.specs.Versions.{Versions}
+use Rattle.casa_item.specs.Versions.{Versions}
 use Rattle.casa_view.specs.Standing.{standing}
 use Rattle.casa_view.specs.Change.{IsApplied}
 use Rattle.casa_view.specs.View.{IsCurrent}

@@ -23,9 +23,9 @@ use Rattle.casa_footprint.specs.Items.{row_or_none, list_or_none, contents}
 use Rattle.casa_footprint.specs.Footprint.{writes}
 use Rattle.casa_footprint.specs.Stamps.{is_absent_row}
 use Rattle.casa_footprint.proofs.EachCall.{spares}
-use Rattle.casa_table.specs.declared.item.Item.{Item}
-use Rattle.casa_table.specs.Versions.{Versions, moment_of, regulations_of, row_of, list_of, content_as, measures}
-use Rattle.casa_table.specs.Versions.{content_at, stamp_at, list_at, shown_state}
+use Rattle.casa_item.specs.declared.item.Item.{Item}
+use Rattle.casa_item.specs.Versions.{Versions, moment_of, regulations_of, row_of, list_of, content_as, measures}
+use Rattle.casa_item.specs.Versions.{content_at, stamp_at, list_at, shown_state}
 use Rattle.casa_view.specs.Standing.{Standing, StandsWell, standing, stamp_after, after}
 use Rattle.casa_footprint.specs.Change.{IsChange}
 use Rattle.casa_view.specs.Change.{is_absence, IsApplied}

@@ -4,9 +4,9 @@ use Rattle.std.specs.Global.{Global}
 use Rattle.std.specs.declared.sync.Arc.{Arc}
 use Rattle.std.specs.Arc.{arc_value}
 use Rattle.casa_flight.specs.declared.regulation.Regulation.{Regulation}
-use Rattle.casa_table.specs.declared.item.Item.{Item}
+use Rattle.casa_item.specs.declared.item.Item.{Item}
 use Rattle.casa_view.specs.declared.items.Items.{Items}
-use Rattle.casa_table.specs.Versions.{Versions, regulations_of}
+use Rattle.casa_item.specs.Versions.{Versions, regulations_of}
 
 -- the versions of all items, and those to which the next change turns
 abbrev pub versions : {V : Type 0} → Items V → Versions V

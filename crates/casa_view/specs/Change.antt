@@ -1,7 +1,7 @@
 use Rattle.std.specs.Prelude.{◌≡◌, ℕ, Bool, true, false, not, is_some, Option, None, Some, if◌then◌else◌}
 use Rattle.casa_footprint.specs.Items.{ItemName, Content, moment, regulations, row_or_none, list_or_none}
-use Rattle.casa_table.specs.declared.item.Item.{Item}
-use Rattle.casa_table.specs.Versions.{Versions, IsInOrder, version_at, content_at, stamp_at}
+use Rattle.casa_item.specs.declared.item.Item.{Item}
+use Rattle.casa_item.specs.Versions.{Versions, IsInOrder, version_at, content_at, stamp_at}
 
 -- whether what is said is that a row is absent
 abbrev pub is_absence : Content → Bool

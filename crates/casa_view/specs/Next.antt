@@ -3,8 +3,8 @@ use Rattle.std.specs.List.{AllZip}
 use Rattle.casa_flight.specs.declared.row.Row.{Row}
 use Rattle.casa_flight.specs.Text.{Text}
 use Rattle.casa_flight.specs.Listing.{Listing}
-use Rattle.casa_table.specs.declared.item.Item.{Item}
-use Rattle.casa_table.specs.Versions.{row_of, list_of}
+use Rattle.casa_item.specs.declared.item.Item.{Item}
+use Rattle.casa_item.specs.Versions.{row_of, list_of}
 
 -- the same names in the same order, and under each a pair that goes together
 abbrev pub AreAlike : {X Y : Type 0} → (X → Y → Type 0) → List (Text × X) → List (Text × Y) → Type 0

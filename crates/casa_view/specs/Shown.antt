@@ -6,12 +6,12 @@ use Rattle.casa_flight.specs.Text.{Text}
 use Rattle.casa_flight.specs.Good.{AreInOrder}
 use Rattle.casa_flight.specs.Listing.{Listing}
 use Rattle.casa_footprint.specs.Items.{ItemName, the_clock, the_catalogue, a_row, a_list}
-use Rattle.casa_table.specs.declared.item.Item.{Item}
-use Rattle.casa_table.specs.declared.item.Item.TheVariants.{Clock, Catalogue, Row as RowOf, List as ListOf}
+use Rattle.casa_item.specs.declared.item.Item.{Item}
+use Rattle.casa_item.specs.declared.item.Item.TheVariants.{Clock, Catalogue, Row as RowOf, List as ListOf}
 use Rattle.casa_view.specs.declared.view.View.{View}
 use Rattle.casa_view.specs.declared.view.Part.{Part}
 use Rattle.casa_view.specs.declared.view.Part.TheVariants.{All, Named}
-use Rattle.casa_table.specs.Versions.{moment_of, row_of, list_of}
+use Rattle.casa_item.specs.Versions.{moment_of, row_of, list_of}
 use Rattle.casa_view.specs.View.{seen}
 use Rattle.casa_table.specs.Flights.{rows_of, rows_named}
 

@@ -12,8 +12,8 @@ use Rattle.casa_flight.specs.Good.{IsGood}
 use Rattle.casa_footprint.specs.Items.{ItemName, a_row}
 use Rattle.casa_footprint.specs.Footprint.{writes}
 use Rattle.casa_footprint.specs.Stamps.{is_absent_row}
-use Rattle.casa_table.specs.declared.item.Item.{Item}
-use Rattle.casa_table.specs.Versions.{Versions, regulations_of, shown_state, list_at, stamp_at}
+use Rattle.casa_item.specs.declared.item.Item.{Item}
+use Rattle.casa_item.specs.Versions.{Versions, regulations_of, shown_state, list_at, stamp_at}
 
 -- how a board stands: the state that it shows, the catalogue and the lists that it keeps of that, and the stamps
 pub record Standing : Type 0 where

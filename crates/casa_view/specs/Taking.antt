@@ -13,10 +13,10 @@ use Rattle.casa_flight.specs.Listing.{Listing}
 use Rattle.casa_footprint.specs.Items.{ItemName, the_clock, the_catalogue, a_row, a_list}
 use Rattle.casa_footprint.specs.Finding.{by_id}
 use Rattle.casa_footprint.specs.Footprint.{reads, is_forced}
-use Rattle.casa_table.specs.declared.item.Item.{Item}
+use Rattle.casa_item.specs.declared.item.Item.{Item}
 use Rattle.casa_view.specs.declared.view.View.{View}
-use Rattle.casa_table.specs.Crossed.{meets}
-use Rattle.casa_table.specs.Versions.{Versions, row_of, list_at, shown_state}
+use Rattle.casa_item.specs.Crossed.{meets}
+use Rattle.casa_item.specs.Versions.{Versions, row_of, list_at, shown_state}
 use Rattle.casa_view.specs.Standing.{StandsWell, standing}
 use Rattle.casa_view.specs.View.{IsTaken}
 

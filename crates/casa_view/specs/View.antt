@@ -6,12 +6,12 @@ use Rattle.casa_flight.specs.Text.{Text, at_name}
 use Rattle.casa_flight.specs.Good.{IsGood}
 use Rattle.casa_footprint.specs.Items.{ItemName, the_clock, the_catalogue, a_row, a_list, Content, contents}
 use Rattle.casa_footprint.specs.Footprint.{reads}
-use Rattle.casa_table.specs.declared.item.Item.{Item}
+use Rattle.casa_item.specs.declared.item.Item.{Item}
 use Rattle.casa_view.specs.declared.view.View.{View}
 use Rattle.casa_view.specs.declared.view.Part.{Part}
 use Rattle.casa_view.specs.declared.view.Part.TheVariants.{All, Named}
 use Rattle.casa_table.specs.Same.{same_version}
-use Rattle.casa_table.specs.Versions.{Versions, version_at, content_as}
+use Rattle.casa_item.specs.Versions.{Versions, version_at, content_as}
 
 -- the version that a view has under a name, or that there is none; it may not hold the name
 abbrev pub seen_in : {K V I : Type 0} → Part K V I → Text → Option (Option V)

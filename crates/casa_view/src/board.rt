@@ -1,7 +1,7 @@
 ghost use Rattle.std.specs.Prelude.{◌≡◌, IfOk, refl};
 ghost use Rattle.std.proofs.Props.{props};
 ghost use Rattle.casa_view.specs.Board.{versions};
-ghost use Rattle.casa_table.specs.Versions.{IsOrderly};
+ghost use Rattle.casa_item.specs.Versions.{IsOrderly};
 
 use crate::change::Change;
 use crate::contents::{clock_in, list_in, regulations_in, shared_list_in};

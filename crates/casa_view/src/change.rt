@@ -155,7 +155,7 @@ impl Model for WrittenRow {
     ghost use Rattle.std.specs.Option.{option_and_then};
     ghost use Rattle.std.specs.Arc.{arc_value};
     ghost use Rattle.casa_flight.specs.declared.row.Row.{Row};
-    ghost use Rattle.casa_table.specs.Versions.{row_of};
+    ghost use Rattle.casa_item.specs.Versions.{row_of};
 
     ghost Value = { Option Row };
 

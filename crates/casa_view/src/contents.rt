@@ -3,7 +3,7 @@
 ghost use Rattle.std.specs.Prelude.{◌≡◌};
 ghost use Rattle.std.specs.Option.{option_copied};
 ghost use Rattle.casa_view.specs.Shown.{catalogue_of};
-ghost use Rattle.casa_table.specs.Versions.{moment_of, regulations_of, list_of};
+ghost use Rattle.casa_item.specs.Versions.{moment_of, regulations_of, list_of};
 
 use casa_flight::Regulation;
 use casa_list::{SharedList, SlotList};

@@ -6,7 +6,7 @@ ghost use Rattle.casa_flight.specs.Good.{AreInOrder};
 ghost use Rattle.casa_answer.specs.Sight.{says};
 ghost use Rattle.casa_view.specs.Board.{versions, next_versions, catalogue_written};
 ghost use Rattle.casa_view.specs.Change.{IsApplied};
-ghost use Rattle.casa_table.specs.Versions.{IsInOrder, moment_of, regulations_of};
+ghost use Rattle.casa_item.specs.Versions.{IsInOrder, moment_of, regulations_of};
 ghost use Rattle.casa_view.specs.Next.{AreAlike, NextOne, NextRow, NextList};
 
 use crate::change::{Change, WrittenRow};

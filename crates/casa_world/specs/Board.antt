@@ -9,10 +9,10 @@ use Rattle.casa_footprint.specs.Items.{ItemName, a_row}
 use Rattle.casa_footprint.specs.Stamps.{state_after, stamp, IsUnmoved}
 use Rattle.casa_footprint.specs.Footprint.{reads}
 use Rattle.casa_footprint.specs.Written.{view_after, IsWritten}
-use Rattle.casa_table.specs.declared.item.Item.{Item}
+use Rattle.casa_item.specs.declared.item.Item.{Item}
 use Rattle.casa_view.specs.declared.view.View.{View}
 use Rattle.casa_table.specs.Same.{same_version}
-use Rattle.casa_table.specs.Versions.{Versions, version_at, stamp_at, row_of}
+use Rattle.casa_item.specs.Versions.{Versions, version_at, stamp_at, row_of}
 use Rattle.casa_view.specs.View.{seen, IsViewOf}
 use Rattle.casa_world.specs.declared.event.Event.{Event}
 use Rattle.casa_world.specs.declared.event.Outcome.{Outcome}

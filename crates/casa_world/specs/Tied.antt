@@ -16,10 +16,10 @@ use Rattle.casa_footprint.specs.Footprint.{reads}
 use Rattle.casa_footprint.specs.Stamps.{state_after, is_absent_row, stamp}
 use Rattle.casa_footprint.proofs.EachCall.{reads_same}
 use Rattle.casa_footprint.proofs.Written.{after_good, stamp_within, row_stamped}
-use Rattle.casa_table.specs.declared.item.Item.{Item}
+use Rattle.casa_item.specs.declared.item.Item.{Item}
 use Rattle.casa_view.specs.declared.view.View.{View}
 use Rattle.casa_table.specs.Same.{same_version}
-use Rattle.casa_table.specs.Versions.{Versions, IsOrderly, version_at, content_at, content_as, stamp_at, shown_state, row_of}
+use Rattle.casa_item.specs.Versions.{Versions, IsOrderly, version_at, content_at, content_as, stamp_at, shown_state, row_of}
 use Rattle.casa_view.specs.View.{seen, shown, Shows, IsViewOf, IsFor, IsCurrent}
 use Rattle.casa_view.specs.Change.{is_absence, IsApplied}
 use Rattle.casa_view.specs.Standing.{Standing, StandsWell, standing, opening, after}

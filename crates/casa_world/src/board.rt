@@ -2,7 +2,7 @@
 
 ghost use Rattle.std.proofs.Common.{subst, sym};
 ghost use Rattle.casa_view.specs.Board.{versions};
-ghost use Rattle.casa_table.specs.Versions.{Versions};
+ghost use Rattle.casa_item.specs.Versions.{Versions};
 ghost use Rattle.casa_world.specs.Board.{HasSameStamps, IsViewAfter, IsTied};
 ghost use Rattle.casa_world.specs.Tied.{present_view, current_unmoved, applied_tied};
 

@@ -3,7 +3,7 @@ use Rattle.std.specs.Option.{option_and_then}
 use Rattle.std.specs.Map.{keys_of}
 use Rattle.casa_flight.specs.Text.{Text, at_name}
 use Rattle.casa_flight.specs.Good.{AreInOrder}
-use Rattle.casa_table.specs.Versions.{row_of}
+use Rattle.casa_item.specs.Versions.{row_of}
 use Rattle.casa_table.specs.Asking.{times, AreOf, HaveRows}
 use Rattle.casa_table.proofs.Sequence.{inserted, set_in_order, one_put, rows_put, sorted-times}
 use Rattle.casa_table.proofs.asking.in_order.Goals as goal

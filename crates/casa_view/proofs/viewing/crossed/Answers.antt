@@ -1,10 +1,10 @@
 use Rattle.std.proofs.Common.{List, is_some, sym, ap, ◌∙◌, ℕ}
 use Rattle.std.proofs.lemmas.Result.{IfOk-weaker}
 use Rattle.casa_flight.specs.Text.{Text, at_name}
-use Rattle.casa_table.specs.declared.item.Item.{Item}
-use Rattle.casa_table.specs.Crossed.{meets}
-use Rattle.casa_table.specs.Versions.{regulations_of}
-use Rattle.casa_table.proofs.Listed.{crossed_meets}
+use Rattle.casa_item.specs.declared.item.Item.{Item}
+use Rattle.casa_item.specs.Crossed.{meets}
+use Rattle.casa_item.specs.Versions.{regulations_of}
+use Rattle.casa_item.proofs.Listed.{crossed_meets}
 use Rattle.casa_view.proofs.viewing.crossed.Goals as goal
 
 pub returns-in-Catalogue : goal.returns-in-Catalogue

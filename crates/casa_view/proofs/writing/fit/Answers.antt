@@ -1,7 +1,7 @@
 use Rattle.std.proofs.Common.{sym, refl, ◌∙◌, subst}
 use Rattle.std.proofs.lemmas.Result.{on_ok_weaker}
 use Rattle.casa_flight.specs.Good.{AreInOrder}
-use Rattle.casa_table.specs.Versions.{moment_of, regulations_of}
+use Rattle.casa_item.specs.Versions.{moment_of, regulations_of}
 use Rattle.casa_view.specs.Next.{AreAlike, NextOne, NextRow, NextList}
 use Rattle.casa_view.proofs.Turned.{turned}
 use Rattle.casa_view.proofs.writing.fit.Goals as goal

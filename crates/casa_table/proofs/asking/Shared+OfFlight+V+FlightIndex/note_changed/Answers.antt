@@ -1,6 +1,6 @@
 use Rattle.std.proofs.Common.{rules, ◌≡◌, []}
 use Rattle.std.specs.Map.{keys_of}
-use Rattle.casa_table.proofs.Gathered.{all_noted}
+use Rattle.casa_item.proofs.Gathered.{all_noted}
 use Rattle.casa_table.proofs.asking.Shared+OfFlight+V+FlightIndex.note_changed.Goals as goal
 
 pub returns : goal.returns

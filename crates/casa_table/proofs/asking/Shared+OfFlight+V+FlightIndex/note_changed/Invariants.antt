@@ -1,6 +1,6 @@
 use Rattle.std.proofs.Common.{◌≡◌}
 use Rattle.std.specs.Map.{keys_of}
-use Rattle.casa_table.proofs.Gathered.{gathered}
+use Rattle.casa_item.proofs.Gathered.{gathered}
 use Rattle.casa_table.specs.Asking.{answered}
 use Rattle.casa_table.proofs.asking.Shared+OfFlight+V+FlightIndex.note_changed.Given as goal
 

@@ -1,6 +1,6 @@
 use Rattle.std.proofs.Common.{rules, ◌≡◌, []}
 use Rattle.casa_table.specs.Passing.{names}
-use Rattle.casa_table.proofs.Gathered.{all_noted}
+use Rattle.casa_item.proofs.Gathered.{all_noted}
 use Rattle.casa_table.proofs.Over.{forward}
 use Rattle.casa_table.proofs.asking.Shared+OfFlight+V+FlightIndex.note_span.Goals as goal
 

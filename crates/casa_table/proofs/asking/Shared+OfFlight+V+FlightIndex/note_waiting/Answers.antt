@@ -1,7 +1,7 @@
 use Rattle.std.proofs.Common.{rules, ◌≡◌, [], ap, ◌∙◌}
 use Rattle.casa_table.specs.declared.asking.Question.TheVariants.{Due}
 use Rattle.casa_table.specs.Asking.{answered}
-use Rattle.casa_table.proofs.Gathered.{gathered, all_noted}
+use Rattle.casa_item.proofs.Gathered.{gathered, all_noted}
 use Rattle.casa_table.proofs.Due.{first_due, AreSorted, first_are_all}
 use Rattle.casa_table.proofs.asking.Shared+OfFlight+V+FlightIndex.note_waiting.Goals as goal
 

@@ -1,5 +1,5 @@
 use Rattle.std.proofs.Common.{◌≡◌}
-use Rattle.casa_table.proofs.Gathered.{gathered}
+use Rattle.casa_item.proofs.Gathered.{gathered}
 use Rattle.casa_table.specs.declared.asking.Question.TheVariants.{Due}
 use Rattle.casa_table.specs.Asking.{answered}
 use Rattle.casa_table.proofs.Due.{first_due}

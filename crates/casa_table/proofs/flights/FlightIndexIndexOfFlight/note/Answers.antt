@@ -1,6 +1,6 @@
 use Rattle.std.proofs.Common.{◌≡◌, Some, sym, ap, ◌∙◌}
 use Rattle.std.specs.Option.{option_copied}
-use Rattle.casa_table.specs.Versions.{row_of}
+use Rattle.casa_item.specs.Versions.{row_of}
 use Rattle.casa_table.specs.Flights.{row_where, row_named}
 use Rattle.casa_table.proofs.NotedFlights.{noted_indexed}
 use Rattle.casa_table.proofs.flights.FlightIndexIndexOfFlight.note.Goals as goal

@@ -1,5 +1,5 @@
 use Rattle.std.proofs.Common.{◌≡◌, rules, ap, ◌∙◌}
-use Rattle.casa_table.specs.declared.item.Item.TheVariants.{Clock, Catalogue}
+use Rattle.casa_item.specs.declared.item.Item.TheVariants.{Clock, Catalogue}
 use Rattle.casa_view.proofs.Opening.{opened}
 use Rattle.casa_view.proofs.board.Board.new.Goals as goal
 

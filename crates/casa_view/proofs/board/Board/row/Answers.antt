@@ -1,7 +1,7 @@
 use Rattle.std.proofs.Common.{ap, ◌∙◌, None, Some}
 use Rattle.std.specs.Option.{option_copied}
 use Rattle.casa_view.specs.Board.{versions}
-use Rattle.casa_table.specs.Versions.{row_of}
+use Rattle.casa_item.specs.Versions.{row_of}
 use Rattle.casa_view.proofs.Reading.{row-shown}
 use Rattle.casa_view.proofs.board.Board.row.Goals as goal
 

@@ -1,7 +1,7 @@
 use Rattle.std.proofs.Common.{sym, subst}
 use Rattle.casa_answer.specs.Sight.{says}
 use Rattle.casa_view.specs.Board.{versions, next_versions}
-use Rattle.casa_table.specs.Versions.{IsOrderly}
+use Rattle.casa_item.specs.Versions.{IsOrderly}
 use Rattle.casa_view.specs.Change.{IsApplied}
 use Rattle.casa_view.proofs.Orderly.{orderly_kept}
 use Rattle.casa_view.proofs.board.BoardWorld.apply.Goals as goal

@@ -1,6 +1,6 @@
 use Rattle.std.proofs.Common.{false}
 use Rattle.std.specs.Option.{option_copied}
-use Rattle.casa_table.specs.Versions.{regulations_of}
+use Rattle.casa_item.specs.Versions.{regulations_of}
 use Rattle.casa_view.specs.Taking.{meets_if}
 use Rattle.casa_view.proofs.Noted.{sees_last, sees_nothing}
 use Rattle.casa_view.proofs.items.Items.lists_of.Goals as goal

@@ -1,7 +1,7 @@
 use Rattle.std.proofs.Common.{Bool, true, false, sym, ap, ◌∙◌}
 use Rattle.casa_flight.specs.Text.{same_text}
-use Rattle.casa_table.specs.declared.item.Item.{Item}
-use Rattle.casa_table.specs.Versions.{regulations_of}
+use Rattle.casa_item.specs.declared.item.Item.{Item}
+use Rattle.casa_item.specs.Versions.{regulations_of}
 use Rattle.casa_view.specs.Board.{versions}
 use Rattle.casa_view.specs.Taking.{named, extends_in, read_by_rates}
 use Rattle.casa_view.proofs.WhatIsRead.{taken_same, all_by_rates, list_by_rates}

@@ -1,7 +1,7 @@
 use Rattle.std.proofs.Common.{◌||◌, Bool, true, false, None, Some, refl, ap, ◌∙◌}
 use Rattle.casa_flight.specs.Text.{Text, same_text}
 use Rattle.casa_footprint.specs.Items.{ItemName}
-use Rattle.casa_table.specs.Versions.{regulations_of}
+use Rattle.casa_item.specs.Versions.{regulations_of}
 use Rattle.casa_view.specs.Board.{versions}
 use Rattle.casa_view.specs.Taking.{meets_either, is_of, named, plan_at, governing_at, forced_at, governs_forced_at}
 use Rattle.casa_view.specs.Taking.{extends_in, read_by_rates}

@@ -1,0 +1,4 @@
+pub mod Gathered
+pub mod Crossed
+pub mod Copies
+pub mod Versions

@@ -1,0 +1,77 @@
+ghost use Rattle.std.specs.Prelude.{◌≡◌, IfOk};
+
+use crate::item::{Item, same_item};
+use crate::version::{Kept, Version};
+use std::alloc::AllocError;
+use std::marker::Model;
+use std::sync::Arc;
+
+/// A version in memory: its stamp with the item, which copies of the version share.
+pub struct Copied {
+    number: usize,
+    item: Arc<Item>,
+}
+
+impl Model for Copied {
+    ghost use Rattle.std.specs.Prelude.{ℕ};
+    ghost use Rattle.std.specs.Arc.{arc_value};
+    ghost use Rattle.casa_item.specs.declared.item.Item.{Item};
+
+    ghost Value = { ℕ × Item };
+
+    ghost view = { λ c. (c.number, arc_value c.item) };
+}
+
+impl Drop for Copied {
+    fn drop(self) {
+        let Copied { number: _, item: _ } = self;
+    }
+}
+
+impl Version for Copied {
+    ghost use Rattle.casa_item.specs.Copies.{is_same_copy, same_copy, same_copy_number};
+
+    ghost item_of = { λ c. c.1 };
+
+    ghost number = { λ c. c.0 };
+
+    ghost is_same = { is_same_copy };
+
+    fn item(&self) -> &Item {
+        &self.item
+    }
+
+    fn same(&self, other: &Copied) -> bool {
+        self.number == other.number && same_item(&self.item, &other.item)
+    }
+
+    fn try_clone(&self) -> Result<Copied, AllocError> {
+        Ok(Copied {
+            number: self.number,
+            item: Arc::try_clone(&self.item)?,
+        })
+    }
+
+    ghost same_itself = { same_copy };
+
+    ghost same_number = { same_copy_number };
+}
+
+/// The store that keeps each version in memory, as long as anyone has it.
+#[derive(Drop)]
+pub struct Copies;
+
+impl Copies {
+    /// The store. It takes no memory.
+    pub fn new() -> Copies {
+        Copies
+    }
+}
+
+impl Kept for Copies {
+    type Version = Copied;
+
+    fn put(&mut self, number: usize, item: Arc<Item>) -> Result<Copied, AllocError> {
+        Ok(Copied { number, item })
+    }
+}

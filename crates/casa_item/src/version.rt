@@ -1,0 +1,49 @@
+ghost use Rattle.std.specs.Prelude.{◌≡◌, ℕ, Bool, true, IfOk, IsTrue};
+ghost use Rattle.std.specs.Arc.{arc_value};
+ghost use Rattle.casa_item.specs.declared.item.Item.{Item};
+
+use crate::item::Item;
+use std::alloc::AllocError;
+use std::sync::Arc;
+
+/// A version of an item: its stamp, and what it takes to read the item.
+pub trait Version: Drop {
+    /// The item as it stands in this version.
+    ghost item_of: { Self → Item };
+
+    /// The stamp: the number of the entry that wrote the version, 0 for what the empty board has.
+    ghost number: { Self → ℕ };
+
+    /// The versions are equal.
+    ghost is_same: { Self → Self → Bool };
+
+    /// The item as it stands in this version.
+    fn item(&self) -> &Item
+        ensures { result.now ≡ item_of self.now };
+
+    /// Whether the versions are equal. Equal versions show equal contents.
+    fn same(&self, other: &Self) -> bool
+        ensures same { result ≡ is_same self.now other.now }
+        ensures shows { IsTrue result → item_of self.now ≡ item_of other.now };
+
+    /// The same version once more. `AllocError` where there is no memory for it.
+    fn try_clone(&self) -> Result<Self, AllocError>
+        ensures { IfOk result (λ version. version ≡ self.now) };
+
+    /// Each version is equal to itself.
+    ghost same_itself: { (v : Self) → is_same v v ≡ true };
+
+    /// Equal versions have the same stamp.
+    ghost same_number: { (v w : Self) → is_same v w ≡ true → number v ≡ number w };
+}
+
+/// A store that keeps versions of items.
+pub trait Kept: Drop {
+    type Version: Version;
+
+    /// Keeps an item as the entry with this number writes it, and gives the version. `AllocError` where there is no
+    /// memory for it.
+    fn put(&mut self, number: usize, item: Arc<Item>) -> Result<Self::Version, AllocError>
+        ensures item { IfOk result (λ version. Self.Version.item_of version ≡ arc_value item) }
+        ensures number { IfOk result (λ version. Self.Version.number version ≡ number) };
+}

@@ -1,6 +1,0 @@
-use Rattle.std.proofs.Common.{◌∙◌}
-use Rattle.casa_plan.proofs.Standing.{without_none}
-use Rattle.casa_plan.proofs.flight_lists.take_out.Goals as goal
-
-pub returns-in-None : goal.returns-in-None
-returns-in-None c = without_none c.args.list.now c.args.key.now (c.requires ∙ c.in-None.is)
