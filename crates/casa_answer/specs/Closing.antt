@@ -1,3 +1,4 @@
+-- inner contracts: a regulation that closes, by what a view shows
 use Rattle.std.specs.Prelude.{List, [], map, Option, None, Some}
 use Rattle.std.specs.List.{filter_map}
 use Rattle.casa_flight.specs.declared.call.Refusal.TheVariants.{NoRegulation}

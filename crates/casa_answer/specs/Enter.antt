@@ -1,3 +1,4 @@
+-- inner contracts: flights that enter, by what a view shows
 use Rattle.std.specs.Prelude.{ℕ, List, [], ◌∷◌, Option, None, Some}
 use Rattle.casa_flight.specs.declared.comp.Comp.{Comp}
 use Rattle.casa_flight.specs.declared.regulation.Regulation.{Regulation}

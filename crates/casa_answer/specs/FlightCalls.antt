@@ -1,3 +1,4 @@
+-- inner contracts: the answer to each call on one flight, by what a view shows
 use Rattle.std.specs.Prelude.{ℕ, ◌+◌, [], Bool, true, false, not, ◌&&◌, ◌||◌, nat_lt, Option, None, Some, is_some}
 use Rattle.casa_flight.specs.declared.call.Refusal.{Refusal}
 use Rattle.casa_flight.specs.declared.call.Refusal.TheVariants.{Duplicate, NoFlight, Late, AlreadyExempt}

@@ -1,3 +1,4 @@
+-- inner contracts: flights that become issued as the clock moves, by what a view shows
 use Rattle.std.specs.Prelude.{ℕ, List, [], ◌∷◌, Bool, true, false, nat_lt, Option, Some}
 use Rattle.std.specs.Option.{option_map, option_map_or, option_and_then}
 use Rattle.std.specs.List.{fold}

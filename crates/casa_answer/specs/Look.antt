@@ -1,3 +1,4 @@
+-- inner contracts: the answer to the question for a list, by what a view shows
 use Rattle.std.specs.Prelude.{ℕ, ◌+◌, List, [], length, map, Option, None, Some}
 use Rattle.std.specs.Option.{option_map_or}
 use Rattle.casa_grid.specs.Slots.{slots, window_of}

@@ -1,3 +1,4 @@
+-- inner contracts: new rates, by what a view shows
 use Rattle.std.specs.Prelude.{List, [], ◌∷◌, Bool, true, false, Option, None, Some}
 use Rattle.std.specs.Option.{option_map_or}
 use Rattle.casa_grid.specs.declared.period.Period.{Period}

@@ -1,3 +1,4 @@
+-- inner contracts: what a flight is offered and takes, and what is then written, by what a view shows
 use Rattle.std.specs.Prelude.{ℕ, ◌+◌, List, [], Bool, ◌||◌, Option, None, Some, is_some, if◌then◌else◌}
 use Rattle.std.specs.Option.{option_map_or}
 use Rattle.std.specs.List.{filter_map, cons_option}

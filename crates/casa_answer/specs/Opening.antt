@@ -1,3 +1,4 @@
+-- inner contracts: a regulation that opens, by what a view shows
 use Rattle.std.specs.Prelude.{List, length, Bool, true, false, nat_le, Option, None, Some}
 use Rattle.casa_grid.specs.declared.period.Period.{Period}
 use Rattle.casa_flight.specs.declared.call.Refusal.TheVariants.{DuplicateRegulation, TooManyRegulations}

@@ -1,3 +1,4 @@
+-- inner contracts: what a view shows to a planner, and when an answer by it is the right one
 use Rattle.std.specs.Prelude.{◌≡◌, ℕ, List, [], true, Option, None, Some, unwrap_or}
 use Rattle.std.specs.Option.{option_map, option_flatten}
 use Rattle.casa_flight.specs.declared.call.Call.{Call}

@@ -1,3 +1,4 @@
+-- inner contracts: an exchange of slots, by what a view shows
 use Rattle.std.specs.Prelude.{ℕ, Bool, true, false, Option, None, Some}
 use Rattle.std.specs.Option.{option_and_then}
 use Rattle.casa_flight.specs.declared.call.Refusal.TheVariants.{NoFlight, NotIssued, OtherRegulation, TooEarly}

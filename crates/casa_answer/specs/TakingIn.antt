@@ -1,3 +1,4 @@
+-- inner contracts: a regulation that takes flights in, by what a view shows
 use Rattle.std.specs.Prelude.{ℕ, List, [], map, Option, Some}
 use Rattle.std.specs.Option.{option_map, option_map_or}
 use Rattle.std.specs.List.{fold}

@@ -1,3 +1,4 @@
+-- inner contracts: delays, take-off times and messages, by what a view shows
 use Rattle.std.specs.Prelude.{ℕ, ◌+◌, List, Option, is_some}
 use Rattle.std.specs.Option.{option_map_or, option_and_then}
 use Rattle.std.specs.List.{filter_map}

@@ -1,3 +1,4 @@
+-- inner contracts: how a flight is written: its row, and how it stands in its lists
 use Rattle.std.specs.Prelude.{ℕ, List, [], ◌++◌, map, Option, None, Some, is_some, unwrap_or, if◌then◌else◌}
 use Rattle.std.specs.Option.{option_map, option_map_or}
 use Rattle.std.specs.List.{filter_map, fold}

@@ -37,3 +37,5 @@ mod versions;
 mod view_scripts;
 #[cfg(test)]
 mod view_text;
+#[cfg(test)]
+mod world;

@@ -1,3 +1,4 @@
+-- inner contracts: the most desks, and the tallies of a room's open desks
 use Rattle.std.specs.Prelude.{◌≡◌, ℕ, List, length, slice_index_or}
 use Rattle.casa_history.specs.Entries.{receipts_of, last_position}
 use Rattle.casa_history.specs.declared.entry.Entry.{Entry}

@@ -1,3 +1,4 @@
+-- inner contracts: the names of the faults of a commit
 use Rattle.std.specs.Prelude.{ℕ, List, Option, Some, None, Result, Ok, Err, codes}
 use Rattle.casa_commit.specs.declared.fault.DeskFault.{DeskFault}
 use Rattle.casa_commit.specs.declared.fault.DeskFault.TheVariants as desk

@@ -1,3 +1,4 @@
+-- to believe: legal histories, and the state to which one leads
 use Rattle.std.specs.Prelude.{◌≡◌, ℕ, ◌+◌, List, [], ◌∷◌, slice_get, Some, take}
 use Rattle.casa_history.specs.declared.entry.Entry.{Entry}
 

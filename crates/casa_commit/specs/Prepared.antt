@@ -1,3 +1,4 @@
+-- inner contracts: what a prepared answer has
 use Rattle.casa_commit.specs.declared.world.World.{Ghosts as WorldOf}
 use Rattle.casa_commit.specs.declared.prepared.Prepared.{Prepared}
 

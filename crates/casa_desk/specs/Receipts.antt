@@ -1,3 +1,4 @@
+-- to believe: what a desk has answered
 use Rattle.std.specs.Prelude.{List}
 use Rattle.casa_flight.specs.declared.call.Call.{Call}
 use Rattle.casa_flight.specs.declared.reply.Reply.{Reply}

@@ -1,3 +1,4 @@
+-- to believe: the delays of lists, and what an audit tells
 use Rattle.std.specs.Prelude.{◌≡◌, ℕ, List, length, map, filter, Bool, true, false}
 use Rattle.std.specs.List.{sum_by, slice_get}
 use Rattle.std.specs.Option.{option_map_or}

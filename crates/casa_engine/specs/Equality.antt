@@ -1,4 +1,4 @@
--- what desks of boards compare at the end is compared by equality
+-- for proofs: what desks of boards compare at the end is compared by equality
 use Rattle.std.specs.Prelude.{◌≡◌, ◌↔◌, true}
 use Rattle.std.proofs.Common.{subst}
 use Rattle.casa_flight.specs.declared.call.Call.{Call}

@@ -1,3 +1,4 @@
+-- to believe: what the passes of an engine's desks hold
 use Rattle.std.specs.Prelude.{ℕ, List, length, map}
 use Rattle.std.specs.List.{sum_by}
 use Rattle.casa_history.specs.declared.pass.Pass.{Pass}

@@ -1,3 +1,4 @@
+-- to believe: how a flight enters, is offered slots and is governed; how flights become issued
 use Rattle.std.specs.Prelude.{ℕ, ◌-◌, List, [], ◌∷◌, map, Bool, true, false, not, ◌&&◌, ◌||◌, nat_lt, Option, None, Some, is_some, if◌then◌else◌}
 use Rattle.std.specs.Option.{option_map_or, option_and_then}
 use Rattle.std.specs.List.{filter_map, best_of}

@@ -1,3 +1,4 @@
+-- to believe: flight plans
 use Rattle.std.specs.Prelude.{◌≡◌, ℕ, ◌+◌, ◌≤◌, List, All, AllPairs, length, Bool, true, false}
 use Rattle.casa_flight.specs.declared.plan.Crossing.{Crossing}
 use Rattle.casa_flight.specs.declared.plan.Sts.{Sts}

@@ -1,3 +1,4 @@
+-- to believe: which calls may free a flight, govern it or issue it
 use Rattle.std.specs.Prelude.{◌≡◌, ℕ, List, [], ◌∷◌, Bool, true, false, ◌||◌, None, Some, is_some}
 use Rattle.std.specs.Option.{option_map_or}
 use Rattle.casa_flight.specs.declared.call.Call.{Call}

@@ -1,3 +1,4 @@
+-- to believe: which messages can come of a call, and what each says
 use Rattle.std.specs.Prelude.{◌≡◌, ◌⊎◌, ℕ, ◌<◌, List, [], Bool, true, false, not, ◌&&◌, Some, is_some}
 use Rattle.std.specs.Option.{option_map_or}
 use Rattle.casa_flight.specs.declared.call.Call.{Call}

@@ -1,3 +1,4 @@
+-- to believe: what is wrong with a plan, in the order of the checks
 use Rattle.std.specs.Prelude.{ℕ, ◌+◌, List, [], ◌∷◌, length, Bool, false, not, ◌||◌, nat_lt, Option, None, Some, if◌then◌else◌, codes}
 use Rattle.std.specs.List.{list_any}
 use Rattle.casa_time.specs.Moment.{last_moment}

@@ -1,3 +1,4 @@
+-- to believe: replies: flights and lists as they are answered, and messages
 use Rattle.std.specs.Prelude.{ℕ, ◌+◌, List, length, map, Bool, true, false, ◌&&◌, ◌||◌, ◌==◌, nat_lt, Option, None, Some, is_some, if◌then◌else◌}
 use Rattle.std.specs.Option.{option_map_or}
 use Rattle.std.specs.List.{filter_map}

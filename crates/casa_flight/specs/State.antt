@@ -1,3 +1,4 @@
+-- to believe: the state, and what a flight is subject to
 use Rattle.std.specs.Prelude.{ℕ, List, [], map, Bool, false, ◌&&◌, ◌||◌, nat_le, nat_lt, Option, None, Some, if◌then◌else◌}
 use Rattle.std.specs.Option.{option_map_or, option_and_then}
 use Rattle.std.specs.List.{find}

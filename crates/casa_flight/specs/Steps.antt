@@ -1,3 +1,4 @@
+-- to believe: the calls, and what each does to the state
 use Rattle.std.specs.Prelude.{ℕ, ◌+◌, ◌-◌, List, length, map, Bool, true, false, not, ◌&&◌, ◌||◌, ◌==◌, nat_le, nat_lt, Option, None, Some, is_some, if◌then◌else◌}
 use Rattle.std.specs.Option.{option_map, option_map_or}
 use Rattle.std.specs.List.{filter_map}

@@ -1,3 +1,4 @@
+-- inner contracts: regulations that a plan crosses, and flights that are due, as they are found
 use Rattle.std.specs.Prelude.{ℕ, List, map, None, Some, if◌then◌else◌}
 use Rattle.std.specs.Option.{option_map}
 use Rattle.std.specs.List.{filter_map}

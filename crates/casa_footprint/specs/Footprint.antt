@@ -1,3 +1,4 @@
+-- to believe: which items a call reads and writes
 use Rattle.std.specs.Prelude.{List, Bool, true, false, ◌&&◌, ◌||◌, is_some}
 use Rattle.std.specs.Option.{option_map_or}
 use Rattle.std.specs.List.{list_any}

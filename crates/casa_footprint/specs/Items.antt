@@ -1,3 +1,4 @@
+-- to believe, in part (ItemName): the items of a state, and what each contains
 use Rattle.std.specs.Prelude.{◌≡◌, ℕ, List, Bool, true, false, Option}
 use Rattle.casa_flight.specs.declared.regulation.Regulation.{Regulation}
 use Rattle.casa_flight.specs.declared.row.Row.{Row}

@@ -1,3 +1,4 @@
+-- to believe: the stamp of an item: the number of the last entry that wrote it
 use Rattle.std.specs.Prelude.{◌≡◌, ℕ, ◌+◌, List, [], ◌∷◌, Bool, true, false, not, is_some, if◌then◌else◌}
 use Rattle.casa_flight.specs.declared.call.Call.{Call}
 use Rattle.casa_flight.specs.declared.reply.Reply.{Reply}

@@ -1,3 +1,4 @@
+-- to believe: whether an entry has written an item since
 use Rattle.std.specs.Prelude.{◌≡◌, ℕ, Some, List, ◌++◌, take, slice_get, true}
 use Rattle.casa_flight.specs.declared.call.Call.{Call}
 use Rattle.casa_flight.specs.declared.reply.Reply.{Reply}

@@ -1,3 +1,4 @@
+-- to believe: entries, receipts, and the receipts of a desk's entries
 use Rattle.std.specs.Prelude.{ℕ, ◌+◌, ◌-◌, ◌<◌, ◌==◌, Bool, if◌then◌else◌, Option, None, slice_get, List, [], ◌∷◌, filter, length, vec_len, vec_capacity}
 use Rattle.std.specs.Option.{option_map_or}
 use Rattle.casa_history.specs.declared.entry.Entry.{Entry}

@@ -1,3 +1,4 @@
+-- to believe: when a desk is settled
 use Rattle.std.specs.Prelude.{◌≡◌, ◌⊎◌, ℕ, ◌<◌, ◌==◌, Bool, Option, None, Some, List, [], ◌∷◌, filter, map}
 use Rattle.casa_history.specs.declared.entry.Entry.{Entry}
 use Rattle.casa_history.specs.declared.entry.Receipt.{Receipt}

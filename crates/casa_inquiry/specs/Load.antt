@@ -1,4 +1,4 @@
--- Demand and capacity of a regulation, step by step.
+-- to believe: demand and capacity of a regulation, step by step
 use Rattle.std.specs.Prelude.{ℕ, ◌+◌, ◌-◌, ◌*◌, List, [], ◌∷◌, ◌++◌, map, count_by, Bool, true, ◌&&◌, nat_le, nat_lt, min, max, None, Some}
 use Rattle.std.specs.List.{range_with_len}
 use Rattle.std.specs.Option.{option_map_or}

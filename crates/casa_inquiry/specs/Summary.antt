@@ -1,4 +1,4 @@
--- What regulations cost: their flights counted by how they stand in the lists, and the delays of those that are governed.
+-- to believe: what regulations cost: flights by how they stand in the lists, and the delays of the governed ones
 use Rattle.std.specs.Prelude.{ℕ, ◌-◌, ◌≤◌, ◌/◌, ◌==◌, ◌&&◌, List, length, map, filter, fold, max, Bool, true, false, not, is_some, Option, Some, None, if◌then◌else◌}
 use Rattle.std.specs.List.{flat_map, sum_by}
 use Rattle.casa_flight.specs.declared.reply.Kind.{Kind}

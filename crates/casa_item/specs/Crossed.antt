@@ -1,3 +1,4 @@
+-- inner contracts: the regulations of a catalogue, and those that a plan crosses
 use Rattle.std.specs.Prelude.{◌≡◌, List, [], ◌∷◌, Bool, not, ◌&&◌, is_some, ◌++◌, if◌then◌else◌}
 use Rattle.std.specs.Option.{option_map_or}
 use Rattle.std.specs.List.{filter, flat_map, list_any}

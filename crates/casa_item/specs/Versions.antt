@@ -1,3 +1,4 @@
+-- to believe: the versions of a board's items, and the state that they show
 use Rattle.std.specs.Prelude.{◌≡◌, ℕ, List, [], map, Option, None, Some, IsSome}
 use Rattle.std.specs.Option.{option_map, option_map_or, option_and_then}
 use Rattle.casa_flight.specs.declared.regulation.Regulation.{Regulation}

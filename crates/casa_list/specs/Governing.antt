@@ -1,3 +1,4 @@
+-- inner contracts: the flights that a regulation governs, as a list keeps them
 use Rattle.std.specs.Prelude.{ℕ, ◌≤◌, List, length, map, take, drop}
 use Rattle.std.specs.List.{All}
 use Rattle.casa_flight.specs.declared.comp.Comp.{Comp}

@@ -1,3 +1,4 @@
+-- inner contracts: how a flight of a list lies in memory
 use Rattle.std.specs.Prelude.{◌≡◌, ℕ, refl}
 use Rattle.casa_flight.specs.declared.reply.Kind.{Kind}
 use Rattle.casa_flight.specs.declared.reply.Kind.TheVariants.{Pre, Issued as IssuedKind, Forced as ForcedKind}

@@ -34,6 +34,23 @@ use std::marker::Model;
 /// The slot allocation list of one regulation: its grid, and how each flight that is subject to the regulation
 /// stands there.
 ///
+/// Two flights want the first slot, and the one that is planned earlier has it. `rt` is the runtime and `alloc` its
+/// allocator; `grid` has ten slots two minutes apart, from 36000 on:
+///
+/// ```rust
+/// let mut list = SlotList::new(alloc, grid).expect(&rt, "memory");
+/// let (a, b) = (Key::new(b"A").expect(&rt, "a key"), Key::new(b"B").expect(&rt, "a key"));
+/// for (key, eto) in [(a, 36_010), (b, 36_005)] {
+///     let eto = Moment::new(eto).expect(&rt, "a moment");
+///     if list.place_of(&key).is_none() {
+///         list.enter(Comp { eto, key }).expect(&rt, "memory");
+///     }
+/// }
+/// assert!(&rt; list.place_of(&b) == Some(Place::Slot(0)));
+/// assert!(&rt; list.place_of(&a) == Some(Place::Slot(1)));
+/// assert!(&rt; list.issue(&a) == Moment::new(36_120).ok());
+/// ```
+///
 /// Contracts see it as a regulation's profile and the stance of each flight, by keys; places follow from that.
 /// It keeps the competitors in their order with their places and the issued flights in theirs, in one row, the forced
 /// flights in theirs, and which slots issued flights block. Its flights are in the order of their keys: `grid`,

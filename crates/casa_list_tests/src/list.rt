@@ -3,9 +3,11 @@
 use crate::deeds::Deed::{Ask, Enter, Force, Hold, Issue, Leave, Read};
 use crate::deeds::{Step, follow};
 use crate::parts::{comp, key, moment, period, profile};
+use casa_flight::{Comp, Key};
 use casa_grid::Place::{Over, Slot};
-use casa_grid::{Grid, Period};
+use casa_grid::{Grid, Period, Place};
 use casa_list::{SlotList, Standing};
+use casa_time::Moment;
 use std::alloc::{AllocError, Global};
 use std::process::Abort;
 
@@ -285,4 +287,25 @@ fn a_refused_growth_leaves_the_slots(rt: HostRuntime) {
     let mut list = three_flights(&rt, rt.alloc());
     widen(&rt, rt.alloc(), &mut list);
     follow(&rt, &mut list, WIDER_SLOTS);
+}
+
+/// The example of the doc comment of `SlotList`: the two flights of the README.
+#[test]
+fn two_flights_want_one_slot(rt: HostRuntime) {
+    let alloc = rt.alloc();
+    let grid = grid(&rt, alloc, &[period(&rt, 36_000, 37_200, 30)]);
+    let mut list = SlotList::new(alloc, grid).expect(&rt, "memory");
+    let (a, b) = (
+        Key::new(b"A").expect(&rt, "a key"),
+        Key::new(b"B").expect(&rt, "a key"),
+    );
+    for (key, eto) in [(a, 36_010), (b, 36_005)] {
+        let eto = Moment::new(eto).expect(&rt, "a moment");
+        if list.place_of(&key).is_none() {
+            list.enter(Comp { eto, key }).expect(&rt, "memory");
+        }
+    }
+    assert!(&rt; list.place_of(&b) == Some(Place::Slot(0)));
+    assert!(&rt; list.place_of(&a) == Some(Place::Slot(1)));
+    assert!(&rt; list.issue(&a) == Moment::new(36_120).ok());
 }

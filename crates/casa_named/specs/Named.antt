@@ -1,3 +1,4 @@
+-- inner contracts: few values under names, as they are kept
 use Rattle.std.specs.Prelude.{◌≡◌, List, [], ◌∷◌, Option, None, Some}
 use Rattle.casa_flight.specs.Text.{Text}
 use Rattle.casa_flight.specs.Good.{AreInOrder}

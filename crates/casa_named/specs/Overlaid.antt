@@ -1,3 +1,4 @@
+-- inner contracts: values under names, with changes over them
 use Rattle.std.specs.Prelude.{List, [], ◌∷◌, map, Option, Some}
 use Rattle.casa_flight.specs.Text.{Text, put}
 

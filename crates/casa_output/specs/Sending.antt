@@ -1,3 +1,4 @@
+-- to believe: a count of bytes
 use Rattle.std.specs.Prelude.{ℕ, ◌^◌, ◌-◌, min}
 
 -- a count of bytes in 64 bits, which stays at its greatest value

@@ -1,3 +1,4 @@
+-- inner contracts: the flight of a row, as it comes over a regulation
 use Rattle.std.specs.Prelude.{ℕ, Bool, Option, None, if◌then◌else◌}
 use Rattle.std.specs.Option.{option_map}
 use Rattle.casa_flight.specs.declared.comp.Comp.{Comp}

@@ -1,3 +1,4 @@
+-- inner contracts: what becomes of a call
 use Rattle.casa_flight.specs.Steps.{Step, refused, leads}
 use Rattle.casa_plain.specs.declared.steps.Outcome.{Outcome}
 use Rattle.casa_plain.specs.declared.steps.Outcome.TheVariants.{Refused, Leads}

@@ -15,6 +15,22 @@ use std::marker::Model;
 
 /// The slow sequential allocator.
 ///
+/// A regulation is opened at LA, and a flight is filed that crosses it. `rt` is the runtime and `alloc` its allocator;
+/// `profile` has 30 flights an hour from 36000 to 37200:
+///
+/// ```rust
+/// let mut plain = Plain::new(alloc);
+/// let r1 = RegId::new(b"R1").expect(&rt, "an identifier");
+/// let la = Loc::new(b"LA").expect(&rt, "a location");
+/// plain.step(alloc, &Call::OpenReg(r1, la, profile)).expect(&rt, "memory");
+/// let eobt = Moment::new(30_000).expect(&rt, "08:20");
+/// let eto = Moment::new(36_010).expect(&rt, "10:00:10");
+/// let via = [Crossing { loc: la, eto }];
+/// let plan = Plan::new(alloc, b"A", eobt, 600, &via, Sts::Plain).expect(&rt, "a plan");
+/// let reply = plain.step(alloc, &Call::File(plan)).expect(&rt, "memory");
+/// assert!(&rt; matches!(&reply, Reply::Answered(Answer::Flight(a), _) if a.ctot == 30_600));
+/// ```
+///
 /// Contracts see it as the state of the definitions.
 #[derive(Drop, Debug)]
 pub struct Plain {

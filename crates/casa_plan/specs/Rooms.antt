@@ -1,3 +1,4 @@
+-- to believe: histories of one thread, and how a board stands after one
 use Rattle.std.specs.Prelude.{◌≡◌, ℕ, List, map, Some, slice_get, take}
 use Rattle.casa_flight.specs.declared.call.Call.{Call}
 use Rattle.casa_flight.specs.declared.comp.Assigned.{Assigned}

@@ -1,3 +1,4 @@
+-- inner contracts: a flight as its list shows it
 use Rattle.std.specs.Prelude.{None}
 use Rattle.casa_grid.specs.Profile.{end_of}
 use Rattle.casa_grid.specs.Slots.{slots, window_of}

@@ -1,3 +1,4 @@
+-- inner contracts: what a view of a board shows to a planner
 use Rattle.std.specs.Prelude.{[], Some, unwrap_or}
 use Rattle.casa_item.specs.declared.item.Item.{Item}
 use Rattle.casa_view.specs.declared.view.View.{View}

@@ -1,3 +1,4 @@
+-- inner contracts: flights that stand in a list by versions of their rows
 use Rattle.std.specs.Prelude.{List, []}
 use Rattle.std.specs.Option.{option_map_or}
 use Rattle.std.specs.List.{fold}

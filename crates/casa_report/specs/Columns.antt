@@ -1,4 +1,4 @@
--- Columns of a table: where a text stands in its width, and what a line has in each column.
+-- to believe: columns of a table: where a text stands in its width, and what a line has in each column
 use Rattle.std.specs.Prelude.{ℕ, ◌-◌, List, [], ◌∷◌, ◌++◌, map, length, replicate, codes, decimal, Option, Some, None}
 use Rattle.std.specs.List.{join_with_byte}
 use Rattle.casa_flight.specs.Text.{Text}

@@ -1,3 +1,4 @@
+-- to believe: the names of the faults of a report
 use Rattle.std.specs.Prelude.{ℕ, List, codes}
 use Rattle.casa_report.specs.declared.fault.ReportFault.{ReportFault}
 use Rattle.casa_report.specs.declared.fault.ReportFault.TheVariants.{WriteFailed, NoMemory}

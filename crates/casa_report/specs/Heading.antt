@@ -1,3 +1,4 @@
+-- to believe: the line above a table
 use Rattle.std.specs.Prelude.{[], ◌∷◌, ◌++◌, codes}
 use Rattle.jiff.specs.Words.{date_text}
 use Rattle.jiff_core.specs.declared.civil.date.Date.{Date}

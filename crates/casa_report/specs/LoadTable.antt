@@ -1,4 +1,4 @@
--- Demand and capacity of a regulation as a table with bars.
+-- to believe: demand and capacity of a regulation, as a table with bars
 use Rattle.std.specs.Prelude.{ℕ, ◌-◌, ◌*◌, ◌≤◌, List, [], ◌∷◌, ◌++◌, fold, min, max, replicate, codes, decimal, Option}
 use Rattle.std.specs.List.{flat_map, join_with_byte}
 use Rattle.std.specs.Option.{option_map_or}

@@ -1,4 +1,4 @@
--- What each regulation costs, as a table, and what all cost together.
+-- to believe: what each regulation costs, and all together, as a table
 use Rattle.std.specs.Prelude.{List, [], ◌∷◌, ◌++◌, codes, decimal}
 use Rattle.std.specs.List.{flat_map}
 use Rattle.jiff.specs.Words.{date_text}

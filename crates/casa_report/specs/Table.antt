@@ -1,4 +1,4 @@
--- A regulation's list as a table.
+-- to believe: a regulation's list, as a table
 use Rattle.std.specs.Prelude.{◌-◌, List, [], ◌∷◌, ◌++◌, codes, decimal}
 use Rattle.std.specs.List.{flat_map}
 use Rattle.casa_time.specs.Hhmm.{hhmm}

@@ -1,3 +1,4 @@
+-- to believe: a text of which only the beginning was written
 use Rattle.std.specs.Prelude.{ℕ, ◌<◌, List, length, take, Option}
 use Rattle.std.specs.Io.KnownBytes.{Appends}
 

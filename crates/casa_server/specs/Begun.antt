@@ -1,4 +1,4 @@
--- connections that a server has begun with
+-- inner contracts: connections that a server has begun with
 use Rattle.casa_server.specs.declared.begun.Begun.{Begun}
 use Rattle.casa_server.specs.declared.begun.Begun.TheVariants.{Refused, Session}
 

@@ -1,4 +1,4 @@
--- the names of a server's and a timer's faults, as they are printed
+-- to believe: the names of a server's and a timer's faults, as they are printed
 use Rattle.std.specs.Prelude.{ℕ, List, codes}
 use Rattle.casa_server.specs.declared.fault.ServeFault.{ServeFault}
 use Rattle.casa_server.specs.declared.fault.ServeFault.TheVariants as serve

@@ -1,4 +1,4 @@
--- what becomes of the connections that a server accepts
+-- to believe: what becomes of the connections that a server accepts
 use Rattle.std.specs.Prelude.{◌≡◌, ℕ, List, [], length, map, take, Bool, true, Option, Result, is_err, IfSome, All, ⊤}
 use Rattle.std.specs.List.{count_by}
 use Rattle.casa_flight.specs.declared.call.Call.{Call}

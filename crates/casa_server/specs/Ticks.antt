@@ -1,4 +1,4 @@
--- a timer: a clock's moments, and the ticks that were accepted
+-- to believe: a timer: a clock's moments, and the ticks that were accepted
 use Rattle.std.specs.Prelude.{◌≡◌, ◌≤◌, ℕ, List, [], ◌∷◌, ◌++◌, map, take, length, Bool, true, false, Option, None, Some, IfSome}
 use Rattle.std.specs.List.{count_by}
 use Rattle.std.specs.Io.KnownBytes.{Consumes, IsAtEnd}

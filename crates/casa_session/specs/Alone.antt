@@ -1,4 +1,4 @@
--- a desk that is alone on a board, and how a session over it ends
+-- to believe: how a session over a desk ends that is alone on a board
 use Rattle.std.specs.Prelude.{◌≡◌, ◌⊎◌, ℕ, ◌<◌, List, ◌++◌, length, take, true, false, Option, Result, Ok, Err, IfSome}
 use Rattle.std.specs.Io.KnownBytes.{Appends, Consumes}
 use Rattle.casa_flight.specs.declared.call.Call.{Call}

@@ -1,4 +1,4 @@
--- the names of a session's faults, as they are written
+-- to believe: the names of a session's faults, as they are written
 use Rattle.std.specs.Prelude.{ℕ, List, codes}
 use Rattle.casa_session.specs.declared.fault.SessionFault.{SessionFault}
 use Rattle.casa_session.specs.declared.fault.SessionFault.TheVariants.{LineTooLong, ReadFailed, WriteFailed, ForeignPass, NoMemory}

@@ -1,4 +1,4 @@
--- the lines of an input
+-- to believe: the lines of an input
 use Rattle.std.specs.Prelude.{ℕ, ◌≡◌, ◌+◌, ◌==◌, List, [], ◌∷◌, ◌++◌, drop, length, Bool, true, false, nat_lt, if◌then◌else◌}
 use Rattle.std.specs.List.{list_any}
 

@@ -1,4 +1,4 @@
--- what the sequential allocator answers to calls, one after the other
+-- to believe: what the sequential allocator answers to calls, one after the other
 use Rattle.std.specs.Prelude.{ℕ, ◌+◌, List, [], ◌∷◌, fold, length, map}
 use Rattle.casa_flight.specs.declared.call.Call.{Call}
 use Rattle.casa_flight.specs.declared.reply.Reply.{Reply}

@@ -1,4 +1,4 @@
--- how the reply to a line is made, and how replies are gathered and written
+-- inner contracts: how the reply to a line is made, and how replies are gathered and written
 use Rattle.std.specs.Prelude.{◌≡◌, ◌⊎◌, ℕ, ◌+◌, ◌<◌, List, [], ◌++◌, length, take, Option, Result}
 use Rattle.std.specs.Io.KnownBytes.{Appends}
 use Rattle.casa_flight.specs.declared.call.Call.{Call}

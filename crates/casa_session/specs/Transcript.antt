@@ -1,4 +1,4 @@
--- what a session writes for what it reads, whatever the desk answers
+-- to believe: what a session writes for what it reads, whatever the desk answers
 use Rattle.std.specs.Prelude.{◌≡◌, ℕ, ◌+◌, ◌<◌, List, [], ◌∷◌, ◌++◌, ◌⊎◌, map, length, take, drop, true, false, Option, Result, Ok, Err, IfSome, if◌then◌else◌}
 use Rattle.std.specs.Io.KnownBytes.{Appends, Consumes}
 use Rattle.casa_flight.specs.declared.call.Call.{Call}

@@ -30,6 +30,19 @@ const DESK: u32 = 0;
 /// A desk that is alone on a board, so that each call is answered as the sequential allocator does after the calls
 /// before it.
 ///
+/// A line opens a regulation. `rt` is the runtime and `alloc` its allocator:
+///
+/// ```rust
+/// let mut lone = Lone::new(alloc).expect(&rt, "memory");
+/// let line =
+///     r#"{"cmd":"open","reg":"R1","loc":"LA","periods":[{"from":36000,"to":37200,"rate":30}]}"#;
+/// let mut input = line.as_bytes();
+/// let mut output = Vec::new(alloc);
+/// assert!(&rt; lone.run(alloc, &mut input, &mut output) == Ok(1));
+/// assert!(&rt; output.as_slice() == "{\"done\":true,\"msgs\":[],\"n\":1}\n".as_bytes());
+/// assert!(&rt; lone.catalogue().len() == 1 && lone.clock().secs() == 0);
+/// ```
+///
 /// Contracts see it as the calls that it has answered.
 pub struct Lone {
     room: Room<Board<Copies>>,

@@ -48,3 +48,17 @@ fn a_refused_growth_ends_a_session(rt: HostRuntime) {
     let ended = lone.run(alloc, &mut input, &mut output);
     ends_after_whole_replies(&rt, ended, output.as_slice(), 5, OUTPUT);
 }
+
+/// The example of the doc comment of `Lone`: the first line of the README.
+#[test]
+fn a_line_is_answered(rt: HostRuntime) {
+    let alloc = rt.alloc();
+    let mut lone = Lone::new(alloc).expect(&rt, "memory");
+    let line =
+        r#"{"cmd":"open","reg":"R1","loc":"LA","periods":[{"from":36000,"to":37200,"rate":30}]}"#;
+    let mut input = line.as_bytes();
+    let mut output = Vec::new(alloc);
+    assert!(&rt; lone.run(alloc, &mut input, &mut output) == Ok(1));
+    assert!(&rt; output.as_slice() == "{\"done\":true,\"msgs\":[],\"n\":1}\n".as_bytes());
+    assert!(&rt; lone.catalogue().len() == 1 && lone.clock().secs() == 0);
+}

@@ -1,3 +1,4 @@
+-- inner contracts: how many issued flights lie in each slot
 use Rattle.std.specs.Prelude.{ℕ, ◌+◌, ◌-◌, List, map, Option, None, Some, count_by}
 use Rattle.std.specs.List.{slice_get, filter_map, slice_set}
 use Rattle.std.specs.Option.{option_map_or}

@@ -1,3 +1,4 @@
+-- inner contracts: the number by which a place is kept
 use Rattle.std.specs.Prelude.{◌≡◌, ℕ, ◌≤◌, ◌==◌, true, false, refl, if◌then◌else◌}
 use Rattle.std.proofs.Common.{sym}
 use Rattle.std.proofs.lemmas.Bool.{eqb-true}

@@ -1,3 +1,4 @@
+-- inner contracts: rows by their versions, and indexes of flights
 use Rattle.std.specs.Prelude.{◌≡◌, List, Bool, true, false, Option, None, Some, if◌then◌else◌}
 use Rattle.std.specs.Option.{option_and_then}
 use Rattle.casa_flight.specs.declared.row.Row.{Row}

@@ -1,3 +1,4 @@
+-- inner contracts: entries with changes laid over them
 use Rattle.std.specs.Prelude.{List, [], ◌∷◌, Option, None, Some, if◌then◌else◌}
 use Rattle.casa_flight.specs.Text.{Text, same_text, put, without}
 

@@ -1,3 +1,4 @@
+-- inner contracts: which flights cross a location, by an index
 use Rattle.std.specs.Prelude.{◌≡◌, ℕ, List, [], map, Bool, true, Option, None, Some}
 use Rattle.std.specs.Option.{option_map_or}
 use Rattle.std.specs.List.{list_any, AllByRecursion, filter, filter_map}

@@ -1,3 +1,4 @@
+-- inner contracts: which flights wait for their issue, by an index
 use Rattle.std.specs.Prelude.{◌≡◌, ℕ, List, map, Bool, true, not, ◌&&◌, ◌==◌, Option, None, Some, is_some}
 use Rattle.std.specs.Prelude.{if◌then◌else◌}
 use Rattle.std.specs.List.{list_any, filter}

@@ -1,3 +1,4 @@
+-- to believe: the list that a reply tells
 use Rattle.std.specs.Prelude.{Option, None, Some}
 use Rattle.casa_flight.specs.declared.reply.Answer.{Answer}
 use Rattle.casa_flight.specs.declared.reply.Answer.TheVariants.{Done, Flight, List}

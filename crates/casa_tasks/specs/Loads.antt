@@ -1,4 +1,4 @@
--- what is shown of a regulation's demand and capacity, and how it ends
+-- to believe: what is shown of a regulation's demand and capacity, and how that ends
 use Rattle.std.specs.Prelude.{◌≡◌, ℕ, List, ◌++◌, length, Option, Some, Result, Ok, Err}
 use Rattle.std.specs.Io.KnownBytes.{Appends}
 use Rattle.jiff_core.specs.declared.civil.date.Date.{Date}

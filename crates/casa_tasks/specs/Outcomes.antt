@@ -1,4 +1,4 @@
--- What the program ends with at a fault.
+-- to believe: what the program ends with at a fault
 use Rattle.std.specs.Prelude.{ℕ, List, [], codes}
 use Rattle.clap.specs.Words.{kind_of}
 use Rattle.clap.specs.declared.error.kind.ErrorKind.{ErrorKind}

@@ -1,4 +1,4 @@
--- what a report shows, and how it ends
+-- to believe: what a report shows, and how it ends
 use Rattle.std.specs.Prelude.{◌≡◌, ℕ, List, [], ◌++◌, false, Option, None, Some, Result, Ok, Err, IfSome}
 use Rattle.std.specs.Io.KnownBytes.{Appends}
 use Rattle.jiff_core.specs.declared.civil.date.Date.{Date}

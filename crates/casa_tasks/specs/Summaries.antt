@@ -1,4 +1,4 @@
--- what a summary shows, and how it ends
+-- to believe: what a summary shows, and how it ends
 use Rattle.std.specs.Prelude.{◌≡◌, ℕ, List, ◌++◌, Option, Result, Ok, Err}
 use Rattle.std.specs.Io.KnownBytes.{Appends}
 use Rattle.jiff_core.specs.declared.civil.date.Date.{Date}

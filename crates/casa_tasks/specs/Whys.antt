@@ -1,4 +1,4 @@
--- what is said of why a flight waits, and how that ends
+-- to believe: what is said of why a flight waits, and how that ends
 use Rattle.std.specs.Prelude.{◌≡◌, ℕ, List, Option, None, Some, Result, Ok, Err}
 use Rattle.std.specs.Io.KnownBytes.{Appends}
 use Rattle.jiff_core.specs.declared.civil.date.Date.{Date}

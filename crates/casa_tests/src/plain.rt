@@ -2,10 +2,11 @@
 
 use crate::parts::{equal, equal_at, key, loc, moment, over, period, profile, reg};
 use casa_flight::{
-    Answer, Call, FlightReply, Kind, ListReply, ListRow, Message, Messages, Plan, Refusal, Reply,
-    Rows, Sts,
+    Answer, Call, Crossing, FlightReply, Kind, ListReply, ListRow, Loc, Message, Messages, Plan,
+    Refusal, RegId, Reply, Rows, Sts,
 };
 use casa_plain::Plain;
+use casa_time::Moment;
 use std::alloc::{AllocError, Global};
 use std::process::Abort;
 
@@ -246,4 +247,23 @@ fn a_later_end_takes_flights_in(rt: HostRuntime) {
             equal_at(&rt, &number, &refusal(&reply), &None);
         }
     }
+}
+
+/// The example of the doc comment of `Plain`: the first two calls of the README.
+#[test]
+fn a_filed_flight_is_governed(rt: HostRuntime) {
+    let alloc = rt.alloc();
+    let profile = profile(&rt, alloc, &[period(&rt, 36_000, 37_200, 30)]);
+    let mut plain = Plain::new(alloc);
+    let r1 = RegId::new(b"R1").expect(&rt, "an identifier");
+    let la = Loc::new(b"LA").expect(&rt, "a location");
+    plain
+        .step(alloc, &Call::OpenReg(r1, la, profile))
+        .expect(&rt, "memory");
+    let eobt = Moment::new(30_000).expect(&rt, "08:20");
+    let eto = Moment::new(36_010).expect(&rt, "10:00:10");
+    let via = [Crossing { loc: la, eto }];
+    let plan = Plan::new(alloc, b"A", eobt, 600, &via, Sts::Plain).expect(&rt, "a plan");
+    let reply = plain.step(alloc, &Call::File(plan)).expect(&rt, "memory");
+    assert!(&rt; matches!(&reply, Reply::Answered(Answer::Flight(a), _) if a.ctot == 30_600));
 }

@@ -1,3 +1,4 @@
+-- to believe: when a flight is due, and when it is gone
 use Rattle.std.specs.Prelude.{ℕ, ◌+◌, Bool, nat_le, nat_lt}
 
 -- how long before its off-block time a flight is due: two hours (profile)

@@ -1,3 +1,4 @@
+-- to believe: times as hour and minute
 use Rattle.std.specs.Prelude.{ℕ, ◌+◌, ◌/◌, ◌%◌, List, [], ◌∷◌, ◌++◌}
 
 -- the character of a decimal digit

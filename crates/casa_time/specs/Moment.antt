@@ -1,3 +1,4 @@
+-- to believe: the last moment
 use Rattle.std.specs.Prelude.{ℕ}
 
 -- the last second of the day after the engine's day (profile)

@@ -1,3 +1,4 @@
+-- inner contracts: the name of the fault of a moment
 use Rattle.std.specs.Prelude.{ℕ, List, codes}
 use Rattle.casa_time.specs.declared.moment.TimeFault.{TimeFault}
 use Rattle.casa_time.specs.declared.moment.TimeFault.TheVariants.{OutOfRange}

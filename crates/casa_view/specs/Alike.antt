@@ -1,4 +1,4 @@
--- boards with the same versions
+-- for proofs: boards with the same versions
 use Rattle.std.proofs.Common.{◌≡◌, ℕ, ◌↔◌, Bool, sym, ap, subst, Option}
 use Rattle.casa_footprint.specs.Items.{ItemName, Content}
 use Rattle.casa_item.specs.declared.item.Item.{Item}

@@ -1,4 +1,4 @@
--- a board after what a call writes was applied
+-- for proofs: a board after what a call writes was applied
 use Rattle.std.proofs.Common.{◌≡◌, ℕ, List, [], ◌∷◌, Bool, true, false, not, cond, is_some, refl, sym, ap, ◌∙◌, Option}
 use Rattle.std.proofs.Common.{None, Some, map}
 use Rattle.std.specs.Option.{option_map, option_map_or, option_and_then}

@@ -1,3 +1,4 @@
+-- to believe, in part (versions): the versions that a board has, and those that come next
 use Rattle.std.specs.Prelude.{List, Option, unwrap_or}
 use Rattle.std.specs.Option.{option_map}
 use Rattle.std.specs.Global.{Global}

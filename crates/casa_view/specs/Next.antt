@@ -1,3 +1,4 @@
+-- inner contracts: the versions that a change makes ready
 use Rattle.std.specs.Prelude.{◌≡◌, ℕ, List, Option, None, Some}
 use Rattle.std.specs.List.{AllZip}
 use Rattle.casa_flight.specs.declared.row.Row.{Row}

@@ -1,3 +1,4 @@
+-- for proofs: equations between standings have one proof
 use Rattle.std.specs.Prelude.{ℕ, List, Option}
 use Rattle.std.specs.Coded.{coded_list, coded_option, coded_ℕ}
 use base.Stored.{Coded-set}

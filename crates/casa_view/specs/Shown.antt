@@ -1,3 +1,4 @@
+-- inner contracts: what a view shows
 use Rattle.std.specs.Prelude.{ℕ, List, map, Option, None, Some}
 use Rattle.std.specs.Option.{option_map, option_and_then}
 use Rattle.casa_flight.specs.declared.regulation.Regulation.{Regulation}

@@ -1,3 +1,4 @@
+-- inner contracts: what a view holds and shows, and when it is current
 use Rattle.std.specs.Prelude.{◌≡◌, List, Bool, true, Option, None, Some, if◌then◌else◌}
 use Rattle.std.specs.Option.{option_map}
 use Rattle.casa_flight.specs.declared.call.Call.{Call}

@@ -1,4 +1,4 @@
--- every call keeps a board standing well
+-- for proofs: every call keeps a board standing well
 use Rattle.std.proofs.Common.{ℕ, not, is_some, refl, ap, Option}
 use Rattle.std.specs.Prelude.{if◌then◌else◌}
 use Rattle.casa_flight.specs.declared.call.Call.{Call}

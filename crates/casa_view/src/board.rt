@@ -18,6 +18,21 @@ use std::alloc::{AllocError, Global};
 use std::sync::Arc;
 
 /// All items of the allocator's state, each with its version.
+///
+/// A board is a [`World`]: views are taken of it, and changes are applied to it. Here a change writes the clock, which a
+/// view has read. `rt` is the runtime and `alloc` its allocator:
+///
+/// ```rust
+/// let mut board = Board::new(alloc, Copies::new()).expect(&rt, "memory");
+/// let at = Moment::new(22_800).expect(&rt, "06:20");
+/// let view = board.view(&Call::Tick(at)).expect(&rt, "memory");
+/// assert!(&rt; board.same(&view));
+/// let mut change = Change::new(alloc);
+/// change.set_clock(at);
+/// board.fits(1, &change).expect(&rt, "memory");
+/// board.apply(1, change);
+/// assert!(&rt; board.clock() == at && !board.same(&view));
+/// ```
 pub struct Board<K: Kept> {
     pub(crate) alloc: Global,
     pub(crate) store: K,

@@ -1,4 +1,4 @@
--- what can be wrong with a line, in the order in which it is looked for; and what a line says where nothing is wrong
+-- inner contracts: what can be wrong with a line, in the order of the checks, and what it says where nothing is
 use Rattle.std.specs.Prelude.{ℕ, List, [], ◌∷◌, length, Bool, not, nat_lt, find, Option, Some, is_none, is_some, option_and_then, option_map, codes}
 use Rattle.std.specs.Option.{option_map_or}
 use Rattle.serde_json.specs.Data.{Data}

@@ -1,4 +1,4 @@
--- what a line means: a call, or the first fault that holds
+-- to believe: what a line means: a call, or the first fault that holds
 use Rattle.std.specs.Prelude.{◌≡◌, ℕ, List, Option, Some, None, option_and_then, codes, Result, Ok, Err, bytes_eq, if◌then◌else◌}
 use Rattle.std.specs.Str.{is_utf8}
 use Rattle.serde_json.specs.Data.{Data}

@@ -1,4 +1,4 @@
--- the names of the faults of a line, as they are written
+-- to believe: the names of the faults of a line, as they are written
 use Rattle.std.specs.Prelude.{ℕ, List, codes}
 use Rattle.casa_wire.specs.declared.fault.WireFault.{WireFault}
 use Rattle.casa_wire.specs.declared.fault.WireFault.TheVariants.{NotJson, NoCommand, BadField, NoMemory}

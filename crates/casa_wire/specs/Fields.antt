@@ -1,3 +1,4 @@
+-- to believe: the names of the members of a command
 use Rattle.std.specs.Prelude.{ℕ, List, codes}
 use Rattle.casa_wire.specs.declared.fault.Field.{Field}
 use Rattle.casa_wire.specs.declared.fault.Field.TheVariants.{Key, Eobt, Taxi, Via, Sts, Reg, Loc, Periods, At, Other}

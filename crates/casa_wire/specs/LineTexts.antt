@@ -1,4 +1,4 @@
--- what is written for a reply, and for a line that is no call
+-- to believe: what is written for a reply, and for a line that is no call
 use Rattle.std.specs.Prelude.{ℕ, List, [], ◌∷◌, ◌++◌, map, true, Option, codes}
 use Rattle.std.specs.Option.{option_map_or}
 use Rattle.serde_json.specs.Data.{Data, null, boolean, number, string, array, object, unsigned, Members, member, no_members}

@@ -1,4 +1,4 @@
--- what the members of a command are read as; None where a member is not what it must be
+-- to believe: what the members of a command are read as; None where a member is not what it must be
 use Rattle.std.specs.Prelude.{ℕ, List, [], ◌∷◌, nat_le, Option, Some, None, option_and_then, option_map, codes, bytes_eq, if◌then◌else◌}
 use Rattle.serde_json.specs.Data.{Data, Items, no_items, item}
 use Rattle.serde_json.specs.Find.{get, as_number, as_u64, as_str, as_array, as_null}

@@ -1,4 +1,4 @@
--- texts that are written part by part
+-- inner contracts: texts that are written part by part
 use Rattle.std.specs.Prelude.{◌≡◌, ℕ, List, ◌∷◌, ◌++◌, flat_map, codes, Bool, not, ◌&&◌, ◌==◌, nat_le, Result, Ok, Err}
 use Rattle.serde_json.specs.Data.{Data, string}
 use Rattle.serde_json.specs.Written.{compact_text}

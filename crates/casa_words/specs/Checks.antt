@@ -1,4 +1,4 @@
--- which value of an option can be wrong, in the order in which it is looked for; and what is asked for where none is
+-- inner contracts: which value of an option can be wrong, in the order of the checks, and what is asked for else
 use Rattle.std.specs.Prelude.{◌≡◌, Bool, false, not, ◌&&◌, ◌==◌, List, [], ◌∷◌, find, Option, Some, None, is_none, option_and_then, option_map, codes, Result, Ok, Err}
 use Rattle.std.specs.Option.{option_map_or}
 use Rattle.clap.specs.Words.{Row, fault_of, first_of, subcommand_of}

@@ -1,4 +1,4 @@
--- What a task and a refusal of the words say.
+-- to believe, in part (request, Asks, AreRefused): what a task and a refusal of the words say
 use Rattle.std.specs.Prelude.{◌≡◌, ℕ, pos, List, Option, Some, Result, Ok, Err, IfSome, IsSome, [], true, codes, is_some, option_map}
 use Rattle.clap.specs.Kinds.{HasKind}
 use Rattle.clap.specs.Words.{IsSignedIn, Row, fault_of, one_of, without_minus, subcommand_of, subcommand_rows_of}

@@ -1,4 +1,4 @@
--- The words of the command line, and what they ask for.
+-- to believe: the words of the command line, and what they ask for
 use Rattle.std.specs.Prelude.{ℕ, pos, ◌==◌, ◌&&◌, ◌||◌, Bool, true, if◌then◌else◌, List, length, Option, Some, None, is_some, option_and_then, option_map, unwrap_or, codes, bytes_eq, nat_le, slice_index, Result, Ok, Err}
 use Rattle.std.specs.List.{list_all, slice_range}
 use Rattle.std.specs.Str.Parse.{digits_value, without_leading_plus}

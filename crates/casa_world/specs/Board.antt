@@ -1,3 +1,4 @@
+-- to believe: the sequential allocator's replies, equal stamps, and why a commit is refused
 use Rattle.std.specs.Prelude.{◌≡◌, ℕ, List, ◌++◌, Bool, true, Option, Some, IsSome}
 use Rattle.std.specs.Option.{option_map_or}
 use Rattle.casa_flight.specs.declared.call.Call.{Call}

@@ -1,3 +1,4 @@
+-- to believe: by which commits the entries of a history stand there
 use Rattle.std.specs.Prelude.{◌≡◌, ℕ, ◌+◌, Option, Some, List, take, slice_get}
 use Rattle.casa_history.specs.declared.entry.Entry.{Entry}
 use Rattle.casa_world.specs.declared.event.Event.{Event}

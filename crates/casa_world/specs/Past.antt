@@ -1,3 +1,4 @@
+-- for proofs: what workers hold was taken after a history with which this one begins
 use Rattle.std.specs.Prelude.{ℕ, List}
 use Rattle.casa_history.specs.declared.entry.Entry.{Entry}
 use Rattle.casa_world.specs.Scenes.{Hand, nothing, view, answer, Scene}

@@ -1,3 +1,4 @@
+-- inner contracts: a room with its desks, and the scene for which it stands
 use Rattle.std.specs.Prelude.{List}
 use Rattle.casa_history.specs.declared.entry.Entry.{Entry}
 use Rattle.casa_commit.specs.declared.world.World.{Ghosts as WorldOf}

@@ -1,3 +1,4 @@
+-- to believe: what a run leaves: history, world, outcomes
 use Rattle.std.specs.Prelude.{ℕ, List, Option}
 use Rattle.casa_history.specs.declared.entry.Entry.{Entry}
 use Rattle.casa_commit.specs.declared.world.World.{Ghosts as WorldOf}

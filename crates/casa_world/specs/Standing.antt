@@ -1,3 +1,4 @@
+-- to believe, in part (outcome_of, outcome_at): what a desk holds, and the worker for which it stands
 use Rattle.std.specs.Prelude.{◌≡◌, ◌⊎◌, ℕ, ◌+◌, ◌≤◌, Option, Some, None, List, [], ◌∷◌, ◌++◌, length, slice_get}
 use Rattle.casa_world.specs.declared.event.Outcome.{Outcome}
 use Rattle.casa_world.specs.declared.event.Outcome.TheVariants.{Accepted, Refused}

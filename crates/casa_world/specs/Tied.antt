@@ -1,4 +1,4 @@
--- versions of a board follow the stamps that its history gives
+-- for proofs: versions of a board follow the stamps that its history gives
 use Rattle.std.proofs.Common.{◌≡◌, ◌↔◌, ℕ, ◌+◌, ◌≤◌, List, ◌++◌, length, Bool, true, false, not, is_some, cond, refl, sym, ap, subst, ◌∙◌, Option, None, Some, arith, length-append}
 use Rattle.std.specs.Prelude.{if◌then◌else◌, IsSome}
 use Rattle.std.specs.Option.{option_map, option_map_or}

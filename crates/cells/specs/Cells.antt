@@ -1,3 +1,4 @@
+-- inner contracts: four cells
 use Rattle.std.specs.Prelude.{List}
 use Rattle.cells.specs.declared.cell.Cell.{Cell}
 use Rattle.cells.specs.declared.world.Cells.{Cells}

@@ -1,3 +1,4 @@
+-- inner contracts: what a copy of a value to a cell writes
 use Rattle.std.specs.Prelude.{◌≡◌, ℕ, ◌+◌, not, true, if◌then◌else◌, List, slice_set}
 use Rattle.cells.specs.declared.cell.Cell.{Cell}
 use Rattle.cells.specs.declared.cell.Change.{Change}

@@ -1,3 +1,4 @@
+-- inner contracts: the calls on four cells, and their replies
 use Rattle.std.specs.Prelude.{ℕ, ◌+◌, ◌==◌, Bool, if◌then◌else◌, List, [], ◌∷◌, slice_index_or, slice_set}
 use Rattle.cells.specs.declared.cell.Cell.{Cell}
 use Rattle.cells.specs.declared.cell.Copying.{Copying}

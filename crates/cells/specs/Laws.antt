@@ -1,3 +1,4 @@
+-- for proofs: laws of four cells
 use Rattle.std.specs.Prelude.{◌≡◌, ℕ, ◌+◌, Bool, true, false, not, if◌then◌else◌, List, slice_set, refl}
 use Rattle.std.specs.Coded.{coded_list}
 use Rattle.std.proofs.Common.{ap, ◌∙◌}
