@@ -197,3 +197,13 @@ kept-put {Y} es k q w h =
         → cond b (Some w) (at_name es q) ≡ option_or (at_name es q) (if b then Some w else None)
     by true t = subst (λ (p : Text). Some w ≡ option_or (at_name es p) (Some w)) (named k q t) (absent (at_name es k) h)
     by false t = sym (option_or_none (at_name es q))
+
+-- to put what stands there already changes nothing
+pub put-there : {X : Type 0} (k : Text) (v : X) (es : List (Text × X)) → AreInOrder es → at_name es k ≡ Some v
+    → put es k v ≡ es
+put-there {X} k v es order there =
+    same_entries (put es k v) es (sorted-put k v es order) order (λ q. at-put q k v es ∙ by q (is_eq (text_cmp q k)) refl)
+  where
+    by : (q : Text) (b : Bool) → is_eq (text_cmp q k) ≡ b → cond b (Some v) (at_name es q) ≡ at_name es q
+    by q true t = sym (ap (at_name es) (same_name q k t) ∙ there)
+    by q false t = refl

@@ -12,6 +12,7 @@ use casa_flight::Name;
 use casa_item::Version;
 use std::alloc::{AllocError, Global};
 use std::collections::BTreeMap;
+use std::collections::btree_map::Entry;
 use std::marker::Model;
 use std::mem;
 use std::sync::Arc;
@@ -70,18 +71,21 @@ impl<Kind: Copy, V: Drop, I: Index<Kind, V>> Base<Kind, V, I> {
         ensures written { OnOk result (self.new ≡ put self.old name value) }
         ensures unchanged { OnErr result (self.new ≡ self.old) }
     {
-        match self.values.get_mut(&name) {
-            Some(place) => {
+        match self.values.entry(name) {
+            Ok(Entry::Occupied(entry)) => {
+                let place = entry.into_mut();
                 self.index.note(&name, &value, Some(&*place))?;
                 self.index.forget(&name, &*place, Some(&value));
                 *place = value;
                 Ok(())
             }
-            None => {
-                self.index.note(&name, &value, self.values.get(&name))?;
-                self.values.insert(name, value)?;
+            Ok(Entry::Vacant(entry)) => {
+                let earlier: Option<V> = None;
+                self.index.note(&name, &value, earlier.as_ref())?;
+                entry.insert(value);
                 Ok(())
             }
+            Err(_) => Err(AllocError),
         }
     }
 
