@@ -5,14 +5,14 @@ use Rattle.std.specs.Ordering.{is_eq}
 use Rattle.std.specs.List.{AllByRecursion, list_any, filter_map, cons_option}
 use Rattle.std.specs.List.Sorted.{IsStrictlySortedBy}
 use Rattle.casa_flight.specs.declared.comp.Comp.{Comp}
-use Rattle.casa_flight.specs.declared.regulation.Regulation.{Regulation}
+use Rattle.casa_filing.specs.declared.regulation.Regulation.{Regulation}
 use Rattle.casa_flight.specs.declared.row.Row.{Row}
-use Rattle.casa_flight.specs.Text.{Text, same_text, at_name}
-use Rattle.casa_flight.specs.State.{subject}
+use Rattle.casa_filing.specs.Text.{Text, same_text, at_name}
+use Rattle.casa_filing.specs.Subject.{subject}
 use Rattle.casa_flight.specs.Listing.{is_before}
 use Rattle.casa_flight.specs.Steps.{flights_over}
 use Rattle.casa_flight.specs.Good.{AreInOrder}
-use Rattle.casa_flight.proofs.Entries.{text_cmp, same_name}
+use Rattle.casa_filing.proofs.Entries.{text_cmp, same_name}
 use Rattle.casa_laws.proofs.Kept.{at_above}
 use Rattle.casa_laws.proofs.InOrder.{HasName}
 use Rattle.casa_laws.proofs.GoodRegs.{comp_if, any-in_order}

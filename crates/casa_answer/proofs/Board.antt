@@ -3,13 +3,13 @@ use Rattle.std.proofs.Common.{◌≡◌, List, [], ◌∷◌, map, Bool, true, f
 use Rattle.std.specs.Option.{option_map, option_flatten}
 use Rattle.std.specs.Ordering.{is_eq}
 use Rattle.casa_flight.specs.declared.call.Call.{Call}
-use Rattle.casa_flight.specs.declared.regulation.Measure.{Measure}
+use Rattle.casa_filing.specs.declared.regulation.Measure.{Measure}
 use Rattle.casa_flight.specs.declared.row.Row.{Row}
 use Rattle.casa_flight.specs.declared.state.State.{State}
-use Rattle.casa_flight.specs.Text.{Text, same_text, at_name}
+use Rattle.casa_filing.specs.Text.{Text, same_text, at_name}
 use Rattle.casa_flight.specs.State.{row_of, with_row}
 use Rattle.casa_flight.specs.Listing.{Listing, listing, list_of}
-use Rattle.casa_flight.proofs.Entries.{text_cmp, same_name}
+use Rattle.casa_filing.proofs.Entries.{text_cmp, same_name}
 use Rattle.casa_footprint.specs.Items.{the_clock, the_catalogue, a_row, a_list, moment, regulations, row_or_none, list_or_none}
 use Rattle.casa_footprint.specs.Footprint.{would_write}
 use Rattle.casa_flight.specs.State.{catalogue}

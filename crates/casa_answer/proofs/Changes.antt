@@ -6,11 +6,11 @@ use Rattle.casa_flight.specs.declared.call.Call.{Call}
 use Rattle.casa_flight.specs.declared.call.Refusal.{Refusal}
 use Rattle.casa_flight.specs.declared.reply.Reply.TheVariants.{Refused, Answered}
 use Rattle.casa_flight.specs.declared.state.State.{State}
-use Rattle.casa_flight.specs.Text.{Text, same_text, at_name, put}
+use Rattle.casa_filing.specs.Text.{Text, same_text, at_name, put}
 use Rattle.casa_flight.specs.Steps.{Step, refused, leads, step, after, next}
 use Rattle.casa_flight.specs.declared.reply.Reply.{Reply}
 use Rattle.casa_flight.specs.Replies.{reply_of, answer, messages}
-use Rattle.casa_flight.proofs.Entries.{text_cmp, itself, named, apart, at-put}
+use Rattle.casa_filing.proofs.Entries.{text_cmp, itself, named, apart, at-put}
 use Rattle.casa_footprint.specs.Items.{ItemName, the_clock, the_catalogue, a_row, a_list, contents}
 use Rattle.casa_footprint.specs.Footprint.{would_write, is_accepted}
 use Rattle.casa_answer.specs.Sight.{Written, nothing_written, says, IsAnswer}

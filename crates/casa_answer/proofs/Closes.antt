@@ -10,18 +10,19 @@ use Rattle.casa_flight.specs.declared.call.Refusal.TheVariants.{NoRegulation}
 use Rattle.casa_flight.specs.declared.comp.Comp.{Comp}
 use Rattle.casa_flight.specs.declared.reply.Answer.TheVariants.{Done}
 use Rattle.casa_flight.specs.declared.reply.Reply.TheVariants.{Answered}
-use Rattle.casa_flight.specs.declared.regulation.Measure.{Measure}
-use Rattle.casa_flight.specs.declared.regulation.Regulation.{Regulation}
+use Rattle.casa_filing.specs.declared.regulation.Measure.{Measure}
+use Rattle.casa_filing.specs.declared.regulation.Regulation.{Regulation}
 use Rattle.casa_flight.specs.declared.row.Row.{Row}
 use Rattle.casa_flight.specs.declared.state.State.{State}
-use Rattle.casa_flight.specs.Text.{Text, same_text, at_name, put, without}
-use Rattle.casa_flight.specs.FlightPlan.{FlightPlan}
-use Rattle.casa_flight.specs.State.{row_of, measure_of, regulation, catalogue, subject, is_governed_by, ungoverned}
+use Rattle.casa_filing.specs.Text.{Text, same_text, at_name, put, without}
+use Rattle.casa_filing.specs.FlightPlan.{FlightPlan}
+use Rattle.casa_filing.specs.Subject.{regulation, subject}
+use Rattle.casa_flight.specs.State.{row_of, measure_of, catalogue, is_governed_by, ungoverned}
 use Rattle.casa_flight.specs.Listing.{Listing, listing, list_of}
 use Rattle.casa_flight.specs.Entry.{enter_all}
 use Rattle.casa_flight.specs.Steps.{flights_over, freed, closed, close_regulation, leads, step, after}
 use Rattle.casa_flight.specs.Good.{AreInOrder, IsGood, IsGoverned}
-use Rattle.casa_flight.proofs.Entries.{text_cmp, apart, named, all-each, each_found, keys-map, sorted-remove, at-without_other}
+use Rattle.casa_filing.proofs.Entries.{text_cmp, apart, named, all-each, each_found, keys-map, sorted-remove, at-without_other}
 use Rattle.casa_laws.proofs.Kept.{at-without_same}
 use Rattle.casa_laws.proofs.EnterAll.{regs-enter_all, all-flights_over}
 use Rattle.casa_laws.proofs.RegMessages.{freed_plan}

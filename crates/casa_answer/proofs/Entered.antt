@@ -1,13 +1,13 @@
 -- flights that enter one by one
 use Rattle.std.proofs.Common.{◌≡◌, refl, sym, ap, subst, ◌∙◌, Option, None, Some}
-use Rattle.casa_flight.specs.declared.regulation.Measure.{Measure}
+use Rattle.casa_filing.specs.declared.regulation.Measure.{Measure}
 use Rattle.casa_flight.specs.declared.row.Row.{Row}
 use Rattle.casa_flight.specs.declared.state.State.{State}
-use Rattle.casa_flight.specs.Text.{Text}
+use Rattle.casa_filing.specs.Text.{Text}
 use Rattle.casa_flight.specs.State.{row_of, measure_of, catalogue, ungoverned}
 use Rattle.casa_flight.specs.Entry.{Situation, situation, entered, reenter}
 use Rattle.casa_flight.specs.Good.{AreInOrder}
-use Rattle.casa_flight.proofs.Entries.{sorted-put}
+use Rattle.casa_filing.proofs.Entries.{sorted-put}
 use Rattle.casa_answer.specs.Sight.{Sight, Written, row_with}
 use Rattle.casa_answer.specs.Write.{stances}
 use Rattle.casa_answer.specs.Enter.{situation_with, with_entry, with_reentry}

@@ -4,16 +4,17 @@ use Rattle.std.specs.Option.{option_map_or}
 use Rattle.std.specs.List.{AllByRecursion, list_any}
 use Rattle.std.proofs.Math.Bool.{or_assoc}
 use Rattle.casa_flight.specs.declared.comp.Comp.{Comp}
-use Rattle.casa_flight.specs.declared.regulation.Measure.{Measure}
-use Rattle.casa_flight.specs.declared.regulation.Regulation.{Regulation}
+use Rattle.casa_filing.specs.declared.regulation.Measure.{Measure}
+use Rattle.casa_filing.specs.declared.regulation.Regulation.{Regulation}
 use Rattle.casa_flight.specs.declared.row.Row.{Row}
 use Rattle.casa_flight.specs.declared.state.State.{State}
-use Rattle.casa_flight.specs.Text.{Text, same_text, at_name}
-use Rattle.casa_flight.specs.FlightPlan.{FlightPlan}
-use Rattle.casa_flight.specs.State.{row_of, regulation, catalogue, ungoverned}
+use Rattle.casa_filing.specs.Text.{Text, same_text, at_name}
+use Rattle.casa_filing.specs.FlightPlan.{FlightPlan}
+use Rattle.casa_filing.specs.Subject.{regulation}
+use Rattle.casa_flight.specs.State.{row_of, catalogue, ungoverned}
 use Rattle.casa_flight.specs.Entry.{situation, entered, reenter, enter_all}
 use Rattle.casa_flight.specs.Good.{AreInOrder}
-use Rattle.casa_flight.proofs.Entries.{named, all-each, sorted-put}
+use Rattle.casa_filing.proofs.Entries.{named, all-each, sorted-put}
 use Rattle.casa_laws.proofs.EnterAll.{entered_plan}
 use Rattle.casa_footprint.specs.Footprint.{is_subject, is_list_of}
 use Rattle.casa_answer.specs.Sight.{Sight, Written, row_with}

@@ -9,15 +9,15 @@ use Rattle.casa_flight.specs.declared.reply.Answer.TheVariants.{Done, Flight}
 use Rattle.casa_flight.specs.declared.reply.Reply.TheVariants.{Answered}
 use Rattle.casa_flight.specs.declared.row.Row.{Row}
 use Rattle.casa_flight.specs.declared.state.State.{State}
-use Rattle.casa_flight.specs.Text.{Text}
+use Rattle.casa_filing.specs.Text.{Text}
 use Rattle.casa_flight.specs.State.{row_of, with_row, catalogue}
 use Rattle.casa_flight.specs.Listing.{Listing, list_of, delay_in, delay_of, ctot_of, governing_list}
-use Rattle.casa_flight.specs.FlightPlan.{FlightPlan, etot}
+use Rattle.casa_filing.specs.FlightPlan.{FlightPlan, etot}
 use Rattle.casa_flight.specs.Entry.{Offer, situation, entered}
 use Rattle.casa_flight.specs.Steps.{Step, refused, leads, step, after}
 use Rattle.casa_flight.specs.Replies.{reply_of, answer, flight_answer, flight_reply, flight_with, is_issued, ctot_before, messages}
 use Rattle.casa_flight.specs.Good.{IsGood}
-use Rattle.casa_flight.proofs.Entries.{at-put_same}
+use Rattle.casa_filing.proofs.Entries.{at-put_same}
 use Rattle.casa_laws.proofs.ChangeMessages.{messages_one}
 use Rattle.casa_footprint.specs.Items.{ItemName, the_clock, the_catalogue, a_row, a_list, contents}
 use Rattle.casa_footprint.specs.Footprint.{is_subject, governs, would_write, is_accepted}

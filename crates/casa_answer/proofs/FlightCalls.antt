@@ -5,15 +5,16 @@ use Rattle.std.proofs.lemmas.Bool.{or_right}
 use Rattle.casa_flight.specs.declared.call.Call.{Call}
 use Rattle.casa_flight.specs.declared.call.Call.TheVariants.{File, Amend, Cancel, Revise, Exempt, Show}
 use Rattle.casa_flight.specs.declared.call.Refusal.TheVariants.{Duplicate, NoFlight, Late, AlreadyExempt}
-use Rattle.casa_flight.specs.declared.regulation.Regulation.{Regulation}
+use Rattle.casa_filing.specs.declared.regulation.Regulation.{Regulation}
 use Rattle.casa_flight.specs.declared.reply.Answer.TheVariants.{Done}
 use Rattle.casa_flight.specs.declared.reply.Message.{Message}
 use Rattle.casa_flight.specs.declared.reply.Reply.TheVariants.{Answered}
 use Rattle.casa_flight.specs.declared.row.Row.{Row}
 use Rattle.casa_flight.specs.declared.state.State.{State}
-use Rattle.casa_flight.specs.Text.{Text, same_text}
-use Rattle.casa_flight.specs.FlightPlan.{FlightPlan, etot}
-use Rattle.casa_flight.specs.State.{row_of, with_row, catalogue, is_exempt, is_gone, ungoverned}
+use Rattle.casa_filing.specs.Text.{Text, same_text}
+use Rattle.casa_filing.specs.FlightPlan.{FlightPlan, etot}
+use Rattle.casa_filing.specs.Subject.{is_gone}
+use Rattle.casa_flight.specs.State.{row_of, with_row, catalogue, is_exempt, ungoverned}
 use Rattle.casa_flight.specs.Listing.{Listing, governing_list, delay_in, delay_of, ctot_of}
 use Rattle.casa_flight.specs.Entry.{Offer, situation, entered}
 use Rattle.casa_flight.specs.Steps.{Step, leads, step, new_row, file, amend, cancel, is_revised, state_if, revise, exempt, exempt_if, show}

@@ -1,9 +1,9 @@
 -- the change of one flight is what its written row makes of the items
 use Rattle.std.proofs.Common.{◌≡◌, List, [], Bool, true, false, refl, sym, ap, ◌∙◌, Option, None, Some, ◌||◌, is_some, if◌then◌else◌}
-use Rattle.casa_flight.specs.declared.regulation.Regulation.{Regulation}
+use Rattle.casa_filing.specs.declared.regulation.Regulation.{Regulation}
 use Rattle.casa_flight.specs.declared.row.Row.{Row}
 use Rattle.casa_flight.specs.declared.state.State.{State}
-use Rattle.casa_flight.specs.Text.{Text, same_text, at_name, put}
+use Rattle.casa_filing.specs.Text.{Text, same_text, at_name, put}
 use Rattle.casa_flight.specs.State.{row_of, catalogue}
 use Rattle.casa_flight.specs.Listing.{list_of}
 use Rattle.casa_flight.specs.Good.{IsGood}

@@ -2,18 +2,19 @@
 use Rattle.std.proofs.Common.{◌≡◌, ℕ, ◌-◌, List, Bool, true, false, cond, refl, sym, ap, subst, ◌∙◌, Option, None, Some, ◌||◌, is_some, if◌then◌else◌}
 use Rattle.std.specs.Option.{option_map, option_map_or}
 use Rattle.std.specs.List.{filter_map}
-use Rattle.casa_flight.specs.declared.regulation.Regulation.{Regulation}
-use Rattle.casa_flight.specs.declared.regulation.Measure.{Measure}
+use Rattle.casa_filing.specs.declared.regulation.Regulation.{Regulation}
+use Rattle.casa_filing.specs.declared.regulation.Measure.{Measure}
 use Rattle.casa_flight.specs.declared.row.Row.{Row}
 use Rattle.casa_flight.specs.declared.row.Stance.TheVariants.{Competing}
 use Rattle.casa_flight.specs.declared.state.State.{State}
-use Rattle.casa_flight.specs.Text.{Text}
-use Rattle.casa_flight.specs.FlightPlan.{FlightPlan}
-use Rattle.casa_flight.specs.State.{measure_of, with_row, regulation, catalogue, subject, is_due, is_exempt, is_gone}
+use Rattle.casa_filing.specs.Text.{Text}
+use Rattle.casa_filing.specs.FlightPlan.{FlightPlan}
+use Rattle.casa_filing.specs.Subject.{regulation, subject, is_due, is_gone}
+use Rattle.casa_flight.specs.State.{measure_of, with_row, catalogue, is_exempt}
 use Rattle.casa_flight.specs.Listing.{Listing, listing, list_of, cto_as, delay_of}
 use Rattle.casa_flight.specs.Entry.{Situation, situation, Offer, offer_in, offer, choice, most_penalising, governed, entered, with_competitor}
 use Rattle.casa_flight.specs.Good.{IsGood}
-use Rattle.casa_flight.proofs.Entries.{each_found, all-each, filter_map-map, filter_map-each, at-put_same, sorted-put}
+use Rattle.casa_filing.proofs.Entries.{each_found, all-each, filter_map-map, filter_map-each, at-put_same, sorted-put}
 use Rattle.casa_laws.proofs.Choice.{offer-is}
 use Rattle.casa_laws.proofs.Chosen.{choice_among, offers_open}
 use Rattle.casa_laws.proofs.Times.{governed_there, delay_governed, delay_free, offer_delay}

@@ -2,16 +2,17 @@
 use Rattle.std.proofs.Common.{◌≡◌, ℕ, List, [], ◌∷◌, map, Bool, true, false, refl, sym, ap, ◌∙◌, Option, None, Some, if◌then◌else◌}
 use Rattle.std.specs.Option.{option_map, option_map_or}
 use Rattle.std.specs.List.{cons_option, filter_map}
-use Rattle.casa_flight.specs.declared.regulation.Measure.{Measure}
+use Rattle.casa_filing.specs.declared.regulation.Measure.{Measure}
 use Rattle.casa_flight.specs.declared.row.Row.{Row}
 use Rattle.casa_flight.specs.declared.row.Stance.{Stance}
 use Rattle.casa_flight.specs.declared.comp.Comp.{Comp}
 use Rattle.casa_flight.specs.declared.state.State.{State}
-use Rattle.casa_flight.specs.Text.{Text, same_text}
-use Rattle.casa_flight.specs.State.{row_of, measure_of, regulation, subject, is_governed_by}
+use Rattle.casa_filing.specs.Text.{Text, same_text}
+use Rattle.casa_filing.specs.Subject.{regulation, subject}
+use Rattle.casa_flight.specs.State.{row_of, measure_of, is_governed_by}
 use Rattle.casa_flight.specs.Listing.{listing, list_of, stance, stance_in, kept, in_order, is_before}
 use Rattle.casa_flight.specs.Steps.{freed, closed, flights_over}
-use Rattle.casa_flight.proofs.Entries.{apart, named, at-map, at-without_other}
+use Rattle.casa_filing.proofs.Entries.{apart, named, at-map, at-without_other}
 use Rattle.casa_answer.specs.Closing.{governed_comp}
 use Rattle.casa_answer.proofs.Naming.{other_text, forced_either}
 

@@ -3,15 +3,16 @@ use Rattle.std.proofs.Common.{◌≡◌, ℕ, [], ◌∷◌, Bool, true, false, 
 use Rattle.std.specs.Option.{option_map, option_map_or, option_and_then}
 use Rattle.std.specs.Ordering.{is_eq}
 use Rattle.std.proofs.lemmas.Cmp.{nat_list_eq_equiv}
-use Rattle.casa_flight.specs.declared.regulation.Measure.{Measure}
+use Rattle.casa_filing.specs.declared.regulation.Measure.{Measure}
 use Rattle.casa_flight.specs.declared.row.Row.{Row}
 use Rattle.casa_flight.specs.declared.row.Stance.{Stance}
 use Rattle.casa_flight.specs.declared.state.State.{State}
-use Rattle.casa_flight.specs.Text.{Text, same_text, at_name}
-use Rattle.casa_flight.specs.State.{row_of, measure_of, with_row, regulation, subject, is_governed_by}
+use Rattle.casa_filing.specs.Text.{Text, same_text, at_name}
+use Rattle.casa_filing.specs.Subject.{regulation, subject}
+use Rattle.casa_flight.specs.State.{row_of, measure_of, with_row, is_governed_by}
 use Rattle.casa_flight.specs.Listing.{Listing, listing, list_of, stance, stance_in, stance_of, eto_as}
 use Rattle.casa_flight.specs.Good.{AreInOrder, IsGood, IsGoverned}
-use Rattle.casa_flight.proofs.Entries.{text_cmp}
+use Rattle.casa_filing.proofs.Entries.{text_cmp}
 use Rattle.casa_laws.proofs.Kept.{at-kept}
 use Rattle.casa_laws.proofs.ChangeMessages.{governed_by}
 use Rattle.casa_answer.specs.Sight.{Sight, Written, list_in}

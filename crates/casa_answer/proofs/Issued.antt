@@ -10,12 +10,12 @@ use Rattle.std.proofs.Math.Bool.{or_assoc}
 use Rattle.std.proofs.lemmas.Cmp.{nat_list_eq_equiv}
 use Rattle.casa_flight.specs.declared.row.Row.{Row}
 use Rattle.casa_flight.specs.declared.state.State.{State}
-use Rattle.casa_flight.specs.Text.{Text, same_text, at_name}
+use Rattle.casa_filing.specs.Text.{Text, same_text, at_name}
 use Rattle.casa_flight.specs.State.{row_of, with_row, is_governed_by}
 use Rattle.casa_flight.specs.Listing.{Listing, cto_of}
 use Rattle.casa_flight.specs.Entry.{is_to_issue, issued_in, issue_if, issue_due}
 use Rattle.casa_flight.specs.Good.{AreInOrder}
-use Rattle.casa_flight.proofs.Entries.{text_cmp, sorted-put, same_name, named, apart, at-put_other, at-map, keys-map, all-each, all-both}
+use Rattle.casa_filing.proofs.Entries.{text_cmp, sorted-put, same_name, named, apart, at-put_other, at-map, keys-map, all-each, all-both}
 use Rattle.casa_laws.proofs.Kept.{at_above, same_entries}
 use Rattle.casa_footprint.specs.Finding.{due_keys}
 use Rattle.casa_answer.specs.Sight.{Sight, Written, nothing_written, row_in}

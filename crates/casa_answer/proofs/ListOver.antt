@@ -5,15 +5,16 @@ use Rattle.std.specs.Option.{option_map, option_map_or, option_and_then}
 use Rattle.std.specs.List.{AllByRecursion, filter, filter_map, fold, cons_option}
 use Rattle.std.specs.List.Sorted.{IsStrictlySortedBy}
 use Rattle.casa_flight.specs.declared.comp.Comp.{Comp}
-use Rattle.casa_flight.specs.declared.regulation.Regulation.{Regulation}
+use Rattle.casa_filing.specs.declared.regulation.Regulation.{Regulation}
 use Rattle.casa_flight.specs.declared.row.Row.{Row}
 use Rattle.casa_flight.specs.declared.row.Stance.{Stance}
-use Rattle.casa_flight.specs.Text.{Text, same_text, at_name, put}
-use Rattle.casa_flight.specs.State.{subject, is_governed_by}
+use Rattle.casa_filing.specs.Text.{Text, same_text, at_name, put}
+use Rattle.casa_filing.specs.Subject.{subject}
+use Rattle.casa_flight.specs.State.{is_governed_by}
 use Rattle.casa_flight.specs.Listing.{in_order, is_before, kept, stance, stance_over}
 use Rattle.casa_flight.specs.Steps.{flights_over}
 use Rattle.casa_flight.specs.Good.{AreInOrder}
-use Rattle.casa_flight.proofs.Entries.{text_cmp, apart, all_at, at-put_same, at-put_other, sorted-put}
+use Rattle.casa_filing.proofs.Entries.{text_cmp, apart, all_at, at-put_same, at-put_other, sorted-put}
 use Rattle.casa_laws.proofs.Kept.{at-kept, sorted-kept, filter_map-one, same_entries}
 use Rattle.casa_laws.proofs.InOrder.{all-always}
 use Rattle.casa_laws.proofs.GoodRegs.{comp_if}

@@ -6,8 +6,8 @@ use Rattle.std.proofs.lemmas.Bool.{or_left, or_right}
 use Rattle.casa_grid.specs.Slots.{slots}
 use Rattle.casa_flight.specs.declared.call.Call.TheVariants.{List as ListOf}
 use Rattle.casa_flight.specs.declared.call.Refusal.TheVariants.{NoRegulation}
-use Rattle.casa_flight.specs.declared.regulation.Measure.{Measure}
-use Rattle.casa_flight.specs.declared.regulation.Regulation.{Regulation}
+use Rattle.casa_filing.specs.declared.regulation.Measure.{Measure}
+use Rattle.casa_filing.specs.declared.regulation.Regulation.{Regulation}
 use Rattle.casa_flight.specs.declared.reply.Answer.TheVariants.{List as ListAnswer}
 use Rattle.casa_flight.specs.declared.reply.Kind.TheVariants.{Forced as ForcedKind}
 use Rattle.casa_flight.specs.declared.reply.Reply.TheVariants.{Answered}
@@ -15,13 +15,14 @@ use Rattle.casa_flight.specs.declared.row.Row.{Row}
 use Rattle.casa_flight.specs.declared.row.Stance.{Stance}
 use Rattle.casa_flight.specs.declared.row.Stance.TheVariants.{Competing, Issued, Forced}
 use Rattle.casa_flight.specs.declared.state.State.{State}
-use Rattle.casa_flight.specs.Text.{Text, same_text, at_name}
-use Rattle.casa_flight.specs.State.{row_of, measure_of, regulation, catalogue}
+use Rattle.casa_filing.specs.Text.{Text, same_text, at_name}
+use Rattle.casa_filing.specs.Subject.{regulation}
+use Rattle.casa_flight.specs.State.{row_of, measure_of, catalogue}
 use Rattle.casa_flight.specs.Listing.{Listing, list_of, delay_of, delay_in, in_order}
 use Rattle.casa_flight.specs.Steps.{list as step_list}
 use Rattle.casa_flight.specs.Replies.{row_in as listed, is_row_before, list_answer}
 use Rattle.casa_flight.specs.Good.{IsGood}
-use Rattle.casa_flight.proofs.Entries.{text_cmp, same_name, all-each}
+use Rattle.casa_filing.proofs.Entries.{text_cmp, same_name, all-each}
 use Rattle.casa_footprint.specs.Footprint.{governs, is_forced, governs_forced}
 use Rattle.casa_footprint.proofs.Names.{text_itself}
 use Rattle.casa_footprint.proofs.Messages.{messages_self}

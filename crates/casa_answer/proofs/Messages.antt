@@ -5,7 +5,7 @@ use Rattle.std.specs.List.{filter_map}
 use Rattle.casa_flight.specs.declared.reply.Message.{Message}
 use Rattle.casa_flight.specs.declared.row.Row.{Row}
 use Rattle.casa_flight.specs.declared.state.State.{State}
-use Rattle.casa_flight.specs.Text.{Text, at_name}
+use Rattle.casa_filing.specs.Text.{Text, at_name}
 use Rattle.casa_flight.specs.State.{row_of}
 use Rattle.casa_flight.specs.Listing.{list_of}
 use Rattle.casa_flight.specs.Replies.{is_issued, message_of, message, messages}

@@ -4,10 +4,10 @@ use Rattle.std.specs.Option.{option_map, option_map_or}
 use Rattle.std.proofs.lemmas.Bool.{both_ways}
 use Rattle.std.proofs.lemmas.Cmp.{nat_list_eq_equiv}
 use Rattle.casa_flight.specs.declared.row.Row.{Row}
-use Rattle.casa_flight.specs.Text.{Text, same_text, at_name, put}
+use Rattle.casa_filing.specs.Text.{Text, same_text, at_name, put}
 use Rattle.casa_flight.specs.State.{is_governed_by}
 use Rattle.casa_flight.specs.Listing.{stance}
-use Rattle.casa_flight.proofs.Entries.{named}
+use Rattle.casa_filing.proofs.Entries.{named}
 use Rattle.casa_answer.proofs.Changes.{at-put_by}
 
 pub other_text : (a b : Text) → same_text a b ≡ false → same_text b a ≡ false

@@ -7,13 +7,14 @@ use Rattle.casa_grid.specs.Profile.{start_of, end_of}
 use Rattle.casa_flight.specs.declared.call.Call.{Call}
 use Rattle.casa_flight.specs.declared.call.Call.TheVariants.{Rates}
 use Rattle.casa_flight.specs.declared.call.Refusal.TheVariants.{NoRegulation, SpanChanged}
-use Rattle.casa_flight.specs.declared.regulation.Measure.{Measure}
-use Rattle.casa_flight.specs.declared.regulation.Regulation.{Regulation}
+use Rattle.casa_filing.specs.declared.regulation.Measure.{Measure}
+use Rattle.casa_filing.specs.declared.regulation.Regulation.{Regulation}
 use Rattle.casa_flight.specs.declared.reply.Answer.TheVariants.{Done}
 use Rattle.casa_flight.specs.declared.reply.Reply.TheVariants.{Answered}
 use Rattle.casa_flight.specs.declared.state.State.{State}
-use Rattle.casa_flight.specs.Text.{Text, at_name}
-use Rattle.casa_flight.specs.State.{row_of, measure_of, regulation, catalogue}
+use Rattle.casa_filing.specs.Text.{Text, at_name}
+use Rattle.casa_filing.specs.Subject.{regulation}
+use Rattle.casa_flight.specs.State.{row_of, measure_of, catalogue}
 use Rattle.casa_flight.specs.Listing.{Listing, listing, list_of}
 use Rattle.casa_flight.specs.Steps.{rates as step_rates, rates_if as step_rates_if, keeps_span, ends_later, extends, take_in}
 use Rattle.casa_flight.specs.Good.{IsGood}

@@ -4,13 +4,13 @@ use Rattle.std.specs.Cmp.{IsStrictWeakOrder}
 use Rattle.std.specs.Option.{option_map_or}
 use Rattle.std.specs.List.{AllByRecursion, filter, filter_map, fold, cons_option}
 use Rattle.casa_flight.specs.declared.comp.Comp.{Comp}
-use Rattle.casa_flight.specs.declared.regulation.Regulation.{Regulation}
+use Rattle.casa_filing.specs.declared.regulation.Regulation.{Regulation}
 use Rattle.casa_flight.specs.declared.row.Row.{Row}
-use Rattle.casa_flight.specs.Text.{Text}
-use Rattle.casa_flight.specs.State.{subject}
+use Rattle.casa_filing.specs.Text.{Text}
+use Rattle.casa_filing.specs.Subject.{subject}
 use Rattle.casa_flight.specs.Listing.{put_by, in_order, is_before}
 use Rattle.casa_flight.specs.Steps.{flights_over}
-use Rattle.casa_flight.proofs.Entries.{all-each}
+use Rattle.casa_filing.proofs.Entries.{all-each}
 use Rattle.casa_laws.proofs.GoodRegs.{comp_if}
 use Rattle.casa_flight.proofs.Planning.{comps_order}
 use Rattle.casa_flight.proofs.PutBy.{put_first, put_later}

@@ -3,10 +3,11 @@ use Rattle.std.proofs.Common.{◌≡◌, List, [], length, Bool, true, false, re
 use Rattle.casa_grid.specs.declared.period.Period.{Period}
 use Rattle.casa_flight.specs.declared.call.Call.TheVariants.{OpenReg}
 use Rattle.casa_flight.specs.declared.call.Refusal.TheVariants.{DuplicateRegulation, TooManyRegulations}
-use Rattle.casa_flight.specs.declared.regulation.Measure.{Measure}
+use Rattle.casa_filing.specs.declared.regulation.Measure.{Measure}
 use Rattle.casa_flight.specs.declared.state.State.{State}
-use Rattle.casa_flight.specs.Text.{Text}
-use Rattle.casa_flight.specs.State.{measure_of, regulation}
+use Rattle.casa_filing.specs.Text.{Text}
+use Rattle.casa_filing.specs.Subject.{regulation}
+use Rattle.casa_flight.specs.State.{measure_of}
 use Rattle.casa_flight.specs.Listing.{Listing}
 use Rattle.casa_flight.specs.Steps.{most_regulations, open_regulation}
 use Rattle.casa_laws.proofs.RegMessages.{open_stays}

@@ -4,9 +4,9 @@ use Rattle.std.specs.Option.{option_map, option_and_then}
 use Rattle.std.specs.List.{filter_map, cons_option}
 use Rattle.std.specs.List.Sorted.{IsStrictlySortedBy}
 use Rattle.std.specs.Ordering.{is_eq}
-use Rattle.casa_flight.specs.Text.{Text, at_name}
+use Rattle.casa_filing.specs.Text.{Text, at_name}
 use Rattle.casa_flight.specs.Good.{AreInOrder}
-use Rattle.casa_flight.proofs.Entries.{text_cmp, same_name}
+use Rattle.casa_filing.proofs.Entries.{text_cmp, same_name}
 use Rattle.casa_laws.proofs.Kept.{Above, at_above, same_entries}
 
 -- what f makes of the entries, under their names

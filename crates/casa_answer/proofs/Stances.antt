@@ -7,11 +7,11 @@ use Rattle.std.specs.List.Sorted.{IsStrictlySortedBy}
 use Rattle.casa_flight.specs.declared.row.Row.{Row}
 use Rattle.casa_flight.specs.declared.row.Stance.{Stance}
 use Rattle.casa_flight.specs.declared.state.State.{State}
-use Rattle.casa_flight.specs.Text.{Text, at_name, put}
+use Rattle.casa_filing.specs.Text.{Text, at_name, put}
 use Rattle.casa_flight.specs.State.{measure_of, catalogue, is_governed_by}
 use Rattle.casa_flight.specs.Listing.{Listing, stance}
 use Rattle.casa_flight.specs.Good.{AreInOrder}
-use Rattle.casa_flight.proofs.Entries.{text_cmp, itself, same_name, at-put}
+use Rattle.casa_filing.proofs.Entries.{text_cmp, itself, same_name, at-put}
 use Rattle.casa_laws.proofs.Kept.{kept_by, at-kept_by, sorted-kept_by, at_above}
 use Rattle.casa_answer.specs.Sight.{Sight, list_in}
 use Rattle.casa_answer.specs.Write.{Lists, Stances, with_flight, with_stances, left, standing, stances, crossed_by}

@@ -11,14 +11,14 @@ use Rattle.casa_flight.specs.declared.reply.Answer.TheVariants.{Done}
 use Rattle.casa_flight.specs.declared.reply.Reply.TheVariants.{Answered}
 use Rattle.casa_flight.specs.declared.row.Row.{Row}
 use Rattle.casa_flight.specs.declared.state.State.{State}
-use Rattle.casa_flight.specs.Text.{Text, same_text, at_name, put}
-use Rattle.casa_flight.specs.FlightPlan.{etot}
+use Rattle.casa_filing.specs.Text.{Text, same_text, at_name, put}
+use Rattle.casa_filing.specs.FlightPlan.{etot}
 use Rattle.casa_flight.specs.State.{row_of, with_row, is_governed_by}
 use Rattle.casa_flight.specs.Listing.{Listing, governing_list, delay_in}
 use Rattle.casa_flight.specs.Steps.{leads, step, reissued, Exchange, exchanged, is_shared, are_too_early, swap as step_swap, swap_issued as step_swap_issued, swap_if as step_swap_if}
 use Rattle.casa_flight.specs.Replies.{is_issued, message_of, messages}
 use Rattle.casa_flight.specs.Good.{AreInOrder, IsGood}
-use Rattle.casa_flight.proofs.Entries.{named, all-put, at-put_same, sorted-put, filter_map-each}
+use Rattle.casa_filing.proofs.Entries.{named, all-put, at-put_same, sorted-put, filter_map-each}
 use Rattle.casa_laws.proofs.ChangeMessages.{stays}
 use Rattle.casa_laws.proofs.Swap.{CanExchange, SharedBy, shared_by}
 use Rattle.casa_footprint.specs.Footprint.{governs}

@@ -10,17 +10,18 @@ use Rattle.casa_flight.specs.declared.call.Call.{Call}
 use Rattle.casa_flight.specs.declared.comp.Comp.{Comp}
 use Rattle.casa_flight.specs.declared.reply.Answer.TheVariants.{Done}
 use Rattle.casa_flight.specs.declared.reply.Reply.TheVariants.{Answered}
-use Rattle.casa_flight.specs.declared.regulation.Measure.{Measure}
-use Rattle.casa_flight.specs.declared.regulation.Regulation.{Regulation}
+use Rattle.casa_filing.specs.declared.regulation.Measure.{Measure}
+use Rattle.casa_filing.specs.declared.regulation.Regulation.{Regulation}
 use Rattle.casa_flight.specs.declared.row.Row.{Row}
 use Rattle.casa_flight.specs.declared.state.State.{State}
-use Rattle.casa_flight.specs.Text.{Text, same_text, put}
-use Rattle.casa_flight.specs.State.{row_of, measure_of, regulation, catalogue, subject}
+use Rattle.casa_filing.specs.Text.{Text, same_text, put}
+use Rattle.casa_filing.specs.Subject.{regulation, subject}
+use Rattle.casa_flight.specs.State.{row_of, measure_of, catalogue}
 use Rattle.casa_flight.specs.Listing.{Listing, listing, list_of}
 use Rattle.casa_flight.specs.Steps.{flights_over, may_compete, take_in, leads, step, after}
 use Rattle.casa_flight.specs.Replies.{answer, messages}
 use Rattle.casa_flight.specs.Good.{IsGood}
-use Rattle.casa_flight.proofs.Entries.{text_cmp, same_name, apart, named, all-each, each_found, at-put_same, at-put_other, sorted-put}
+use Rattle.casa_filing.proofs.Entries.{text_cmp, same_name, apart, named, all-each, each_found, at-put_same, at-put_other, sorted-put}
 use Rattle.casa_laws.proofs.EnterAll.{all-flights_over}
 use Rattle.casa_laws.proofs.GoodRegs.{next-good}
 use Rattle.casa_laws.proofs.ChangeMessages.{StaysOpen}

@@ -9,12 +9,13 @@ use Rattle.casa_flight.specs.declared.reply.Answer.TheVariants.{Done}
 use Rattle.casa_flight.specs.declared.reply.Reply.TheVariants.{Answered}
 use Rattle.casa_flight.specs.declared.row.Row.{Row}
 use Rattle.casa_flight.specs.declared.state.State.{State}
-use Rattle.casa_flight.specs.Text.{Text}
-use Rattle.casa_flight.specs.State.{row_of, is_governed_by, is_due}
+use Rattle.casa_filing.specs.Text.{Text}
+use Rattle.casa_filing.specs.Subject.{is_due}
+use Rattle.casa_flight.specs.State.{row_of, is_governed_by}
 use Rattle.casa_flight.specs.Entry.{is_to_issue, issue_if, issue_due}
 use Rattle.casa_flight.specs.Steps.{tick as step_tick}
 use Rattle.casa_flight.specs.Good.{AreInOrder, IsGood}
-use Rattle.casa_flight.proofs.Entries.{text_cmp, sorted-put, all-each, all-filter_map, each_found, keys-map}
+use Rattle.casa_filing.proofs.Entries.{text_cmp, sorted-put, all-each, all-filter_map, each_found, keys-map}
 use Rattle.casa_laws.proofs.ChangeMessages.{stays}
 use Rattle.casa_laws.proofs.InOrder.{all-always}
 use Rattle.casa_footprint.specs.Items.{moment, regulations}

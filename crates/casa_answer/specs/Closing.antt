@@ -3,11 +3,11 @@ use Rattle.std.specs.Prelude.{List, [], map, Option, None, Some}
 use Rattle.std.specs.List.{filter_map}
 use Rattle.casa_flight.specs.declared.call.Refusal.TheVariants.{NoRegulation}
 use Rattle.casa_flight.specs.declared.comp.Comp.{Comp}
-use Rattle.casa_flight.specs.declared.regulation.Regulation.{Regulation}
+use Rattle.casa_filing.specs.declared.regulation.Regulation.{Regulation}
 use Rattle.casa_flight.specs.declared.reply.Reply.{Reply}
 use Rattle.casa_flight.specs.declared.row.Stance.{Stance}
 use Rattle.casa_flight.specs.declared.row.Stance.TheVariants.{Competing, Issued, Forced}
-use Rattle.casa_flight.specs.Text.{Text, put, without}
+use Rattle.casa_filing.specs.Text.{Text, put, without}
 use Rattle.casa_flight.specs.Listing.{Listing, in_order, is_before}
 use Rattle.casa_answer.specs.Sight.{Sight, Written, nothing_written, clock_in, regulations_in, list_in}
 use Rattle.casa_answer.specs.Told.{done}

@@ -1,9 +1,9 @@
 -- inner contracts: flights that enter, by what a view shows
 use Rattle.std.specs.Prelude.{ℕ, List, [], ◌∷◌, Option, None, Some}
 use Rattle.casa_flight.specs.declared.comp.Comp.{Comp}
-use Rattle.casa_flight.specs.declared.regulation.Regulation.{Regulation}
+use Rattle.casa_filing.specs.declared.regulation.Regulation.{Regulation}
 use Rattle.casa_flight.specs.declared.row.Row.{Row}
-use Rattle.casa_flight.specs.Text.{Text}
+use Rattle.casa_filing.specs.Text.{Text}
 use Rattle.casa_flight.specs.State.{ungoverned}
 use Rattle.casa_flight.specs.Entry.{Situation, entered}
 use Rattle.casa_answer.specs.Sight.{Sight, Written, row_with, list_with}

@@ -6,9 +6,10 @@ use Rattle.casa_flight.specs.declared.reply.Answer.TheVariants.{Done, Flight}
 use Rattle.casa_flight.specs.declared.reply.Reply.{Reply}
 use Rattle.casa_flight.specs.declared.reply.Reply.TheVariants.{Refused, Answered}
 use Rattle.casa_flight.specs.declared.row.Row.{Row}
-use Rattle.casa_flight.specs.Text.{Text}
-use Rattle.casa_flight.specs.FlightPlan.{FlightPlan, etot}
-use Rattle.casa_flight.specs.State.{is_exempt, is_gone, ungoverned}
+use Rattle.casa_filing.specs.Text.{Text}
+use Rattle.casa_filing.specs.FlightPlan.{FlightPlan, etot}
+use Rattle.casa_filing.specs.Subject.{is_gone}
+use Rattle.casa_flight.specs.State.{is_exempt, ungoverned}
 use Rattle.casa_flight.specs.Entry.{Offer}
 use Rattle.casa_flight.specs.Steps.{new_row}
 use Rattle.casa_flight.specs.Replies.{flight_with}

@@ -7,7 +7,7 @@ use Rattle.casa_flight.specs.declared.reply.Reply.{Reply}
 use Rattle.casa_flight.specs.declared.reply.Reply.TheVariants.{Refused}
 use Rattle.casa_flight.specs.declared.row.Row.{Row}
 use Rattle.casa_flight.specs.declared.row.Stance.{Stance}
-use Rattle.casa_flight.specs.Text.{Text}
+use Rattle.casa_filing.specs.Text.{Text}
 use Rattle.casa_flight.specs.Listing.{Listing, stance_of, stance, eto_as, cto_of}
 use Rattle.casa_footprint.specs.Finding.{due_keys}
 use Rattle.casa_answer.specs.Sight.{Sight, Written, nothing_written, clock_in, list_in, row_in}

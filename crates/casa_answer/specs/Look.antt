@@ -3,7 +3,7 @@ use Rattle.std.specs.Prelude.{ℕ, ◌+◌, List, [], length, map, Option, None,
 use Rattle.std.specs.Option.{option_map_or}
 use Rattle.casa_grid.specs.Slots.{slots, window_of}
 use Rattle.casa_flight.specs.declared.call.Refusal.TheVariants.{NoRegulation}
-use Rattle.casa_flight.specs.declared.regulation.Regulation.{Regulation}
+use Rattle.casa_filing.specs.declared.regulation.Regulation.{Regulation}
 use Rattle.casa_flight.specs.declared.reply.Answer.TheVariants.{List as ListAnswer}
 use Rattle.casa_flight.specs.declared.reply.Kind.TheVariants.{Pre, Issued as IssuedKind, Forced as ForcedKind}
 use Rattle.casa_flight.specs.declared.reply.ListReply.{ListReply}
@@ -12,7 +12,7 @@ use Rattle.casa_flight.specs.declared.reply.Reply.{Reply}
 use Rattle.casa_flight.specs.declared.reply.Reply.TheVariants.{Refused, Answered}
 use Rattle.casa_flight.specs.declared.row.Stance.{Stance}
 use Rattle.casa_flight.specs.declared.row.Stance.TheVariants.{Competing, Issued, Forced}
-use Rattle.casa_flight.specs.Text.{Text, at_name}
+use Rattle.casa_filing.specs.Text.{Text, at_name}
 use Rattle.casa_flight.specs.Listing.{Listing, in_order, cto_as, place_of}
 use Rattle.casa_flight.specs.Replies.{slot_number, is_row_before}
 use Rattle.casa_answer.specs.Sight.{Sight, Written, nothing_written, regulations_in, list_in, row_in}

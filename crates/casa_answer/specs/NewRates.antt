@@ -4,11 +4,11 @@ use Rattle.std.specs.Option.{option_map_or}
 use Rattle.casa_grid.specs.declared.period.Period.{Period}
 use Rattle.casa_grid.specs.Profile.{end_of}
 use Rattle.casa_flight.specs.declared.call.Refusal.TheVariants.{NoRegulation, SpanChanged}
-use Rattle.casa_flight.specs.declared.regulation.Regulation.{Regulation}
+use Rattle.casa_filing.specs.declared.regulation.Regulation.{Regulation}
 use Rattle.casa_flight.specs.declared.reply.Answer.TheVariants.{Done}
 use Rattle.casa_flight.specs.declared.reply.Reply.{Reply}
 use Rattle.casa_flight.specs.declared.reply.Reply.TheVariants.{Answered}
-use Rattle.casa_flight.specs.Text.{Text, at_name}
+use Rattle.casa_filing.specs.Text.{Text, at_name}
 use Rattle.casa_flight.specs.Listing.{Listing}
 use Rattle.casa_flight.specs.Steps.{keeps_span, ends_later}
 use Rattle.casa_footprint.specs.Finding.{by_id}

@@ -2,10 +2,10 @@
 use Rattle.std.specs.Prelude.{List, length, Bool, true, false, nat_le, Option, None, Some}
 use Rattle.casa_grid.specs.declared.period.Period.{Period}
 use Rattle.casa_flight.specs.declared.call.Refusal.TheVariants.{DuplicateRegulation, TooManyRegulations}
-use Rattle.casa_flight.specs.declared.regulation.Regulation.{Regulation}
+use Rattle.casa_filing.specs.declared.regulation.Regulation.{Regulation}
 use Rattle.casa_flight.specs.declared.reply.Reply.{Reply}
-use Rattle.casa_flight.specs.Text.{Text}
-use Rattle.casa_flight.specs.State.{regulation}
+use Rattle.casa_filing.specs.Text.{Text}
+use Rattle.casa_filing.specs.Subject.{regulation}
 use Rattle.casa_flight.specs.Listing.{Listing}
 use Rattle.casa_flight.specs.Steps.{most_regulations}
 use Rattle.casa_answer.specs.Sight.{Sight, Written, regulations_in, list_in}

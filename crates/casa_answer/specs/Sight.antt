@@ -2,11 +2,11 @@
 use Rattle.std.specs.Prelude.{◌≡◌, ℕ, List, [], true, Option, None, Some, unwrap_or}
 use Rattle.std.specs.Option.{option_map, option_flatten}
 use Rattle.casa_flight.specs.declared.call.Call.{Call}
-use Rattle.casa_flight.specs.declared.regulation.Regulation.{Regulation}
+use Rattle.casa_filing.specs.declared.regulation.Regulation.{Regulation}
 use Rattle.casa_flight.specs.declared.reply.Reply.{Reply}
 use Rattle.casa_flight.specs.declared.row.Row.{Row}
 use Rattle.casa_flight.specs.declared.state.State.{State}
-use Rattle.casa_flight.specs.Text.{Text, at_name}
+use Rattle.casa_filing.specs.Text.{Text, at_name}
 use Rattle.casa_flight.specs.State.{row_of, catalogue}
 use Rattle.casa_flight.specs.Listing.{Listing, list_of}
 use Rattle.casa_flight.specs.Entry.{Situation}

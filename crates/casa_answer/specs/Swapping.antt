@@ -4,7 +4,7 @@ use Rattle.std.specs.Option.{option_and_then}
 use Rattle.casa_flight.specs.declared.call.Refusal.TheVariants.{NoFlight, NotIssued, OtherRegulation, TooEarly}
 use Rattle.casa_flight.specs.declared.reply.Reply.{Reply}
 use Rattle.casa_flight.specs.declared.row.Row.{Row}
-use Rattle.casa_flight.specs.Text.{Text}
+use Rattle.casa_filing.specs.Text.{Text}
 use Rattle.casa_flight.specs.Steps.{Exchange, are_too_early, reissued, is_shared}
 use Rattle.casa_answer.specs.Sight.{Sight, Written, nothing_written, clock_in, list_in, row_in}
 use Rattle.casa_answer.specs.FlightCalls.{refusal}

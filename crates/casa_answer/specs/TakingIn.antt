@@ -4,10 +4,10 @@ use Rattle.std.specs.Option.{option_map, option_map_or}
 use Rattle.std.specs.List.{fold}
 use Rattle.casa_grid.specs.declared.period.Period.{Period}
 use Rattle.casa_flight.specs.declared.comp.Comp.{Comp}
-use Rattle.casa_flight.specs.declared.regulation.Regulation.{Regulation}
+use Rattle.casa_filing.specs.declared.regulation.Regulation.{Regulation}
 use Rattle.casa_flight.specs.declared.row.Row.{Row}
 use Rattle.casa_flight.specs.declared.row.Stance.{Stance}
-use Rattle.casa_flight.specs.Text.{Text, put}
+use Rattle.casa_filing.specs.Text.{Text, put}
 use Rattle.casa_flight.specs.State.{is_governed_by}
 use Rattle.casa_flight.specs.Listing.{Listing, kept, stance, stance_over}
 use Rattle.casa_flight.specs.Steps.{may_compete, flights_over}

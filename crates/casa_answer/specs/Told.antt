@@ -7,8 +7,8 @@ use Rattle.casa_flight.specs.declared.reply.Answer.TheVariants.{Done}
 use Rattle.casa_flight.specs.declared.reply.Reply.{Reply}
 use Rattle.casa_flight.specs.declared.reply.Reply.TheVariants.{Answered}
 use Rattle.casa_flight.specs.declared.row.Row.{Row}
-use Rattle.casa_flight.specs.Text.{Text}
-use Rattle.casa_flight.specs.FlightPlan.{etot}
+use Rattle.casa_filing.specs.Text.{Text}
+use Rattle.casa_filing.specs.FlightPlan.{etot}
 use Rattle.casa_flight.specs.Listing.{Listing, delay_in}
 use Rattle.casa_flight.specs.Replies.{is_issued, message_of}
 use Rattle.casa_answer.specs.Sight.{Sight, Written, list_with, list_in, row_in}

@@ -2,10 +2,10 @@
 use Rattle.std.specs.Prelude.{ℕ, List, [], ◌++◌, map, Option, None, Some, is_some, unwrap_or, if◌then◌else◌}
 use Rattle.std.specs.Option.{option_map, option_map_or}
 use Rattle.std.specs.List.{filter_map, fold}
-use Rattle.casa_flight.specs.declared.regulation.Regulation.{Regulation}
+use Rattle.casa_filing.specs.declared.regulation.Regulation.{Regulation}
 use Rattle.casa_flight.specs.declared.row.Row.{Row}
 use Rattle.casa_flight.specs.declared.row.Stance.{Stance}
-use Rattle.casa_flight.specs.Text.{Text, at_name, put, without}
+use Rattle.casa_filing.specs.Text.{Text, at_name, put, without}
 use Rattle.casa_flight.specs.State.{is_governed_by}
 use Rattle.casa_flight.specs.Listing.{Listing, stance}
 use Rattle.casa_footprint.specs.Finding.{crossed}

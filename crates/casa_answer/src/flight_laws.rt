@@ -1,8 +1,8 @@
 //! Laws of the answers to the calls on one flight, each on a function that does nothing.
 
 ghost use Rattle.std.specs.Prelude.{◌≡◌};
-ghost use Rattle.casa_flight.specs.Text.{Text};
-ghost use Rattle.casa_flight.specs.FlightPlan.{FlightPlan};
+ghost use Rattle.casa_filing.specs.Text.{Text};
+ghost use Rattle.casa_filing.specs.FlightPlan.{FlightPlan};
 ghost use Rattle.casa_flight.specs.Entry.{choice};
 ghost use Rattle.casa_flight.specs.declared.call.Call.{Call};
 ghost use Rattle.casa_answer.specs.Sight.{Sight, IsPlanned, situation_in};

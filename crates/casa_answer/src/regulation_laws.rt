@@ -4,7 +4,7 @@
 ghost use Rattle.std.specs.Prelude.{ℕ, List};
 ghost use Rattle.casa_grid.specs.declared.period.Period.{Period};
 ghost use Rattle.casa_flight.specs.declared.call.Call.{Call};
-ghost use Rattle.casa_flight.specs.Text.{Text};
+ghost use Rattle.casa_filing.specs.Text.{Text};
 ghost use Rattle.casa_answer.specs.Sight.{Sight, IsPlanned};
 ghost use Rattle.casa_answer.specs.NewRates.{rates};
 ghost use Rattle.casa_answer.specs.Issue.{tick};

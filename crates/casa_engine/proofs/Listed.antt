@@ -4,15 +4,16 @@ use Rattle.std.proofs.Math.Seq.{take-nil}
 use Rattle.std.specs.Option.{option_map}
 use Rattle.std.specs.List.{AllByRecursion, slice_get, cons_option}
 use Rattle.casa_flight.specs.declared.call.Call.{Call}
-use Rattle.casa_flight.specs.declared.regulation.Measure.{Measure}
-use Rattle.casa_flight.specs.declared.regulation.Regulation.{Regulation}
+use Rattle.casa_filing.specs.declared.regulation.Measure.{Measure}
+use Rattle.casa_filing.specs.declared.regulation.Regulation.{Regulation}
 use Rattle.casa_flight.specs.declared.reply.Reply.{Reply}
 use Rattle.casa_flight.specs.declared.state.State.{State}
-use Rattle.casa_flight.specs.Text.{Text, at_name}
-use Rattle.casa_flight.specs.State.{regulation, catalogue}
+use Rattle.casa_filing.specs.Text.{Text, at_name}
+use Rattle.casa_filing.specs.Subject.{regulation}
+use Rattle.casa_flight.specs.State.{catalogue}
 use Rattle.casa_flight.specs.Good.{AreInOrder}
 use Rattle.casa_flight.specs.Listing.{listing, list_of}
-use Rattle.casa_flight.proofs.Entries.{each_found}
+use Rattle.casa_filing.proofs.Entries.{each_found}
 use Rattle.casa_history.specs.declared.entry.Entry.{Entry}
 use Rattle.casa_footprint.specs.Stamps.{state_after}
 use Rattle.casa_view.specs.Standing.{Standing}

@@ -1,7 +1,3 @@
-pub mod Names
-pub mod Numbers
-pub mod PlanFaults
-pub mod Entries
 pub mod PutBy
 pub mod Same
 pub mod SameReply

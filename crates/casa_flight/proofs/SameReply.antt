@@ -6,7 +6,7 @@ use Rattle.std.specs.Option.{option_eq}
 use Rattle.std.specs.Bool.{beq}
 use Rattle.std.proofs.lemmas.Bool.{and_parts, eqb-true}
 use Rattle.casa_grid.proofs.Equal.{pointwise-true}
-use Rattle.casa_flight.proofs.Same.{text_same}
+use Rattle.casa_filing.proofs.Same.{text_same}
 use Rattle.casa_flight.specs.declared.call.Refusal.{Refusal}
 use Rattle.casa_flight.specs.declared.reply.Message.{Message}
 use Rattle.casa_flight.specs.declared.reply.ListRow.{ListRow}

@@ -5,7 +5,7 @@ use Rattle.std.specs.Option.{option_eq}
 use Rattle.std.proofs.lemmas.Bool.{and_parts, eqb-true}
 use Rattle.casa_flight.specs.declared.row.Row.{Row}
 use Rattle.casa_flight.specs.contracts.row.RowPartialEq.TheImpl.{ghosts as row}
-use Rattle.casa_flight.proofs.Same.{plan_same}
+use Rattle.casa_filing.proofs.Same.{plan_same}
 use Rattle.casa_flight.proofs.SameReply.{flag_same, id_same}
 
 time_same : (a b : Option ℕ) → option_eq nat_eq a b ≡ true → a ≡ b

@@ -3,13 +3,14 @@ use Rattle.std.specs.Prelude.{ℕ, ◌-◌, List, [], ◌∷◌, map, Bool, true
 use Rattle.std.specs.Option.{option_map_or, option_and_then}
 use Rattle.std.specs.List.{filter_map, best_of}
 use Rattle.casa_flight.specs.declared.comp.Comp.{Comp}
-use Rattle.casa_flight.specs.declared.regulation.Regulation.{Regulation}
+use Rattle.casa_filing.specs.declared.regulation.Regulation.{Regulation}
 use Rattle.casa_flight.specs.declared.row.Row.{Row}
 use Rattle.casa_flight.specs.declared.row.Stance.TheVariants.{Competing}
 use Rattle.casa_flight.specs.declared.state.State.{State}
-use Rattle.casa_flight.specs.Text.{Text, put}
-use Rattle.casa_flight.specs.FlightPlan.{FlightPlan}
-use Rattle.casa_flight.specs.State.{row_of, with_row, catalogue, subject, is_exempt, is_due, is_gone, ungoverned}
+use Rattle.casa_filing.specs.Text.{Text, put}
+use Rattle.casa_filing.specs.FlightPlan.{FlightPlan}
+use Rattle.casa_filing.specs.Subject.{subject, is_due, is_gone}
+use Rattle.casa_flight.specs.State.{row_of, with_row, catalogue, is_exempt, ungoverned}
 use Rattle.casa_flight.specs.Listing.{Listing, list_of, cto_as, cto_of, governing_list}
 
 -- what a flight finds when it enters: the clock, the open regulations in the order of their identifiers, and their lists

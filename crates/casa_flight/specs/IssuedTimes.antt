@@ -7,8 +7,9 @@ use Rattle.casa_flight.specs.declared.row.Row.{Row}
 use Rattle.casa_flight.specs.declared.row.Stance.{Stance}
 use Rattle.casa_flight.specs.declared.state.State.{State}
 use Rattle.casa_flight.specs.declared.row.Stance.TheVariants.{Competing, Issued, Forced}
-use Rattle.casa_flight.specs.Text.{Text, same_text, put}
-use Rattle.casa_flight.specs.State.{is_due, is_governed_by}
+use Rattle.casa_filing.specs.Text.{Text, same_text, put}
+use Rattle.casa_filing.specs.Subject.{is_due}
+use Rattle.casa_flight.specs.State.{is_governed_by}
 use Rattle.casa_flight.specs.Listing.{Listing, cto_as, stance_of}
 use Rattle.casa_flight.specs.Steps.{extends}
 

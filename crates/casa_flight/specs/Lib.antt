@@ -1,8 +1,3 @@
-pub mod Text
-pub mod NameInside
-pub mod FlightPlan
-pub mod PlanFaults
-pub mod PlanEquality
 pub mod Refusals
 pub mod State
 pub mod Assignment

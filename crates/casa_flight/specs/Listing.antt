@@ -12,15 +12,16 @@ use Rattle.casa_grid.specs.Slots.{slots}
 use Rattle.casa_grid.specs.TimeOver.{cto}
 use Rattle.casa_flight.specs.declared.comp.Comp.{Comp}
 use Rattle.casa_flight.specs.declared.comp.Assigned.{Assigned}
-use Rattle.casa_flight.specs.declared.regulation.Measure.{Measure}
-use Rattle.casa_flight.specs.declared.regulation.Regulation.{Regulation}
+use Rattle.casa_filing.specs.declared.regulation.Measure.{Measure}
+use Rattle.casa_filing.specs.declared.regulation.Regulation.{Regulation}
 use Rattle.casa_flight.specs.declared.row.Row.{Row}
 use Rattle.casa_flight.specs.declared.row.Stance.{Stance}
 use Rattle.casa_flight.specs.declared.row.Stance.TheVariants.{Competing, Issued, Forced}
 use Rattle.casa_flight.specs.declared.state.State.{State}
-use Rattle.casa_flight.specs.Text.{Text, same_text, at_name}
-use Rattle.casa_flight.specs.FlightPlan.{etot}
-use Rattle.casa_flight.specs.State.{measure_of, regulation, subject, is_governed_by}
+use Rattle.casa_filing.specs.Text.{Text, same_text, at_name}
+use Rattle.casa_filing.specs.FlightPlan.{etot}
+use Rattle.casa_filing.specs.Subject.{regulation, subject}
+use Rattle.casa_flight.specs.State.{measure_of, is_governed_by}
 use Rattle.casa_flight.specs.Assignment.{Occupancy, assignment}
 
 -- a regulation's slot allocation list: its profile, and how each flight that is subject to it stands in it, by keys. It

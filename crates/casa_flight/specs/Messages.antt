@@ -9,8 +9,9 @@ use Rattle.casa_flight.specs.declared.reply.Reply.{Reply}
 use Rattle.casa_flight.specs.declared.reply.Reply.TheVariants.{Refused, Answered}
 use Rattle.casa_flight.specs.declared.row.Row.{Row}
 use Rattle.casa_flight.specs.declared.state.State.{State}
-use Rattle.casa_flight.specs.Text.{Text}
-use Rattle.casa_flight.specs.State.{row_of, is_due, is_governed_by}
+use Rattle.casa_filing.specs.Text.{Text}
+use Rattle.casa_filing.specs.Subject.{is_due}
+use Rattle.casa_flight.specs.State.{row_of, is_governed_by}
 use Rattle.casa_flight.specs.Listing.{ctot_of}
 use Rattle.casa_flight.specs.Entry.{is_to_issue}
 use Rattle.casa_flight.specs.Steps.{may_compete, extends}

@@ -9,8 +9,8 @@ use Rattle.casa_grid.specs.declared.slot.Place.TheVariants.{Slot, Over}
 use Rattle.casa_grid.specs.Slots.{slots, window_of}
 use Rattle.casa_flight.specs.declared.call.Call.{Call}
 use Rattle.casa_flight.specs.declared.call.Call.TheVariants.{File, Amend, Cancel, Revise, Exempt, OpenReg, CloseReg, Rates, Tick, Show, List as ListOf, Swap}
-use Rattle.casa_flight.specs.declared.regulation.Measure.{Measure}
-use Rattle.casa_flight.specs.declared.regulation.Regulation.{Regulation}
+use Rattle.casa_filing.specs.declared.regulation.Measure.{Measure}
+use Rattle.casa_filing.specs.declared.regulation.Regulation.{Regulation}
 use Rattle.casa_flight.specs.declared.reply.Answer.{Answer}
 use Rattle.casa_flight.specs.declared.reply.Answer.TheVariants.{Done, Flight, List as ListAnswer}
 use Rattle.casa_flight.specs.declared.reply.FlightReply.{FlightReply}
@@ -26,9 +26,10 @@ use Rattle.casa_flight.specs.declared.row.Row.{Row}
 use Rattle.casa_flight.specs.declared.row.Stance.{Stance}
 use Rattle.casa_flight.specs.declared.row.Stance.TheVariants.{Competing, Issued, Forced}
 use Rattle.casa_flight.specs.declared.state.State.{State}
-use Rattle.casa_flight.specs.Text.{Text}
-use Rattle.casa_flight.specs.FlightPlan.{etot}
-use Rattle.casa_flight.specs.State.{row_of, measure_of, regulation, is_exempt}
+use Rattle.casa_filing.specs.Text.{Text}
+use Rattle.casa_filing.specs.FlightPlan.{etot}
+use Rattle.casa_filing.specs.Subject.{regulation}
+use Rattle.casa_flight.specs.State.{row_of, measure_of, is_exempt}
 use Rattle.casa_flight.specs.Listing.{Listing, listing, in_order, cto_as, place_of, delay_of, ctot_of}
 use Rattle.casa_flight.specs.Steps.{Step, refused, leads, step}
 

@@ -9,13 +9,14 @@ use Rattle.casa_flight.specs.declared.call.Call.TheVariants.{File, Amend, Cancel
 use Rattle.casa_flight.specs.declared.call.Refusal.{Refusal}
 use Rattle.casa_flight.specs.declared.call.Refusal.TheVariants.{Duplicate, NoFlight, Late, AlreadyExempt, DuplicateRegulation, NoRegulation, TooManyRegulations, SpanChanged, BackInTime, NotIssued, OtherRegulation, TooEarly}
 use Rattle.casa_flight.specs.declared.comp.Comp.{Comp}
-use Rattle.casa_flight.specs.declared.regulation.Regulation.{Regulation}
-use Rattle.casa_flight.specs.declared.regulation.Measure.{Measure}
+use Rattle.casa_filing.specs.declared.regulation.Regulation.{Regulation}
+use Rattle.casa_filing.specs.declared.regulation.Measure.{Measure}
 use Rattle.casa_flight.specs.declared.row.Row.{Row}
 use Rattle.casa_flight.specs.declared.state.State.{State}
-use Rattle.casa_flight.specs.Text.{Text, put, without}
-use Rattle.casa_flight.specs.FlightPlan.{FlightPlan, etot}
-use Rattle.casa_flight.specs.State.{row_of, measure_of, with_row, regulation, subject, is_exempt, is_gone, is_governed_by, ungoverned}
+use Rattle.casa_filing.specs.Text.{Text, put, without}
+use Rattle.casa_filing.specs.FlightPlan.{FlightPlan, etot}
+use Rattle.casa_filing.specs.Subject.{regulation, subject, is_gone}
+use Rattle.casa_flight.specs.State.{row_of, measure_of, with_row, is_exempt, is_governed_by, ungoverned}
 use Rattle.casa_flight.specs.Listing.{Listing, stance_of, eto_as, governing_list, ctot_of, in_order, is_before}
 use Rattle.casa_flight.specs.Entry.{situation, entered, enter, enter_all, issue_due}
 

@@ -1,8 +1,7 @@
 ghost use Rattle.std.specs.Prelude.{◌≡◌, IfOk};
 ghost use Rattle.casa_flight.specs.Refusals.{code_of, name_of};
 
-use crate::name::{Key, Loc, RegId};
-use crate::plan::Plan;
+use casa_filing::{Key, Loc, Plan, RegId};
 use casa_grid::Profile;
 use casa_time::Moment;
 use std::alloc::AllocError;

@@ -1,4 +1,4 @@
-use crate::name::Key;
+use casa_filing::Key;
 use casa_grid::Place;
 use casa_time::Moment;
 

@@ -4,7 +4,7 @@ ghost use Rattle.std.specs.Prelude.{◌≡◌, ◌≤◌, ◌-◌};
 ghost use Rattle.casa_time.specs.Moment.{last_moment};
 ghost use Rattle.casa_flight.specs.Entry.{governed, more_penalising, most_penalising};
 
-use crate::name::RegId;
+use casa_filing::RegId;
 use crate::row::Row;
 use casa_time::Moment;
 use std::marker::Model;

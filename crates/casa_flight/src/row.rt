@@ -1,14 +1,13 @@
 ghost use Rattle.std.specs.Prelude.{◌≡◌, IfOk, true, option_copied};
-ghost use Rattle.casa_flight.specs.State.{is_exempt, is_governed_by, subject, ungoverned};
+ghost use Rattle.casa_filing.specs.Subject.{subject};
+ghost use Rattle.casa_flight.specs.State.{is_exempt, is_governed_by, ungoverned};
 ghost use Rattle.casa_flight.specs.Listing.{competitor, eto_as, issued_cto, stance, stance_in, stance_over};
 ghost use Rattle.casa_flight.specs.Entry.{is_to_issue};
 ghost use Rattle.casa_flight.specs.Steps.{may_compete, new_row};
 ghost use Rattle.casa_flight.specs.Replies.{is_issued, kind_of};
 
 use crate::comp::Comp;
-use crate::name::{Key, RegId};
-use crate::plan::Plan;
-use crate::regulation::{Measure, Regulation};
+use casa_filing::{Key, Measure, Plan, RegId, Regulation};
 use crate::reply::Kind;
 use casa_time::Moment;
 use std::alloc::AllocError;

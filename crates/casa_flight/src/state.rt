@@ -1,5 +1,4 @@
-use crate::name::{Key, RegId};
-use crate::regulation::Measure;
+use casa_filing::{Key, Measure, RegId};
 use crate::row::Row;
 use casa_time::Moment;
 use std::collections::LinkedList;

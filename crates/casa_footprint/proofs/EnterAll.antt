@@ -5,13 +5,13 @@ use Rattle.std.specs.List.{AllByRecursion}
 use Rattle.casa_flight.specs.declared.comp.Comp.{Comp}
 use Rattle.casa_flight.specs.declared.row.Row.{Row}
 use Rattle.casa_flight.specs.declared.state.State.{State}
-use Rattle.casa_flight.specs.Text.{Text, same_text}
-use Rattle.casa_flight.specs.FlightPlan.{FlightPlan}
+use Rattle.casa_filing.specs.Text.{Text, same_text}
+use Rattle.casa_filing.specs.FlightPlan.{FlightPlan}
 use Rattle.casa_flight.specs.State.{row_of, with_row, ungoverned}
 use Rattle.casa_flight.specs.Listing.{list_of}
 use Rattle.casa_flight.specs.Entry.{situation, entered, enter_all, reenter}
 use Rattle.casa_flight.specs.Good.{AreInOrder}
-use Rattle.casa_flight.proofs.Entries.{all-each, at-put_same, sorted-put, named}
+use Rattle.casa_filing.proofs.Entries.{all-each, at-put_same, sorted-put, named}
 use Rattle.casa_footprint.specs.Footprint.{is_subject, is_list_of}
 use Rattle.casa_footprint.proofs.Entering.{entered_own}
 use Rattle.casa_footprint.proofs.OneFlight.{other_row, other_list, list_of_own}

@@ -1,12 +1,13 @@
 -- a flight that enters keeps its plan, and is subject to what governs it
 use Rattle.std.proofs.Common.{◌≡◌, true, false, cond, refl, sym, ap, subst, ◌∙◌, Option, None, Some, IfSome, ◌||◌, is_some}
 use Rattle.std.specs.Option.{option_map_or}
-use Rattle.casa_flight.specs.declared.regulation.Measure.{Measure}
+use Rattle.casa_filing.specs.declared.regulation.Measure.{Measure}
 use Rattle.casa_flight.specs.declared.row.Row.{Row}
 use Rattle.casa_flight.specs.declared.state.State.{State}
-use Rattle.casa_flight.specs.Text.{Text}
-use Rattle.casa_flight.specs.FlightPlan.{FlightPlan}
-use Rattle.casa_flight.specs.State.{measure_of, regulation, subject, is_exempt, is_gone}
+use Rattle.casa_filing.specs.Text.{Text}
+use Rattle.casa_filing.specs.FlightPlan.{FlightPlan}
+use Rattle.casa_filing.specs.Subject.{regulation, subject, is_gone}
+use Rattle.casa_flight.specs.State.{measure_of, is_exempt}
 use Rattle.casa_flight.specs.Entry.{Offer, situation, choice, governed, entered}
 use Rattle.casa_flight.specs.Good.{AreInOrder}
 use Rattle.casa_laws.proofs.Choice.{IsOfferOf, choice-offer}

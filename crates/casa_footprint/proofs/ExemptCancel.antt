@@ -2,14 +2,14 @@
 use Rattle.std.proofs.Common.{◌≡◌, Bool, true, false, refl, sym, ap, ◌∙◌, Option, None, Some, ◌&&◌}
 use Rattle.std.specs.Option.{option_map}
 use Rattle.casa_flight.specs.declared.call.Call.TheVariants.{Exempt, Cancel}
-use Rattle.casa_flight.specs.declared.regulation.Measure.{Measure}
+use Rattle.casa_filing.specs.declared.regulation.Measure.{Measure}
 use Rattle.casa_flight.specs.declared.row.Row.{Row}
 use Rattle.casa_flight.specs.declared.state.State.{State}
-use Rattle.casa_flight.specs.Text.{Text, without}
+use Rattle.casa_filing.specs.Text.{Text, without}
 use Rattle.casa_flight.specs.State.{row_of, measure_of, is_exempt, ungoverned}
 use Rattle.casa_flight.specs.Listing.{Listing, listing, list_of}
 use Rattle.casa_flight.specs.Steps.{exempt, exempt_if, cancel, after}
-use Rattle.casa_flight.proofs.Entries.{at-without_other, apart}
+use Rattle.casa_filing.proofs.Entries.{at-without_other, apart}
 use Rattle.casa_laws.proofs.Kept.{without_absent}
 use Rattle.casa_laws.proofs.Lists.{list_cancelled}
 use Rattle.casa_footprint.specs.Items.{ItemName, the_clock, the_catalogue, a_row, a_list, row_or_none, list_or_none, contents}

@@ -3,12 +3,12 @@ use Rattle.std.specs.Prelude.{◌≡◌, ℕ, List, [], ◌∷◌, ◌++◌, map
 use Rattle.std.specs.List.{list_all}
 use Rattle.casa_flight.specs.declared.call.Call.{Call}
 use Rattle.casa_flight.specs.declared.call.Call.TheVariants.{File, Cancel, OpenReg, Rates, Tick, Show, List as ListOf, Swap}
-use Rattle.casa_flight.specs.declared.plan.Crossing.{Crossing}
-use Rattle.casa_flight.specs.declared.plan.Sts.TheVariants.{Plain}
+use Rattle.casa_filing.specs.declared.plan.Crossing.{Crossing}
+use Rattle.casa_filing.specs.declared.plan.Sts.TheVariants.{Plain}
 use Rattle.casa_flight.specs.declared.reply.Reply.{Reply}
 use Rattle.casa_flight.specs.declared.state.State.{State}
-use Rattle.casa_flight.specs.Text.{Text}
-use Rattle.casa_flight.specs.FlightPlan.{FlightPlan}
+use Rattle.casa_filing.specs.Text.{Text}
+use Rattle.casa_filing.specs.FlightPlan.{FlightPlan}
 use Rattle.casa_flight.specs.State.{empty}
 use Rattle.casa_flight.specs.Steps.{next}
 use Rattle.casa_flight.specs.Replies.{reply}

@@ -1,12 +1,13 @@
 -- the messages of a call that changes no row that is there, and what governs a flight
 use Rattle.std.proofs.Common.{◌≡◌, true, sym, ap, ◌∙◌, [], Option, None, Some, IfSome, is_some, unwrap_or, refl}
 use Rattle.std.specs.Option.{option_map}
-use Rattle.casa_flight.specs.declared.regulation.Regulation.{Regulation}
-use Rattle.casa_flight.specs.declared.regulation.Measure.{Measure}
+use Rattle.casa_filing.specs.declared.regulation.Regulation.{Regulation}
+use Rattle.casa_filing.specs.declared.regulation.Measure.{Measure}
 use Rattle.casa_flight.specs.declared.row.Row.{Row}
 use Rattle.casa_flight.specs.declared.state.State.{State}
-use Rattle.casa_flight.specs.Text.{Text}
-use Rattle.casa_flight.specs.State.{row_of, measure_of, regulation, catalogue}
+use Rattle.casa_filing.specs.Text.{Text}
+use Rattle.casa_filing.specs.Subject.{regulation}
+use Rattle.casa_flight.specs.State.{row_of, measure_of, catalogue}
 use Rattle.casa_flight.specs.Replies.{messages}
 use Rattle.casa_flight.specs.Good.{AreInOrder, IsGood, IsGoverned}
 use Rattle.casa_laws.proofs.ChangeMessages.{governed_by, StaysOpen, same_times, messages_unchanged}

@@ -1,14 +1,15 @@
 -- a call that writes the row of one flight
 use Rattle.std.proofs.Common.{◌≡◌, ℕ, false, refl, sym, ap, ◌∙◌, Option, None, Some, is_some}
 use Rattle.std.specs.Option.{option_map, option_and_then, option_map_or}
-use Rattle.casa_flight.specs.declared.regulation.Measure.{Measure}
+use Rattle.casa_filing.specs.declared.regulation.Measure.{Measure}
 use Rattle.casa_flight.specs.declared.row.Row.{Row}
 use Rattle.casa_flight.specs.declared.state.State.{State}
-use Rattle.casa_flight.specs.Text.{Text, same_text}
-use Rattle.casa_flight.specs.State.{row_of, measure_of, with_row, regulation, subject, is_governed_by}
+use Rattle.casa_filing.specs.Text.{Text, same_text}
+use Rattle.casa_filing.specs.Subject.{regulation, subject}
+use Rattle.casa_flight.specs.State.{row_of, measure_of, with_row, is_governed_by}
 use Rattle.casa_flight.specs.Listing.{Listing, listing, list_of, stance, stance_in, stance_of}
 use Rattle.casa_flight.specs.Good.{AreInOrder}
-use Rattle.casa_flight.proofs.Entries.{at-put_other, apart}
+use Rattle.casa_filing.proofs.Entries.{at-put_other, apart}
 use Rattle.casa_laws.proofs.Lists.{list_spares, stance_is}
 use Rattle.casa_footprint.specs.Footprint.{is_subject, is_list_of}
 use Rattle.casa_footprint.proofs.Entering.{subject_at}

@@ -7,19 +7,20 @@ use Rattle.std.specs.List.Sorted.{IsStrictlySortedBy}
 use Rattle.std.proofs.lemmas.Bool.{and_from, or_parts}
 use Rattle.casa_grid.specs.declared.period.Period.{Period}
 use Rattle.casa_flight.specs.declared.call.Call.TheVariants.{OpenReg, CloseReg}
-use Rattle.casa_flight.specs.declared.regulation.Regulation.{Regulation}
-use Rattle.casa_flight.specs.declared.regulation.Measure.{Measure}
+use Rattle.casa_filing.specs.declared.regulation.Regulation.{Regulation}
+use Rattle.casa_filing.specs.declared.regulation.Measure.{Measure}
 use Rattle.casa_flight.specs.declared.row.Row.{Row}
 use Rattle.casa_flight.specs.declared.row.Stance.{Stance}
 use Rattle.casa_flight.specs.declared.state.State.{State}
-use Rattle.casa_flight.specs.Text.{Text, same_text, put}
-use Rattle.casa_flight.specs.FlightPlan.{FlightPlan}
-use Rattle.casa_flight.specs.State.{row_of, measure_of, regulation, subject, is_exempt, is_gone, is_governed_by, ungoverned}
+use Rattle.casa_filing.specs.Text.{Text, same_text, put}
+use Rattle.casa_filing.specs.FlightPlan.{FlightPlan}
+use Rattle.casa_filing.specs.Subject.{regulation, subject, is_gone}
+use Rattle.casa_flight.specs.State.{row_of, measure_of, is_exempt, is_governed_by, ungoverned}
 use Rattle.casa_flight.specs.Listing.{listing, list_of, stance, stance_in, kept}
 use Rattle.casa_flight.specs.Entry.{enter_all}
 use Rattle.casa_flight.specs.Steps.{most_regulations, flights_over, may_compete, take_in, open_regulation, freed, closed, close_regulation, after}
 use Rattle.casa_flight.specs.Good.{IsGood, IsGoodRow, IsFree, IsGoverned}
-use Rattle.casa_flight.proofs.Entries.{text_cmp, all_at, all-each, all-both, each_found, at-map, at-put_other, at-without_other, keys-map, sorted-put, sorted-remove, apart}
+use Rattle.casa_filing.proofs.Entries.{text_cmp, all_at, all-each, all-both, each_found, at-map, at-put_other, at-without_other, keys-map, sorted-put, sorted-remove, apart}
 use Rattle.casa_laws.proofs.EnterAll.{row-enter_all, clock-enter_all, all-flights_over, others}
 use Rattle.casa_laws.proofs.RegMessages.{clock-take_in, competes, freed_plan}
 use Rattle.casa_footprint.specs.Items.{ItemName, the_clock, the_catalogue, a_row, a_list, moment, row_or_none, list_or_none, contents}

@@ -8,17 +8,18 @@ use Rattle.std.proofs.lemmas.Bool.{both_ways}
 use Rattle.casa_grid.specs.declared.period.Period.{Period}
 use Rattle.casa_grid.specs.Profile.{end_of}
 use Rattle.casa_flight.specs.declared.call.Call.TheVariants.{Rates}
-use Rattle.casa_flight.specs.declared.regulation.Regulation.{Regulation}
-use Rattle.casa_flight.specs.declared.regulation.Measure.{Measure}
+use Rattle.casa_filing.specs.declared.regulation.Regulation.{Regulation}
+use Rattle.casa_filing.specs.declared.regulation.Measure.{Measure}
 use Rattle.casa_flight.specs.declared.row.Row.{Row}
 use Rattle.casa_flight.specs.declared.state.State.{State}
-use Rattle.casa_flight.specs.Text.{Text, same_text, at_name, put}
-use Rattle.casa_flight.specs.State.{measure_of, regulation, catalogue, subject, is_governed_by}
+use Rattle.casa_filing.specs.Text.{Text, same_text, at_name, put}
+use Rattle.casa_filing.specs.Subject.{regulation, subject}
+use Rattle.casa_flight.specs.State.{measure_of, catalogue, is_governed_by}
 use Rattle.casa_flight.specs.Listing.{Listing, listing, list_of, stance, kept}
 use Rattle.casa_flight.specs.Steps.{keeps_span, ends_later, extends, rates, rates_if, after}
 use Rattle.casa_flight.specs.Replies.{messages}
 use Rattle.casa_flight.specs.Good.{AreInOrder, IsGood}
-use Rattle.casa_flight.proofs.Entries.{text_cmp, after_all, at-put_same, at-put_other, apart}
+use Rattle.casa_filing.proofs.Entries.{text_cmp, after_all, at-put_same, at-put_other, apart}
 use Rattle.casa_laws.proofs.Kept.{at_above}
 use Rattle.casa_laws.proofs.GoodTick.{KeepsSpan, span_kept, same_end}
 use Rattle.casa_laws.proofs.RegMessages.{clock-take_in}

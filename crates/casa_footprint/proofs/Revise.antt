@@ -4,8 +4,8 @@ use Rattle.std.specs.Option.{option_map_or}
 use Rattle.casa_flight.specs.declared.call.Call.TheVariants.{Revise}
 use Rattle.casa_flight.specs.declared.row.Row.{Row}
 use Rattle.casa_flight.specs.declared.state.State.{State}
-use Rattle.casa_flight.specs.Text.{Text, same_text}
-use Rattle.casa_flight.specs.FlightPlan.{FlightPlan}
+use Rattle.casa_filing.specs.Text.{Text, same_text}
+use Rattle.casa_filing.specs.FlightPlan.{FlightPlan}
 use Rattle.casa_flight.specs.State.{row_of, with_row, ungoverned}
 use Rattle.casa_flight.specs.Entry.{situation, entered}
 use Rattle.casa_flight.specs.Steps.{is_revised, state_if, revise, after}

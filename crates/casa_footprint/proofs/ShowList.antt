@@ -5,17 +5,18 @@ use Rattle.std.specs.List.{AllByRecursion, list_any}
 use Rattle.std.proofs.lemmas.Bool.{or_left, or_right}
 use Rattle.casa_flight.specs.declared.call.Call.TheVariants.{Show, List as ListOf}
 use Rattle.casa_flight.specs.declared.reply.Answer.TheVariants.{Done, List as ListAnswer}
-use Rattle.casa_flight.specs.declared.regulation.Measure.{Measure}
+use Rattle.casa_filing.specs.declared.regulation.Measure.{Measure}
 use Rattle.casa_flight.specs.declared.row.Row.{Row}
 use Rattle.casa_flight.specs.declared.row.Stance.{Stance}
 use Rattle.casa_flight.specs.declared.row.Stance.TheVariants.{Competing, Issued, Forced}
 use Rattle.casa_flight.specs.declared.state.State.{State}
-use Rattle.casa_flight.specs.Text.{Text, same_text}
-use Rattle.casa_flight.specs.State.{row_of, measure_of, regulation, is_governed_by}
+use Rattle.casa_filing.specs.Text.{Text, same_text}
+use Rattle.casa_filing.specs.Subject.{regulation}
+use Rattle.casa_flight.specs.State.{row_of, measure_of, is_governed_by}
 use Rattle.casa_flight.specs.Listing.{Listing, listing, list_of}
 use Rattle.casa_flight.specs.Steps.{show, list, after}
 use Rattle.casa_flight.specs.Replies.{list_reply, list_answer}
-use Rattle.casa_flight.proofs.Entries.{all-each}
+use Rattle.casa_filing.proofs.Entries.{all-each}
 use Rattle.casa_footprint.specs.Items.{the_clock, the_catalogue, a_row, a_list, contents, AgreeOn}
 use Rattle.casa_footprint.specs.Footprint.{governs, is_forced, has_flight, is_forced_in, governs_forced, reads}
 use Rattle.casa_footprint.proofs.Names.{row_in, list_in, text_itself}

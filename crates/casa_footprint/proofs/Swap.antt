@@ -4,7 +4,7 @@ use Rattle.std.specs.Option.{option_map_or}
 use Rattle.std.proofs.lemmas.Bool.{or_left, or_right, or_parts}
 use Rattle.casa_flight.specs.declared.call.Call.TheVariants.{Swap}
 use Rattle.casa_flight.specs.declared.row.Row.{Row}
-use Rattle.casa_flight.specs.Text.{Text, same_text}
+use Rattle.casa_filing.specs.Text.{Text, same_text}
 use Rattle.casa_flight.specs.State.{row_of, with_row, is_governed_by}
 use Rattle.casa_flight.specs.Steps.{Step, leads, reissued, Exchange, exchanged, after}
 use Rattle.casa_laws.proofs.Swap.{CanExchange, swap_cases, other_list}

@@ -6,16 +6,17 @@ use Rattle.std.proofs.lemmas.Bool.{or_parts}
 use Rattle.casa_grid.specs.declared.period.Period.{Period}
 use Rattle.casa_flight.specs.declared.call.Call.{Call}
 use Rattle.casa_flight.specs.declared.call.Call.TheVariants.{OpenReg, CloseReg, Tick}
-use Rattle.casa_flight.specs.declared.regulation.Measure.{Measure}
+use Rattle.casa_filing.specs.declared.regulation.Measure.{Measure}
 use Rattle.casa_flight.specs.declared.row.Row.{Row}
 use Rattle.casa_flight.specs.declared.row.Stance.{Stance}
 use Rattle.casa_flight.specs.declared.state.State.{State}
-use Rattle.casa_flight.specs.Text.{Text}
-use Rattle.casa_flight.specs.State.{row_of, measure_of, regulation, subject, is_governed_by}
+use Rattle.casa_filing.specs.Text.{Text}
+use Rattle.casa_filing.specs.Subject.{regulation, subject}
+use Rattle.casa_flight.specs.State.{row_of, measure_of, is_governed_by}
 use Rattle.casa_flight.specs.Listing.{listing, stance, stance_in, kept}
 use Rattle.casa_flight.specs.Entry.{is_to_issue, issue_if, issue_due}
 use Rattle.casa_flight.specs.Steps.{tick, after}
-use Rattle.casa_flight.proofs.Entries.{at-map}
+use Rattle.casa_filing.proofs.Entries.{at-map}
 use Rattle.casa_footprint.specs.Items.{ItemName, the_clock, the_catalogue, a_row, a_list, row_or_none, list_or_none, contents}
 use Rattle.casa_footprint.specs.Footprint.{reads, would_write, is_accepted}
 use Rattle.casa_footprint.proofs.Forms.{DecidesReads, Spares}

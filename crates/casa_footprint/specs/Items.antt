@@ -1,9 +1,9 @@
 -- to believe, in part (ItemName): the items of a state, and what each contains
 use Rattle.std.specs.Prelude.{◌≡◌, ℕ, List, Bool, true, false, Option}
-use Rattle.casa_flight.specs.declared.regulation.Regulation.{Regulation}
+use Rattle.casa_filing.specs.declared.regulation.Regulation.{Regulation}
 use Rattle.casa_flight.specs.declared.row.Row.{Row}
 use Rattle.casa_flight.specs.declared.state.State.{State}
-use Rattle.casa_flight.specs.Text.{Text, same_text}
+use Rattle.casa_filing.specs.Text.{Text, same_text}
 use Rattle.casa_flight.specs.State.{row_of, catalogue}
 use Rattle.casa_flight.specs.Listing.{Listing, list_of}
 

@@ -4,7 +4,7 @@ ghost use Rattle.std.specs.Prelude.{◌≡◌, ◌≢◌, false, List, ◌++◌,
 ghost use Rattle.casa_flight.specs.declared.call.Call.{Call};
 ghost use Rattle.casa_flight.specs.declared.reply.Reply.{Reply};
 ghost use Rattle.casa_flight.specs.declared.state.State.{State};
-ghost use Rattle.casa_flight.specs.Text.{Text};
+ghost use Rattle.casa_filing.specs.Text.{Text};
 ghost use Rattle.casa_flight.specs.Listing.{list_of};
 ghost use Rattle.casa_flight.specs.Good.{IsGood};
 ghost use Rattle.casa_flight.specs.Steps.{next};

@@ -9,16 +9,17 @@ use Rattle.std.specs.List.{AllByRecursion, cons_option, filter, sum_by}
 use Rattle.std.specs.List.Sorted.{IsStrictlySortedBy}
 use Rattle.std.specs.Map.{keys_of}
 use Rattle.std.specs.Option.{option_and_then, option_map, option_map_or}
-use Rattle.casa_flight.specs.declared.regulation.Measure.{Measure}
+use Rattle.casa_filing.specs.declared.regulation.Measure.{Measure}
 use Rattle.casa_flight.specs.declared.row.Row.{Row}
 use Rattle.casa_flight.specs.declared.row.Stance.{Stance}
 use Rattle.casa_flight.specs.declared.state.State.{State}
-use Rattle.casa_flight.specs.Text.{Text, at_name, same_text}
+use Rattle.casa_filing.specs.Text.{Text, at_name, same_text}
 use Rattle.casa_flight.specs.Good.{AreInOrder, IsFree, IsGood, IsGoodRow, IsGoverned}
 use Rattle.casa_flight.specs.Listing.{Listing, delay_in, delay_of, kept, list_of, listing, stance, stance_in}
 use Rattle.casa_flight.specs.Replies.{kind_of}
-use Rattle.casa_flight.specs.State.{is_governed_by, regulation, subject}
-use Rattle.casa_flight.proofs.Entries.{itself, named, same_name, text_cmp}
+use Rattle.casa_filing.specs.Subject.{regulation, subject}
+use Rattle.casa_flight.specs.State.{is_governed_by}
+use Rattle.casa_filing.proofs.Entries.{itself, named, same_name, text_cmp}
 use Rattle.casa_inquiry.specs.Summary.{delays_in, governs, lists_told, total_delay}
 use Rattle.casa_inquiry.proofs.Told.{told_delays}
 

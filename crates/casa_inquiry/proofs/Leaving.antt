@@ -5,7 +5,7 @@ use Rattle.std.specs.Option.{option_and_then}
 use Rattle.casa_grid.specs.declared.slot.Place.{Place}
 use Rattle.casa_flight.specs.declared.row.Stance.{Stance}
 use Rattle.casa_flight.specs.declared.row.Stance.TheVariants.{Competing}
-use Rattle.casa_flight.specs.Text.{Text, put, without}
+use Rattle.casa_filing.specs.Text.{Text, put, without}
 use Rattle.casa_flight.specs.Listing.{Listing, stance_of}
 use Rattle.casa_flight.specs.Entry.{with_competitor}
 use Rattle.casa_flight.specs.Good.{AreInOrder}

@@ -4,18 +4,18 @@ use Rattle.std.proofs.lemmas.List.Elements.{filter-append}
 use Rattle.std.proofs.lemmas.List.Sums.{sum_by-append, sum_by-cons, sum_by-insert}
 use Rattle.std.specs.List.{AllByRecursion, filter, fold, sum_by}
 use Rattle.std.specs.Option.{option_map_or}
-use Rattle.casa_flight.specs.declared.regulation.Measure.{Measure}
+use Rattle.casa_filing.specs.declared.regulation.Measure.{Measure}
 use Rattle.casa_flight.specs.declared.reply.ListReply.{ListReply}
 use Rattle.casa_flight.specs.declared.reply.ListRow.{ListRow}
 use Rattle.casa_flight.specs.declared.row.Stance.{Stance}
 use Rattle.casa_flight.specs.declared.row.Stance.TheVariants.{Competing, Issued, Forced}
 use Rattle.casa_flight.specs.declared.state.State.{State}
-use Rattle.casa_flight.specs.Text.{Text}
+use Rattle.casa_filing.specs.Text.{Text}
 use Rattle.casa_flight.specs.Good.{AreInOrder}
 use Rattle.casa_flight.specs.Listing.{Listing, cto_as, delay_in, eto_as, in_order, listing, put_by, stance_in, stance_of}
 use Rattle.casa_flight.specs.Replies.{is_row_before, kind_of, list_reply, list_rows, row_in}
-use Rattle.casa_flight.specs.State.{regulation}
-use Rattle.casa_flight.proofs.Entries.{each_found}
+use Rattle.casa_filing.specs.Subject.{regulation}
+use Rattle.casa_filing.proofs.Entries.{each_found}
 use Rattle.casa_laws.proofs.Kept.{sorted-kept}
 use Rattle.casa_inquiry.specs.Summary.{delay, delays_in, governs, is_governed, lists_told, rows_of, total_delay}
 

@@ -5,13 +5,13 @@ use Rattle.casa_flight.specs.declared.reply.Kind.{Kind}
 use Rattle.casa_flight.specs.declared.reply.Kind.TheVariants.{Pre, Issued, Forced}
 use Rattle.casa_flight.specs.declared.reply.ListReply.{ListReply}
 use Rattle.casa_flight.specs.declared.reply.ListRow.{ListRow}
-use Rattle.casa_flight.specs.declared.regulation.Measure.{Measure}
+use Rattle.casa_filing.specs.declared.regulation.Measure.{Measure}
 use Rattle.casa_flight.specs.declared.row.Stance.{Stance}
 use Rattle.casa_flight.specs.declared.state.State.{State}
-use Rattle.casa_flight.specs.Text.{Text}
+use Rattle.casa_filing.specs.Text.{Text}
 use Rattle.casa_flight.specs.Listing.{Listing, delay_in, listing}
 use Rattle.casa_flight.specs.Replies.{kind_of, list_reply}
-use Rattle.casa_flight.specs.State.{regulation}
+use Rattle.casa_filing.specs.Subject.{regulation}
 use Rattle.casa_inquiry.specs.declared.summary.Cost.{Cost}
 
 -- whether a flight that a list shows so is governed by the list's regulation

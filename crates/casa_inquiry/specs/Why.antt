@@ -8,8 +8,9 @@ use Rattle.casa_grid.specs.Slots.{slots, begin_at, wanted}
 use Rattle.casa_flight.specs.declared.row.Row.{Row}
 use Rattle.casa_flight.specs.declared.row.Stance.{Stance}
 use Rattle.casa_flight.specs.declared.state.State.{State}
-use Rattle.casa_flight.specs.Text.{Text, same_text}
-use Rattle.casa_flight.specs.State.{row_of, is_exempt, is_gone}
+use Rattle.casa_filing.specs.Text.{Text, same_text}
+use Rattle.casa_filing.specs.Subject.{is_gone}
+use Rattle.casa_flight.specs.State.{row_of, is_exempt}
 use Rattle.casa_flight.specs.Assignment.{is_slot}
 use Rattle.casa_flight.specs.Listing.{Listing, stance_of, eto_as, governing_list}
 use Rattle.casa_flight.specs.Entry.{Offer, situation, offers, most_penalising}

@@ -6,7 +6,7 @@ ghost use Rattle.casa_flight.specs.declared.row.Row.{Row};
 ghost use Rattle.casa_flight.specs.declared.state.State.{State};
 ghost use Rattle.casa_flight.specs.Good.{IsGood};
 ghost use Rattle.casa_flight.specs.Listing.{delay_of};
-ghost use Rattle.casa_flight.specs.Text.{Text};
+ghost use Rattle.casa_filing.specs.Text.{Text};
 ghost use Rattle.casa_inquiry.specs.Summary.{lists_told, total_delay};
 
 /// The delays that the lists of a good state tell add up to those of its flights, of which each has one, as it is shown.

@@ -5,7 +5,7 @@ ghost use Rattle.std.specs.List.{range_with_len};
 ghost use Rattle.casa_time.specs.Moment.{last_moment};
 ghost use Rattle.casa_grid.specs.Slots.{slots};
 ghost use Rattle.casa_flight.specs.declared.row.Stance.{Stance};
-ghost use Rattle.casa_flight.specs.State.{subject};
+ghost use Rattle.casa_filing.specs.Subject.{subject};
 ghost use Rattle.casa_flight.specs.Listing.{cto_as, delay_in};
 ghost use Rattle.casa_flight.specs.Entry.{most_penalising, offer_in, with_competitor};
 ghost use Rattle.casa_slots.specs.Walk.{low_after};

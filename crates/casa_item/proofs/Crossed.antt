@@ -10,16 +10,16 @@ use Rattle.std.proofs.lemmas.List.{map-append}
 use Rattle.std.proofs.lemmas.List.Elements.{filter_map-append}
 use Rattle.std.proofs.lemmas.List.Folds.{list_any-append}
 use Rattle.std.proofs.lemmas.Cmp.{nat_list_eq_equiv}
-use Rattle.casa_flight.specs.declared.plan.Crossing.{Crossing}
-use Rattle.casa_flight.specs.declared.regulation.Regulation.{Regulation}
-use Rattle.casa_flight.specs.Text.{Text, same_text, at_name, put, without}
-use Rattle.casa_flight.specs.FlightPlan.{FlightPlan}
-use Rattle.casa_flight.specs.State.{subject, is_there, covered}
+use Rattle.casa_filing.specs.declared.plan.Crossing.{Crossing}
+use Rattle.casa_filing.specs.declared.regulation.Regulation.{Regulation}
+use Rattle.casa_filing.specs.Text.{Text, same_text, at_name, put, without}
+use Rattle.casa_filing.specs.FlightPlan.{FlightPlan}
+use Rattle.casa_filing.specs.Subject.{subject, is_there, covered}
 use Rattle.casa_flight.specs.Good.{AreInOrder}
 use Rattle.casa_flight.specs.Listing.{kept}
 use Rattle.casa_laws.proofs.Kept.{at-kept, sorted-kept}
-use Rattle.casa_flight.proofs.Entries.{text_cmp, same_name, named, at-put, at-without_other, each_found}
-use Rattle.casa_flight.proofs.Entries.{filter_map-map}
+use Rattle.casa_filing.proofs.Entries.{text_cmp, same_name, named, at-put, at-without_other, each_found}
+use Rattle.casa_filing.proofs.Entries.{filter_map-map}
 use Rattle.casa_item.specs.Gathered.{noted, is_named, HasGathered, HasNoted}
 use Rattle.casa_footprint.specs.Finding.{crossed}
 use Rattle.casa_footprint.specs.Finding.{by_id}

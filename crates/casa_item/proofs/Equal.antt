@@ -4,12 +4,12 @@ use Rattle.std.specs.Prelude.{Option, None, Some}
 use Rattle.std.specs.Option.{option_eq}
 use Rattle.std.proofs.lemmas.Bool.{and_parts, eqb-true}
 use Rattle.casa_grid.proofs.Equal.{pointwise-true}
-use Rattle.casa_flight.proofs.Same.{text_same}
+use Rattle.casa_filing.proofs.Same.{text_same}
 use Rattle.casa_flight.proofs.SameRow.{row_same}
 use Rattle.casa_list.proofs.Equal.{list_same}
 use Rattle.casa_list.specs.Equality.{list_eq}
-use Rattle.casa_flight.specs.declared.regulation.Regulation.{Regulation}
-use Rattle.casa_flight.specs.contracts.regulation.RegulationPartialEq.TheImpl.{ghosts as regulation}
+use Rattle.casa_filing.specs.declared.regulation.Regulation.{Regulation}
+use Rattle.casa_filing.specs.contracts.regulation.RegulationPartialEq.TheImpl.{ghosts as regulation}
 use Rattle.casa_flight.specs.contracts.row.RowPartialEq.TheImpl.{ghosts as row}
 use Rattle.casa_item.specs.declared.item.Item.{Item}
 use Rattle.casa_item.specs.declared.item.Item.TheVariants.{Clock, Catalogue, Row as RowOf, List as ListOf}

@@ -5,10 +5,10 @@ use Rattle.std.specs.Ordering.{is_eq}
 use Rattle.std.specs.Option.{option_and_then, option_or}
 use Rattle.std.specs.List.Sorted.{IsStrictlySortedBy}
 use Rattle.std.proofs.lemmas.List.Folds.{list_any-append}
-use Rattle.casa_flight.specs.Text.{Text, at_name}
+use Rattle.casa_filing.specs.Text.{Text, at_name}
 use Rattle.casa_flight.specs.Good.{AreInOrder}
 use Rattle.casa_flight.specs.Listing.{kept}
-use Rattle.casa_flight.proofs.Entries.{text_cmp, same_name, at-put, sorted-put}
+use Rattle.casa_filing.proofs.Entries.{text_cmp, same_name, at-put, sorted-put}
 use Rattle.casa_laws.proofs.Kept.{at-kept, same_entries, sorted-kept}
 use Rattle.casa_item.specs.Gathered.{noted, is_named, HasGathered}
 

@@ -5,8 +5,8 @@ use Rattle.std.specs.Ordering.{is_eq}
 use Rattle.std.specs.Option.{option_map, option_or}
 use Rattle.std.specs.List.{cons_option}
 use Rattle.std.proofs.lemmas.List.{reverse-append}
-use Rattle.casa_flight.specs.Text.{Text, at_name}
-use Rattle.casa_flight.proofs.Entries.{text_cmp}
+use Rattle.casa_filing.specs.Text.{Text, at_name}
+use Rattle.casa_filing.proofs.Entries.{text_cmp}
 use Rattle.casa_item.specs.Gathered.{noted, HasNoted}
 use Rattle.casa_item.proofs.Gathered.{at-noted, sorted-noted}
 

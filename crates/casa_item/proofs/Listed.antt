@@ -12,11 +12,11 @@ use Rattle.std.specs.Map.{keys_of}
 use Rattle.std.proofs.lemmas.Cmp.{nat_list_cmp_total}
 use Rattle.std.proofs.lemmas.Bool.{cases_lt}
 use Rattle.std.proofs.lemmas.List.Sorted.{searchable_from_sorted}
-use Rattle.casa_flight.specs.declared.regulation.Regulation.{Regulation}
-use Rattle.casa_flight.specs.FlightPlan.{FlightPlan}
-use Rattle.casa_flight.specs.State.{subject}
-use Rattle.casa_flight.specs.Text.{Text, same_text, at_name, put, without}
-use Rattle.casa_flight.proofs.Entries.{text_cmp, same_name, after_all, other_way, sorted-put, sorted-remove}
+use Rattle.casa_filing.specs.declared.regulation.Regulation.{Regulation}
+use Rattle.casa_filing.specs.FlightPlan.{FlightPlan}
+use Rattle.casa_filing.specs.Subject.{subject}
+use Rattle.casa_filing.specs.Text.{Text, same_text, at_name, put, without}
+use Rattle.casa_filing.proofs.Entries.{text_cmp, same_name, after_all, other_way, sorted-put, sorted-remove}
 use Rattle.casa_laws.proofs.Kept.{Above}
 use Rattle.casa_footprint.specs.Finding.{crossed}
 use Rattle.casa_footprint.specs.Finding.{by_id}

@@ -1,11 +1,11 @@
 -- to believe: the versions of a board's items, and the state that they show
 use Rattle.std.specs.Prelude.{◌≡◌, ℕ, List, [], map, Option, None, Some, IsSome}
 use Rattle.std.specs.Option.{option_map, option_map_or, option_and_then}
-use Rattle.casa_flight.specs.declared.regulation.Regulation.{Regulation}
-use Rattle.casa_flight.specs.declared.regulation.Measure.{Measure}
+use Rattle.casa_filing.specs.declared.regulation.Regulation.{Regulation}
+use Rattle.casa_filing.specs.declared.regulation.Measure.{Measure}
 use Rattle.casa_flight.specs.declared.row.Row.{Row}
 use Rattle.casa_flight.specs.declared.state.State.{State}
-use Rattle.casa_flight.specs.Text.{Text, at_name}
+use Rattle.casa_filing.specs.Text.{Text, at_name}
 use Rattle.casa_flight.specs.Listing.{Listing, kept}
 use Rattle.casa_flight.specs.Good.{AreInOrder}
 use Rattle.casa_footprint.specs.Items.{ItemName, the_clock, the_catalogue, a_row, a_list, Content, moment, regulations}

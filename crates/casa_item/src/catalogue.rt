@@ -2,7 +2,7 @@
 
 ghost use Rattle.std.specs.Prelude.{◌≡◌, ◌++◌, ◌∷◌, [], IfOk, OnOk};
 ghost use Rattle.std.specs.Option.{option_copied, option_map_or};
-ghost use Rattle.casa_flight.specs.Text.{Text, at_name, put, without};
+ghost use Rattle.casa_filing.specs.Text.{Text, at_name, put, without};
 ghost use Rattle.casa_item.specs.Gathered.{noted, HasNoted};
 ghost use Rattle.casa_footprint.specs.Finding.{crossed};
 ghost use Rattle.casa_footprint.specs.Finding.{by_id};
@@ -29,7 +29,7 @@ pub struct Catalogue {
 
 impl Model for Catalogue {
     ghost use Rattle.std.specs.Prelude.{List};
-    ghost use Rattle.casa_flight.specs.declared.regulation.Regulation.{Regulation};
+    ghost use Rattle.casa_filing.specs.declared.regulation.Regulation.{Regulation};
     ghost use Rattle.casa_item.specs.Crossed.{IsCatalogue, at_place};
 
     ghost Value = { List Regulation };
@@ -124,7 +124,7 @@ impl PartialEq for Catalogue {
     ghost use Rattle.std.specs.Cmp.{partial_equiv_from_equiv};
     ghost use Rattle.std.specs.Cmp.Lexicographic.{pointwise};
     ghost use Rattle.std.proofs.lemmas.Cmp.{lists_equiv};
-    ghost use Rattle.casa_flight.specs.contracts.regulation.RegulationEq.TheImpl.Laws.{laws-law as regulation_laws};
+    ghost use Rattle.casa_filing.specs.contracts.regulation.RegulationEq.TheImpl.Laws.{laws-law as regulation_laws};
 
     ghost eq = { pointwise ⟦<Regulation as PartialEq>⟧.eq };
 
@@ -137,7 +137,7 @@ impl PartialEq for Catalogue {
 
 impl Eq for Catalogue {
     ghost use Rattle.std.proofs.lemmas.Cmp.{lists_equiv};
-    ghost use Rattle.casa_flight.specs.contracts.regulation.RegulationEq.TheImpl.Laws.{laws-law as regulation_laws};
+    ghost use Rattle.casa_filing.specs.contracts.regulation.RegulationEq.TheImpl.Laws.{laws-law as regulation_laws};
 
     ghost laws = { lists_equiv regulation_laws };
 }

@@ -9,21 +9,22 @@ use Rattle.std.proofs.lemmas.List.Elements.{All-nil}
 use Rattle.casa_grid.specs.Profile.{end_of}
 use Rattle.casa_flight.specs.declared.call.Call.{Call}
 use Rattle.casa_flight.specs.declared.call.Call.TheVariants.{File, Amend, Cancel, Revise, Exempt, Show, List as ListOf}
-use Rattle.casa_flight.specs.declared.regulation.Measure.{Measure}
+use Rattle.casa_filing.specs.declared.regulation.Measure.{Measure}
 use Rattle.casa_flight.specs.declared.reply.Message.{Message}
 use Rattle.casa_flight.specs.declared.reply.Message.TheVariants.{Sam, Srm, Slc}
 use Rattle.casa_flight.specs.declared.row.Row.{Row}
 use Rattle.casa_flight.specs.declared.state.State.{State}
-use Rattle.casa_flight.specs.Text.{Text, at_name, without}
-use Rattle.casa_flight.specs.FlightPlan.{FlightPlan}
-use Rattle.casa_flight.specs.State.{row_of, with_row, regulation, subject, is_exempt, is_due, is_gone, ungoverned}
+use Rattle.casa_filing.specs.Text.{Text, at_name, without}
+use Rattle.casa_filing.specs.FlightPlan.{FlightPlan}
+use Rattle.casa_filing.specs.Subject.{regulation, subject, is_due, is_gone}
+use Rattle.casa_flight.specs.State.{row_of, with_row, is_exempt, ungoverned}
 use Rattle.casa_flight.specs.Listing.{ctot_of}
 use Rattle.casa_flight.specs.Entry.{Offer, situation, choice, entered}
 use Rattle.casa_flight.specs.Steps.{Step, refused, leads, new_row, file, amend, cancel, is_revised, state_if, revise, exempt, exempt_if, show, list, step, after, next}
 use Rattle.casa_flight.specs.Replies.{messages, is_issued, ctot_before, reply, reply_of}
 use Rattle.casa_flight.specs.Good.{AreInOrder, IsOutside, IsGood, IsGoverned}
 use Rattle.casa_flight.specs.Messages.{messages_in, flight_of, CanCome, Tells}
-use Rattle.casa_flight.proofs.Entries.{text_cmp, same_name, all_at, at-without_other}
+use Rattle.casa_filing.proofs.Entries.{text_cmp, same_name, all_at, at-without_other}
 use Rattle.casa_laws.proofs.Kept.{at-without_same}
 use Rattle.casa_laws.proofs.Choice.{choice-offer, choice-none}
 use Rattle.casa_laws.proofs.GoodRegs.{next-good}

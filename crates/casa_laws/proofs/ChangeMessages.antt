@@ -10,20 +10,21 @@ use Rattle.std.proofs.lemmas.List.Elements.{All-from_recursion, All-nil}
 use Rattle.casa_grid.specs.Profile.{end_of}
 use Rattle.casa_grid.specs.Slots.{slots}
 use Rattle.casa_grid.specs.TimeOver.{cto}
-use Rattle.casa_flight.specs.declared.regulation.Regulation.{Regulation}
-use Rattle.casa_flight.specs.declared.regulation.Measure.{Measure}
+use Rattle.casa_filing.specs.declared.regulation.Regulation.{Regulation}
+use Rattle.casa_filing.specs.declared.regulation.Measure.{Measure}
 use Rattle.casa_flight.specs.declared.row.Row.{Row}
 use Rattle.casa_flight.specs.declared.state.State.{State}
 use Rattle.casa_flight.specs.declared.reply.Message.{Message}
 use Rattle.casa_flight.specs.declared.reply.Message.TheVariants.{Sam, Srm, Slc}
-use Rattle.casa_flight.specs.Text.{Text, same_text}
-use Rattle.casa_flight.specs.FlightPlan.{FlightPlan, etot}
-use Rattle.casa_flight.specs.State.{row_of, measure_of, with_row, regulation, subject}
+use Rattle.casa_filing.specs.Text.{Text, same_text}
+use Rattle.casa_filing.specs.FlightPlan.{FlightPlan, etot}
+use Rattle.casa_filing.specs.Subject.{regulation, subject}
+use Rattle.casa_flight.specs.State.{row_of, measure_of, with_row}
 use Rattle.casa_flight.specs.Listing.{listing, place_of, ctot_of, delay_of}
 use Rattle.casa_flight.specs.Replies.{message_of, message, messages, is_issued, ctot_before}
 use Rattle.casa_flight.specs.Good.{AreInOrder, IsGood, IsFree, IsGoverned}
 use Rattle.casa_flight.specs.Messages.{flight_of, Tells}
-use Rattle.casa_flight.proofs.Entries.{text_cmp, other_way, named, all-each, all-filter_map, each_found, sorted-put, at-put_same, at-put_other}
+use Rattle.casa_filing.proofs.Entries.{text_cmp, other_way, named, all-each, all-filter_map, each_found, sorted-put, at-put_same, at-put_other}
 use Rattle.casa_laws.proofs.Kept.{filter_map-one, contains-given}
 use Rattle.casa_laws.proofs.InOrder.{names_rise, names_sorted}
 use Rattle.casa_laws.proofs.Times.{delay_governed}

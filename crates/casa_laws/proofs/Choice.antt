@@ -11,18 +11,18 @@ use Rattle.casa_grid.specs.declared.slot.Place.TheVariants.{Slot, Over}
 use Rattle.casa_grid.specs.Profile.{end_of}
 use Rattle.casa_grid.specs.Slots.{slots}
 use Rattle.casa_grid.specs.TimeOver.{cto}
-use Rattle.casa_flight.specs.declared.plan.Crossing.{Crossing}
-use Rattle.casa_flight.specs.declared.regulation.Regulation.{Regulation}
-use Rattle.casa_flight.specs.declared.regulation.Measure.{Measure}
+use Rattle.casa_filing.specs.declared.plan.Crossing.{Crossing}
+use Rattle.casa_filing.specs.declared.regulation.Regulation.{Regulation}
+use Rattle.casa_filing.specs.declared.regulation.Measure.{Measure}
 use Rattle.casa_flight.specs.declared.row.Row.{Row}
 use Rattle.casa_flight.specs.declared.state.State.{State}
-use Rattle.casa_flight.specs.Text.{Text, at_name}
-use Rattle.casa_flight.specs.FlightPlan.{FlightPlan}
-use Rattle.casa_flight.specs.State.{regulation, is_there, covered, subject}
+use Rattle.casa_filing.specs.Text.{Text, at_name}
+use Rattle.casa_filing.specs.FlightPlan.{FlightPlan}
+use Rattle.casa_filing.specs.Subject.{regulation, is_there, covered, subject}
 use Rattle.casa_flight.specs.Listing.{Listing, listing, place_of}
 use Rattle.casa_flight.specs.Entry.{Offer, offer_in, offer, offers, most_penalising, choice, situation, with_competitor}
 use Rattle.casa_flight.specs.Good.{IsOutside}
-use Rattle.casa_flight.proofs.Entries.{text_cmp, each_found, all-filter_map, filter_map-map}
+use Rattle.casa_filing.proofs.Entries.{text_cmp, each_found, all-filter_map, filter_map-map}
 
 -- a crossing that a regulation covers is there from its start to before its end
 pub in_span : (r : Regulation) (c : Crossing) (eto : ℕ) → covered r c ≡ Some eto → (c.eto ≡ eto) × (r.start ≤ eto) × (eto < r.end)

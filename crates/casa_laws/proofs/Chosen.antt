@@ -6,15 +6,16 @@ use Rattle.std.specs.List.{All, AllByRecursion, Contains, best_of, filter_map}
 use Rattle.std.proofs.lemmas.Bool.{ltb-true, ltb-false}
 use Rattle.std.proofs.lemmas.Cmp.{nat_list_cmp_total}
 use Rattle.std.proofs.lemmas.List.Elements.{All-contains, All-from_recursion}
-use Rattle.casa_flight.specs.declared.regulation.Measure.{Measure}
+use Rattle.casa_filing.specs.declared.regulation.Measure.{Measure}
 use Rattle.casa_flight.specs.declared.state.State.{State}
-use Rattle.casa_flight.specs.Text.{Text}
-use Rattle.casa_flight.specs.FlightPlan.{FlightPlan}
-use Rattle.casa_flight.specs.State.{measure_of, regulation, subject}
+use Rattle.casa_filing.specs.Text.{Text}
+use Rattle.casa_filing.specs.FlightPlan.{FlightPlan}
+use Rattle.casa_filing.specs.Subject.{regulation, subject}
+use Rattle.casa_flight.specs.State.{measure_of}
 use Rattle.casa_flight.specs.Listing.{Listing, listing}
 use Rattle.casa_flight.specs.Entry.{Offer, offer_in, offer, offers, most_penalising, choice, situation}
 use Rattle.casa_flight.specs.Good.{AreInOrder}
-use Rattle.casa_flight.proofs.Entries.{text_cmp, filter_map-map}
+use Rattle.casa_filing.proofs.Entries.{text_cmp, filter_map-map}
 use Rattle.casa_laws.proofs.Choice.{offer-is, most_among, most_none}
 use Rattle.casa_flight.proofs.PutBy.{PairsByRecursion, each_itself}
 use Rattle.casa_laws.proofs.InOrder.{HasName, names_rise, contains-kept}

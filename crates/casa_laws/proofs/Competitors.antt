@@ -12,10 +12,10 @@ use Rattle.std.proofs.lemmas.Bool.{cases_order, and_parts, and_from, ltb-true, l
 use Rattle.casa_flight.specs.declared.comp.Comp.{Comp}
 use Rattle.casa_flight.specs.declared.row.Stance.{Stance}
 use Rattle.casa_flight.specs.declared.row.Stance.TheVariants.{Competing, Issued, Forced}
-use Rattle.casa_flight.specs.Text.{Text, same_text, at_name, put, without}
+use Rattle.casa_filing.specs.Text.{Text, same_text, at_name, put, without}
 use Rattle.casa_flight.specs.Listing.{Listing, put_by, is_before, competitor, competitors, stance_of}
 use Rattle.casa_flight.specs.Good.{AreInOrder}
-use Rattle.casa_flight.proofs.Entries.{text_cmp, same_name, itself, after_all}
+use Rattle.casa_filing.proofs.Entries.{text_cmp, same_name, itself, after_all}
 use Rattle.casa_laws.proofs.Kept.{Above, at_above, without_absent}
 use Rattle.casa_flight.proofs.PutBy.{put_first, put_later, all-put_by}
 

@@ -5,14 +5,14 @@ use Rattle.std.specs.Option.{option_and_then}
 use Rattle.std.proofs.lemmas.Bool.{and_from, lt-ltb, le-leb}
 use Rattle.std.proofs.lemmas.Cmp.{nat_list_eq_equiv}
 use Rattle.std.proofs.lemmas.List.Elements.{Contains-append_right}
-use Rattle.casa_flight.specs.declared.plan.Crossing.{Crossing}
-use Rattle.casa_flight.specs.declared.regulation.Regulation.{Regulation}
-use Rattle.casa_flight.specs.Text.{Text, same_text}
-use Rattle.casa_flight.specs.FlightPlan.{FlightPlan, IsValid}
-use Rattle.casa_flight.specs.State.{is_there, covered, subject}
+use Rattle.casa_filing.specs.declared.plan.Crossing.{Crossing}
+use Rattle.casa_filing.specs.declared.regulation.Regulation.{Regulation}
+use Rattle.casa_filing.specs.Text.{Text, same_text}
+use Rattle.casa_filing.specs.FlightPlan.{FlightPlan, IsValid}
+use Rattle.casa_filing.specs.Subject.{is_there, covered, subject}
 use Rattle.casa_laws.proofs.Choice.{in_span}
-use Rattle.casa_flight.proofs.Entries.{named}
-use Rattle.casa_flight.proofs.PlanFaults.{later_apart, none_like}
+use Rattle.casa_filing.proofs.Entries.{named}
+use Rattle.casa_filing.proofs.PlanFaults.{later_apart, none_like}
 
 -- what is found at a location is a crossing of the plan, and there
 found_there : (loc : Text) (c : Crossing) (via : List Crossing) → find (is_there loc) via ≡ Some c → Contains via c × (c.loc ≡ loc)

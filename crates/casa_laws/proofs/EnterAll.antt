@@ -5,18 +5,19 @@ use Rattle.std.specs.Ordering.{is_eq}
 use Rattle.std.specs.List.{AllByRecursion}
 use Rattle.std.proofs.lemmas.Bool.{or_parts, both_ways}
 use Rattle.casa_flight.specs.declared.comp.Comp.{Comp}
-use Rattle.casa_flight.specs.declared.regulation.Regulation.{Regulation}
+use Rattle.casa_filing.specs.declared.regulation.Regulation.{Regulation}
 use Rattle.casa_flight.specs.declared.row.Row.{Row}
 use Rattle.casa_flight.specs.declared.state.State.{State}
-use Rattle.casa_flight.specs.Text.{Text, same_text}
-use Rattle.casa_flight.specs.FlightPlan.{FlightPlan}
-use Rattle.casa_flight.specs.State.{row_of, subject, is_exempt, is_due, is_gone, ungoverned}
+use Rattle.casa_filing.specs.Text.{Text, same_text}
+use Rattle.casa_filing.specs.FlightPlan.{FlightPlan}
+use Rattle.casa_filing.specs.Subject.{subject, is_due, is_gone}
+use Rattle.casa_flight.specs.State.{row_of, is_exempt, ungoverned}
 use Rattle.casa_flight.specs.Listing.{is_before}
 use Rattle.casa_flight.specs.Entry.{Offer, Situation, situation, choice, governed, entered, enter_all, reenter}
 use Rattle.casa_flight.specs.Steps.{flights_over}
 use Rattle.casa_flight.specs.Good.{IsGood}
 use Rattle.casa_flight.proofs.PutBy.{all-fold}
-use Rattle.casa_flight.proofs.Entries.{text_cmp, same_name, named, apart, all-each, all-filter_map, each_found, at-put, at-put_other}
+use Rattle.casa_filing.proofs.Entries.{text_cmp, same_name, named, apart, all-each, all-filter_map, each_found, at-put, at-put_other}
 
 -- a flight that enters keeps all but what governs it and its issue: its plan and its mark
 entered_rest : (s : Situation) (key : Text) (row : Row) → ungoverned (entered s key row) ≡ ungoverned row

@@ -8,16 +8,17 @@ use Rattle.std.specs.BTreeMap.{is_at}
 use Rattle.std.specs.Ordering.{is_eq}
 use Rattle.std.proofs.lemmas.Bool.{or_parts}
 use Rattle.casa_grid.specs.Profile.{end_of}
-use Rattle.casa_flight.specs.declared.regulation.Measure.{Measure}
+use Rattle.casa_filing.specs.declared.regulation.Measure.{Measure}
 use Rattle.casa_flight.specs.declared.row.Row.{Row}
 use Rattle.casa_flight.specs.declared.state.State.{State}
-use Rattle.casa_flight.specs.Text.{Text}
-use Rattle.casa_flight.specs.FlightPlan.{FlightPlan}
-use Rattle.casa_flight.specs.State.{empty, row_of, with_row, is_exempt, is_due, is_gone, ungoverned}
+use Rattle.casa_filing.specs.Text.{Text}
+use Rattle.casa_filing.specs.FlightPlan.{FlightPlan}
+use Rattle.casa_filing.specs.Subject.{is_due, is_gone}
+use Rattle.casa_flight.specs.State.{empty, row_of, with_row, is_exempt, ungoverned}
 use Rattle.casa_flight.specs.Entry.{Offer, situation, choice, governed, entered, enter}
 use Rattle.casa_flight.specs.Steps.{Step, new_row, file, amend, cancel, exempt, exempt_if, revise, is_revised, state_if, show, list, after}
 use Rattle.casa_flight.specs.Good.{IsOutside, IsGood, IsGoodRow, IsFree, IsGoverned}
-use Rattle.casa_flight.proofs.Entries.{text_cmp, all-put-but, all-remove, all_at, all-each, sorted-put, sorted-remove}
+use Rattle.casa_filing.proofs.Entries.{text_cmp, all-put-but, all-remove, all_at, all-each, sorted-put, sorted-remove}
 use Rattle.casa_laws.proofs.Choice.{IsOfferOf, choice-offer, choice-none}
 
 pub empty_good : IsGood empty

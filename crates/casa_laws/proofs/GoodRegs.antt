@@ -13,18 +13,19 @@ use Rattle.casa_grid.specs.declared.period.Period.{Period}
 use Rattle.casa_flight.specs.declared.call.Call.{Call}
 use Rattle.casa_flight.specs.declared.call.Call.TheVariants.{File, Amend, Cancel, Revise, Exempt, OpenReg, CloseReg, Rates, Tick, Show, List as ListOf, Swap}
 use Rattle.casa_flight.specs.declared.comp.Comp.{Comp}
-use Rattle.casa_flight.specs.declared.regulation.Regulation.{Regulation}
-use Rattle.casa_flight.specs.declared.regulation.Measure.{Measure}
+use Rattle.casa_filing.specs.declared.regulation.Regulation.{Regulation}
+use Rattle.casa_filing.specs.declared.regulation.Measure.{Measure}
 use Rattle.casa_flight.specs.declared.row.Row.{Row}
 use Rattle.casa_flight.specs.declared.state.State.{State}
-use Rattle.casa_flight.specs.Text.{Text, same_text, at_name, put, without}
-use Rattle.casa_flight.specs.FlightPlan.{FlightPlan}
-use Rattle.casa_flight.specs.State.{row_of, measure_of, regulation, subject, is_governed_by, ungoverned}
+use Rattle.casa_filing.specs.Text.{Text, same_text, at_name, put, without}
+use Rattle.casa_filing.specs.FlightPlan.{FlightPlan}
+use Rattle.casa_filing.specs.Subject.{regulation, subject}
+use Rattle.casa_flight.specs.State.{row_of, measure_of, is_governed_by, ungoverned}
 use Rattle.casa_flight.specs.Listing.{put_by, in_order, is_before}
 use Rattle.casa_flight.specs.Entry.{enter_all, reenter}
 use Rattle.casa_flight.specs.Steps.{most_regulations, flights_over, may_compete, take_in, open_regulation, freed, closed, close_regulation, keeps_span, ends_later, rates, rates_if, next}
 use Rattle.casa_flight.specs.Good.{IsGood, IsGoodRow, IsGoverned}
-use Rattle.casa_flight.proofs.Entries.{text_cmp, all-put, all-remove, all_at, all-each, all-both, all-map, keys-map, sorted-put, sorted-remove, same_name, apart, itself, at-put_other, at-without_other, none_at}
+use Rattle.casa_filing.proofs.Entries.{text_cmp, all-put, all-remove, all_at, all-each, all-both, all-map, keys-map, sorted-put, sorted-remove, same_name, apart, itself, at-put_other, at-without_other, none_at}
 use Rattle.casa_laws.proofs.Good.{IsRowBut, IsGoodBut, none_waits, KeepsGood, enter-good, from_but, row-looser, file-good, amend-good, cancel-good, exempt-good, revise-good, show-good, list-good}
 use Rattle.casa_laws.proofs.Swap.{swap-good}
 use Rattle.casa_laws.proofs.GoodTick.{tick-good, rates_governed, rated-good, span_kept, same_end}

@@ -10,19 +10,20 @@ use Rattle.casa_time.specs.Due.{issue_lead}
 use Rattle.casa_grid.specs.declared.period.Period.{Period}
 use Rattle.casa_grid.specs.Profile.{start_of, end_of}
 use Rattle.casa_grid.specs.Slots.{slots}
-use Rattle.casa_flight.specs.declared.regulation.Measure.{Measure}
+use Rattle.casa_filing.specs.declared.regulation.Measure.{Measure}
 use Rattle.casa_flight.specs.declared.row.Row.{Row}
 use Rattle.casa_flight.specs.declared.row.Stance.{Stance}
 use Rattle.casa_flight.specs.declared.row.Stance.TheVariants.{Competing}
 use Rattle.casa_flight.specs.declared.state.State.{State}
-use Rattle.casa_flight.specs.Text.{Text, same_text, at_name, put}
-use Rattle.casa_flight.specs.FlightPlan.{FlightPlan, etot}
-use Rattle.casa_flight.specs.State.{measure_of, regulation, subject, is_due, is_gone}
+use Rattle.casa_filing.specs.Text.{Text, same_text, at_name, put}
+use Rattle.casa_filing.specs.FlightPlan.{FlightPlan, etot}
+use Rattle.casa_filing.specs.Subject.{regulation, subject, is_due, is_gone}
+use Rattle.casa_flight.specs.State.{measure_of}
 use Rattle.casa_flight.specs.Listing.{Listing, listing, list_of, stance_in, cto_as, cto_of, place_of}
 use Rattle.casa_flight.specs.Entry.{is_to_issue, issued_in, issue_if}
 use Rattle.casa_flight.specs.Steps.{keeps_span, ends_later, tick}
 use Rattle.casa_flight.specs.Good.{IsOutside, IsGood, IsGoodRow, IsFree, IsGoverned}
-use Rattle.casa_flight.proofs.Entries.{text_cmp, all-put, all_at, all-each, sorted-put, same_name, at-put_same, at-put_other, each_found, all-both, keys-map, all-map}
+use Rattle.casa_filing.proofs.Entries.{text_cmp, all-put, all_at, all-each, sorted-put, same_name, at-put_same, at-put_other, each_found, all-both, keys-map, all-map}
 use Rattle.casa_laws.proofs.Kept.{at-kept}
 use Rattle.casa_laws.proofs.Choice.{cto-between, eto-before_end, subject-later}
 use Rattle.casa_laws.proofs.Good.{KeepsGood}

@@ -7,10 +7,10 @@ use Rattle.std.proofs.lemmas.Bool.{both_ways}
 use Rattle.std.proofs.lemmas.List.Elements.{All-contains, All-from_recursion}
 use Rattle.std.proofs.lemmas.List.Kept.{AllPairs-cons}
 use Rattle.casa_flight.specs.declared.comp.Comp.{Comp}
-use Rattle.casa_flight.specs.Text.{Text, at_name}
+use Rattle.casa_filing.specs.Text.{Text, at_name}
 use Rattle.casa_flight.specs.Listing.{put_by, in_order, is_before}
 use Rattle.casa_flight.specs.Good.{AreInOrder}
-use Rattle.casa_flight.proofs.Entries.{text_cmp, all-each, all-both, all-filter_map, each_found}
+use Rattle.casa_filing.proofs.Entries.{text_cmp, all-each, all-both, all-filter_map, each_found}
 use Rattle.casa_flight.proofs.PutBy.{put_first, put_later, all-put_by, all-fold, PairsByRecursion, each_itself}
 use Rattle.casa_laws.proofs.Kept.{Above, contains-given}
 use Rattle.casa_laws.proofs.Competitors.{before_on, before_total, less_apart}

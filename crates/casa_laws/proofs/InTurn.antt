@@ -13,21 +13,22 @@ use Rattle.casa_grid.specs.Profile.{IsProfile, end_of}
 use Rattle.casa_grid.specs.Slots.{slots}
 use Rattle.casa_grid.specs.TimeOver.{cto}
 use Rattle.casa_flight.specs.declared.call.Call.TheVariants.{Tick}
-use Rattle.casa_flight.specs.declared.regulation.Measure.{Measure}
+use Rattle.casa_filing.specs.declared.regulation.Measure.{Measure}
 use Rattle.casa_flight.specs.declared.row.Row.{Row}
 use Rattle.casa_flight.specs.declared.row.Stance.{Stance}
 use Rattle.casa_flight.specs.declared.row.Stance.TheVariants.{Competing, Issued, Forced}
 use Rattle.casa_flight.specs.declared.state.State.{State}
-use Rattle.casa_flight.specs.Text.{Text, same_text, at_name}
-use Rattle.casa_flight.specs.FlightPlan.{etot}
-use Rattle.casa_flight.specs.State.{row_of, measure_of, regulation, subject, is_due, is_governed_by}
+use Rattle.casa_filing.specs.Text.{Text, same_text, at_name}
+use Rattle.casa_filing.specs.FlightPlan.{etot}
+use Rattle.casa_filing.specs.Subject.{regulation, subject, is_due}
+use Rattle.casa_flight.specs.State.{row_of, measure_of, is_governed_by}
 use Rattle.casa_flight.specs.Listing.{Listing, listing, list_of, stance, stance_in, stance_of, place_of, cto_as, cto_of, eto_as, delay_in, governing_list, ctot_of}
 use Rattle.casa_flight.specs.Entry.{is_to_issue, issued_in, issue_if, issue_due}
 use Rattle.casa_flight.specs.Steps.{tick, after, next}
 use Rattle.casa_flight.specs.Good.{AreInOrder}
 use Rattle.casa_flight.specs.Messages.{Passes}
 use Rattle.casa_flight.specs.IssuedTimes.{issued_as, with_issued, issue_in_turn}
-use Rattle.casa_flight.proofs.Entries.{text_cmp, same_name, named, apart, sorted-put, at-put_same, at-put_other, at-map, keys-map}
+use Rattle.casa_filing.proofs.Entries.{text_cmp, same_name, named, apart, sorted-put, at-put_same, at-put_other, at-map, keys-map}
 use Rattle.casa_laws.proofs.Kept.{at-kept, same_entries}
 use Rattle.casa_laws.proofs.MovesNobody.{with_issue_at, place_issued}
 use Rattle.casa_laws.proofs.Planned.{list_sorted}

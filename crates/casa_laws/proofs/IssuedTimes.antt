@@ -9,18 +9,19 @@ use Rattle.casa_grid.specs.TimeOver.{cto}
 use Rattle.casa_flight.specs.declared.call.Call.{Call}
 use Rattle.casa_flight.specs.declared.call.Call.TheVariants.{File, Amend, Cancel, Revise, Exempt, OpenReg, CloseReg, Rates, Tick, Show, List as ListOf, Swap}
 use Rattle.casa_flight.specs.declared.call.Refusal.{Refusal}
-use Rattle.casa_flight.specs.declared.regulation.Measure.{Measure}
+use Rattle.casa_filing.specs.declared.regulation.Measure.{Measure}
 use Rattle.casa_flight.specs.declared.row.Row.{Row}
 use Rattle.casa_flight.specs.declared.state.State.{State}
-use Rattle.casa_flight.specs.Text.{Text, same_text, put}
-use Rattle.casa_flight.specs.FlightPlan.{FlightPlan}
-use Rattle.casa_flight.specs.State.{row_of, measure_of, with_row, regulation, is_exempt, is_due, is_gone, is_governed_by, ungoverned}
+use Rattle.casa_filing.specs.Text.{Text, same_text, put}
+use Rattle.casa_filing.specs.FlightPlan.{FlightPlan}
+use Rattle.casa_filing.specs.Subject.{regulation, is_due, is_gone}
+use Rattle.casa_flight.specs.State.{row_of, measure_of, with_row, is_exempt, is_governed_by, ungoverned}
 use Rattle.casa_flight.specs.Listing.{Listing, listing, place_of, cto_of, governing_list}
 use Rattle.casa_flight.specs.Entry.{situation, entered, is_to_issue, issued_in, issue_if, issue_due}
 use Rattle.casa_flight.specs.Steps.{Step, refused, step, most_regulations, new_row, file, amend, cancel, is_revised, state_if, revise, exempt, exempt_if, flights_over, may_compete, take_in, open_regulation, close_regulation, keeps_span, ends_later, extends, rates, rates_if, tick, show, list, reissued, after, next}
 use Rattle.casa_flight.specs.Good.{IsGood, IsFree, IsGoverned}
 use Rattle.casa_flight.specs.IssuedTimes.{may_free, may_serve, IsTakenIn, BecomesIssued}
-use Rattle.casa_flight.proofs.Entries.{named, apart, at-put_other, at-without_other, at-map}
+use Rattle.casa_filing.proofs.Entries.{named, apart, at-put_other, at-without_other, at-map}
 use Rattle.casa_laws.proofs.Swap.{swap_cases}
 use Rattle.casa_laws.proofs.GoodRegs.{next-good}
 use Rattle.casa_laws.proofs.ChangeMessages.{governed_by, free_of}

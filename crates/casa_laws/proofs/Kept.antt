@@ -7,12 +7,12 @@ use Rattle.std.specs.BTreeMap.{is_at}
 use Rattle.std.specs.List.{AllByRecursion, Contains, cons_option, filter_map, fold}
 use Rattle.std.specs.List.Sorted.{IsStrictlySortedBy}
 use Rattle.std.specs.Map.{keys_of}
-use Rattle.casa_flight.specs.Text.{Text, at_name, put, without}
+use Rattle.casa_filing.specs.Text.{Text, at_name, put, without}
 use Rattle.casa_flight.specs.Good.{AreInOrder}
 use Rattle.casa_flight.specs.Listing.{kept}
 use Rattle.std.proofs.lemmas.Cmp.{nat_list_cmp_total, tied_itself}
 use Rattle.std.proofs.lemmas.List.Elements.{Contains-append_right}
-use Rattle.casa_flight.proofs.Entries.{text_cmp, same_name, itself, after_all, at-put, sorted-put, sorted-remove, at-without_other}
+use Rattle.casa_filing.proofs.Entries.{text_cmp, same_name, itself, after_all, at-put, sorted-put, sorted-remove, at-without_other}
 
 -- the entries with this value under the name, or with none
 abbrev pub set_at : {X : Type 0} → List (Text × X) → Text → Option X → List (Text × X)

@@ -1,12 +1,12 @@
 -- the lists of a state, once a row is written or removed
 use Rattle.std.proofs.Common.{◌≡◌, ℕ, sym, ap, ◌∙◌, Option, None, Some}
 use Rattle.std.specs.Option.{option_map, option_and_then}
-use Rattle.casa_flight.specs.declared.regulation.Measure.{Measure}
+use Rattle.casa_filing.specs.declared.regulation.Measure.{Measure}
 use Rattle.casa_flight.specs.declared.row.Row.{Row}
 use Rattle.casa_flight.specs.declared.row.Stance.{Stance}
 use Rattle.casa_flight.specs.declared.row.Stance.TheVariants.{Competing}
 use Rattle.casa_flight.specs.declared.state.State.{State}
-use Rattle.casa_flight.specs.Text.{Text, put, without}
+use Rattle.casa_filing.specs.Text.{Text, put, without}
 use Rattle.casa_flight.specs.State.{row_of, measure_of, with_row}
 use Rattle.casa_flight.specs.Listing.{Listing, listing, list_of, stance_in, stance_of, place_of}
 use Rattle.casa_flight.specs.Entry.{with_competitor}

@@ -18,11 +18,11 @@ use Rattle.casa_flight.specs.declared.comp.Comp.{Comp}
 use Rattle.casa_flight.specs.declared.comp.Assigned.{Assigned}
 use Rattle.casa_flight.specs.declared.row.Stance.{Stance}
 use Rattle.casa_flight.specs.declared.row.Stance.TheVariants.{Competing, Issued}
-use Rattle.casa_flight.specs.Text.{Text, same_text, at_name, put, without}
+use Rattle.casa_filing.specs.Text.{Text, same_text, at_name, put, without}
 use Rattle.casa_flight.specs.Assignment.{IsServed, IsRight, assignment}
 use Rattle.casa_flight.specs.Listing.{Listing, put_by, is_before, competitors, issued_cto, occupancy, places, place_of, stance_of, cto_as, cto_of}
 use Rattle.casa_flight.specs.Good.{AreInOrder}
-use Rattle.casa_flight.proofs.Entries.{text_cmp, after_all}
+use Rattle.casa_filing.proofs.Entries.{text_cmp, after_all}
 use Rattle.casa_laws.proofs.Kept.{at_above}
 use Rattle.casa_flight.proofs.PutBy.{put_first, put_later}
 use Rattle.casa_laws.proofs.Assignment.{comps_of, comps-assignment, assignment_right, right_is_assignment}

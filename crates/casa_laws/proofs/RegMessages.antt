@@ -14,23 +14,24 @@ use Rattle.casa_flight.specs.declared.call.Call.{Call}
 use Rattle.casa_flight.specs.declared.call.Call.TheVariants.{File, Amend, Cancel, Revise, Exempt, OpenReg, CloseReg, Rates, Tick, Show, List as ListOf, Swap}
 use Rattle.casa_flight.specs.declared.call.Refusal.{Refusal}
 use Rattle.casa_flight.specs.declared.comp.Comp.{Comp}
-use Rattle.casa_flight.specs.declared.regulation.Measure.{Measure}
+use Rattle.casa_filing.specs.declared.regulation.Measure.{Measure}
 use Rattle.casa_flight.specs.declared.reply.Message.{Message}
 use Rattle.casa_flight.specs.declared.reply.Message.TheVariants.{Sam, Srm, Slc}
 use Rattle.casa_flight.specs.declared.row.Row.{Row}
 use Rattle.casa_flight.specs.declared.row.Stance.{Stance}
 use Rattle.casa_flight.specs.declared.row.Stance.TheVariants.{Competing}
 use Rattle.casa_flight.specs.declared.state.State.{State}
-use Rattle.casa_flight.specs.Text.{Text, same_text, at_name, put, without}
-use Rattle.casa_flight.specs.FlightPlan.{etot}
-use Rattle.casa_flight.specs.State.{row_of, measure_of, regulation, subject, is_exempt, is_due, is_gone, is_governed_by}
+use Rattle.casa_filing.specs.Text.{Text, same_text, at_name, put, without}
+use Rattle.casa_filing.specs.FlightPlan.{etot}
+use Rattle.casa_filing.specs.Subject.{regulation, subject, is_due, is_gone}
+use Rattle.casa_flight.specs.State.{row_of, measure_of, is_exempt, is_governed_by}
 use Rattle.casa_flight.specs.Listing.{Listing, listing, list_of, place_of, cto_as, cto_of, ctot_of, delay_of}
 use Rattle.casa_flight.specs.Entry.{enter_all, is_to_issue, issued_in, issue_if, issue_due}
 use Rattle.casa_flight.specs.Steps.{refused, most_regulations, flights_over, may_compete, take_in, open_regulation, freed, closed, close_regulation, keeps_span, ends_later, extends, rates, rates_if, tick, step, after}
 use Rattle.casa_flight.specs.Replies.{message, is_issued, ctot_before, reply, reply_of}
 use Rattle.casa_flight.specs.Good.{AreInOrder, IsOutside, IsGood, IsFree, IsGoverned}
 use Rattle.casa_flight.specs.Messages.{messages_in, Passes, CanCome, is_silent}
-use Rattle.casa_flight.proofs.Entries.{text_cmp, same_name, apart, at-put_same, at-put_other, at-without_other, at-map}
+use Rattle.casa_filing.proofs.Entries.{text_cmp, same_name, apart, at-put_same, at-put_other, at-without_other, at-map}
 use Rattle.casa_laws.proofs.Kept.{at-without_same}
 use Rattle.casa_laws.proofs.Lists.{stance_is}
 use Rattle.casa_laws.proofs.Times.{delay_governed}

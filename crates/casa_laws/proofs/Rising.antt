@@ -10,10 +10,10 @@ use Rattle.casa_grid.specs.Slots.{wanted}
 use Rattle.casa_flight.specs.declared.comp.Comp.{Comp}
 use Rattle.casa_flight.specs.declared.comp.Assigned.{Assigned}
 use Rattle.casa_flight.specs.declared.row.Stance.{Stance}
-use Rattle.casa_flight.specs.Text.{Text}
+use Rattle.casa_filing.specs.Text.{Text}
 use Rattle.casa_flight.specs.Assignment.{Occupancy, is_from, is_blocked, is_open, is_slot, is_taken, IsServed, Precedes}
 use Rattle.casa_flight.specs.Listing.{Listing, put_by, is_before, competitor, competitors, occupancy, places}
-use Rattle.casa_flight.proofs.Entries.{all-each}
+use Rattle.casa_filing.proofs.Entries.{all-each}
 use Rattle.casa_flight.proofs.PutBy.{put_first, put_later, all-put_by}
 use Rattle.casa_laws.proofs.Assignment.{open_listed, comps_of, comps-assignment, assignment_right}
 

@@ -7,17 +7,18 @@ use Rattle.std.proofs.lemmas.Cmp.{nat_list_eq_equiv}
 use Rattle.casa_grid.specs.Profile.{end_of}
 use Rattle.casa_flight.specs.declared.call.Call.TheVariants.{Swap}
 use Rattle.casa_flight.specs.declared.call.Refusal.TheVariants.{NoFlight, NotIssued, OtherRegulation, TooEarly}
-use Rattle.casa_flight.specs.declared.regulation.Measure.{Measure}
+use Rattle.casa_filing.specs.declared.regulation.Measure.{Measure}
 use Rattle.casa_flight.specs.declared.row.Row.{Row}
 use Rattle.casa_flight.specs.declared.row.Stance.{Stance}
 use Rattle.casa_flight.specs.declared.row.Stance.TheVariants.{Issued, Forced}
 use Rattle.casa_flight.specs.declared.state.State.{State}
-use Rattle.casa_flight.specs.Text.{Text, same_text, put}
-use Rattle.casa_flight.specs.State.{row_of, measure_of, with_row, regulation, subject, is_due, is_governed_by}
+use Rattle.casa_filing.specs.Text.{Text, same_text, put}
+use Rattle.casa_filing.specs.Subject.{regulation, subject, is_due}
+use Rattle.casa_flight.specs.State.{row_of, measure_of, with_row, is_governed_by}
 use Rattle.casa_flight.specs.Listing.{Listing, listing, list_of, governing_list, stance, stance_in, stance_of, eto_as}
 use Rattle.casa_flight.specs.Steps.{Step, refused, leads, step, eto_in, is_too_early, are_too_early, reissued, Exchange, exchanged, is_shared, swap, swap_issued, swap_if}
 use Rattle.casa_flight.specs.Good.{AreInOrder, IsGood, IsGoodRow, IsFree, IsGoverned}
-use Rattle.casa_flight.proofs.Entries.{text_cmp, all-put, sorted-put, same_name, at-put, at-put_other}
+use Rattle.casa_filing.proofs.Entries.{text_cmp, all-put, sorted-put, same_name, at-put, at-put_other}
 use Rattle.casa_laws.proofs.Kept.{sorted-kept}
 use Rattle.casa_laws.proofs.Lists.{stance_is, list_puts, list-with_row, with_same}
 use Rattle.casa_laws.proofs.Good.{KeepsGood, good_row}

@@ -9,7 +9,7 @@ use Rattle.casa_flight.specs.declared.reply.Message.{Message}
 use Rattle.casa_flight.specs.declared.reply.Message.TheVariants.{Srm}
 use Rattle.casa_flight.specs.declared.row.Row.{Row}
 use Rattle.casa_flight.specs.declared.state.State.{State}
-use Rattle.casa_flight.specs.Text.{Text, same_text}
+use Rattle.casa_filing.specs.Text.{Text, same_text}
 use Rattle.casa_flight.specs.State.{row_of, is_governed_by}
 use Rattle.casa_flight.specs.Listing.{ctot_of}
 use Rattle.casa_flight.specs.Steps.{step, reissued, Exchange, exchanged}

@@ -12,15 +12,15 @@ use Rattle.casa_flight.specs.declared.comp.Assigned.{Assigned}
 use Rattle.casa_flight.specs.declared.row.Stance.{Stance}
 use Rattle.casa_flight.specs.declared.row.Stance.TheVariants.{Issued}
 use Rattle.casa_flight.specs.declared.call.Call.TheVariants.{Swap}
-use Rattle.casa_flight.specs.declared.regulation.Measure.{Measure}
+use Rattle.casa_filing.specs.declared.regulation.Measure.{Measure}
 use Rattle.casa_flight.specs.declared.state.State.{State}
-use Rattle.casa_flight.specs.Text.{Text, at_name, put, without}
+use Rattle.casa_filing.specs.Text.{Text, at_name, put, without}
 use Rattle.casa_flight.specs.State.{is_governed_by}
 use Rattle.casa_flight.specs.Assignment.{is_blocked, is_from, is_taken, place_after, place_from, assigned_after, assignment}
 use Rattle.casa_flight.specs.Listing.{Listing, listing, list_of, stance, stance_in, in_order, is_before, competitor, competitors, issued_cto, occupancy, places, stance_of}
 use Rattle.casa_flight.specs.Steps.{Exchange, exchanged, after, next}
 use Rattle.casa_flight.specs.Good.{AreInOrder, IsGood}
-use Rattle.casa_flight.proofs.Entries.{text_cmp, same_name, at-put_same, at-put_other, at-without_other, sorted-put, sorted-remove, other_way}
+use Rattle.casa_filing.proofs.Entries.{text_cmp, same_name, at-put_same, at-put_other, at-without_other, sorted-put, sorted-remove, other_way}
 use Rattle.casa_laws.proofs.Kept.{kept_by, sorted-kept, sorted-kept_by, at-kept_by, at-without_same, same_entries, values_kept}
 use Rattle.casa_laws.proofs.MovesNobody.{times}
 use Rattle.casa_laws.proofs.ChangeMessages.{governed_name}

@@ -5,17 +5,18 @@ use Rattle.std.proofs.lemmas.Cmp.{nat_list_eq_equiv}
 use Rattle.casa_grid.specs.Profile.{end_of}
 use Rattle.casa_grid.specs.Slots.{slots}
 use Rattle.casa_grid.specs.TimeOver.{cto}
-use Rattle.casa_flight.specs.declared.regulation.Measure.{Measure}
+use Rattle.casa_filing.specs.declared.regulation.Measure.{Measure}
 use Rattle.casa_flight.specs.declared.row.Row.{Row}
 use Rattle.casa_flight.specs.declared.row.Stance.{Stance}
 use Rattle.casa_flight.specs.declared.row.Stance.TheVariants.{Competing}
 use Rattle.casa_flight.specs.declared.state.State.{State}
-use Rattle.casa_flight.specs.Text.{Text, same_text}
-use Rattle.casa_flight.specs.State.{row_of, measure_of, with_row, regulation, subject}
+use Rattle.casa_filing.specs.Text.{Text, same_text}
+use Rattle.casa_filing.specs.Subject.{regulation, subject}
+use Rattle.casa_flight.specs.State.{row_of, measure_of, with_row}
 use Rattle.casa_flight.specs.Listing.{Listing, listing, list_of, stance, stance_in, stance_of, place_of, cto_as, cto_of, eto_as, delay_in, delay_of, governing_list}
 use Rattle.casa_flight.specs.Entry.{Offer, situation, with_competitor, offer, offer_in}
 use Rattle.casa_flight.specs.Good.{AreInOrder}
-use Rattle.casa_flight.proofs.Entries.{at-put_same}
+use Rattle.casa_filing.proofs.Entries.{at-put_same}
 use Rattle.casa_laws.proofs.Kept.{at-kept}
 use Rattle.casa_laws.proofs.Lists.{list_puts}
 

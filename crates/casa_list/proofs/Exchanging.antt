@@ -10,9 +10,9 @@ use Rattle.casa_grid.specs.Slots.{slots, is_within}
 use Rattle.casa_flight.specs.declared.comp.Comp.{Comp}
 use Rattle.casa_flight.specs.declared.row.Stance.{Stance}
 use Rattle.casa_flight.specs.declared.row.Stance.TheVariants.{Issued}
-use Rattle.casa_flight.specs.Text.{Text, without}
+use Rattle.casa_filing.specs.Text.{Text, without}
 use Rattle.casa_flight.specs.Listing.{Listing, eto_as, issued_cto, competitors, occupancy, places, stance_of}
-use Rattle.casa_flight.proofs.Entries.{text_cmp, same_name, at-put, sorted-put, put-put}
+use Rattle.casa_filing.proofs.Entries.{text_cmp, same_name, at-put, sorted-put, put-put}
 use Rattle.casa_laws.proofs.SwapPlaces.{places_exchanged}
 use Rattle.casa_slots.specs.declared.standing.Standing.{Standing}
 use Rattle.casa_slots.specs.declared.standing.Standing.TheVariants.{Issued as IssuedAt}

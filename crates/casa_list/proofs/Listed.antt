@@ -10,10 +10,10 @@ use Rattle.casa_grid.specs.Slots.{slots, is_within}
 use Rattle.casa_flight.specs.declared.comp.Comp.{Comp}
 use Rattle.casa_flight.specs.declared.row.Stance.{Stance}
 use Rattle.casa_flight.specs.declared.row.Stance.TheVariants.{Competing, Issued, Forced}
-use Rattle.casa_flight.specs.Text.{Text, put}
+use Rattle.casa_filing.specs.Text.{Text, put}
 use Rattle.casa_flight.specs.Listing.{Listing, put_by, issued_cto, occupancy}
 use Rattle.casa_flight.proofs.PutBy.{put_first, put_later}
-use Rattle.casa_flight.proofs.Entries.{text_cmp}
+use Rattle.casa_filing.proofs.Entries.{text_cmp}
 use Rattle.casa_slots.specs.Blocked.{counts, issued_counts, time_of, times_in}
 use Rattle.casa_list.specs.Standings.{issued_flight, is_flight_before, issued_flights}
 use Rattle.casa_slots.specs.declared.standing.Standing.{Standing}

@@ -6,7 +6,7 @@ ghost use Rattle.std.specs.List.Sorted.{IsSortedBy};
 ghost use Rattle.casa_grid.specs.Slots.{slots};
 ghost use Rattle.casa_flight.specs.declared.comp.Assigned.{Assigned};
 ghost use Rattle.casa_flight.specs.declared.row.Stance.{Stance};
-ghost use Rattle.casa_flight.specs.Text.{Text};
+ghost use Rattle.casa_filing.specs.Text.{Text};
 ghost use Rattle.casa_flight.specs.Good.{AreInOrder};
 ghost use Rattle.casa_flight.specs.Listing.{in_order, is_before, put_by, competitor};
 ghost use Rattle.casa_slots.specs.declared.standing.Standing.{Standing};

@@ -4,7 +4,7 @@ ghost use Rattle.std.specs.Prelude.{◌≡◌, [], Option, Some, None, IfOk, OnO
 ghost use Rattle.std.specs.List.{slice_get};
 ghost use Rattle.casa_grid.specs.Slots.{slots, window_of};
 ghost use Rattle.casa_flight.specs.declared.row.Stance.{Stance};
-ghost use Rattle.casa_flight.specs.Text.{Text, at_name, put, without, same_text};
+ghost use Rattle.casa_filing.specs.Text.{Text, at_name, put, without, same_text};
 ghost use Rattle.casa_flight.specs.Assignment.{place_from};
 ghost use Rattle.casa_flight.specs.Listing.{places, place_of, cto_of, cto_as, stance_of};
 ghost use Rattle.casa_flight.specs.Entry.{with_competitor};

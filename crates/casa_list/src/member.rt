@@ -20,7 +20,7 @@ pub struct Member {
 }
 
 impl Model for Member {
-    ghost use Rattle.casa_flight.specs.Text.{Text};
+    ghost use Rattle.casa_filing.specs.Text.{Text};
     ghost use Rattle.casa_flight.specs.declared.row.Stance.{Stance};
     ghost use Rattle.casa_flight.specs.Listing.{eto_as};
     ghost use Rattle.casa_flight.specs.Replies.{kind_of};

@@ -6,9 +6,9 @@ use Rattle.std.specs.Ordering.{match_ordering}
 use Rattle.std.specs.List.Sorted.{IsStrictlySortedBy}
 use Rattle.std.specs.Map.{keys_of}
 use Rattle.std.specs.BTreeMap.{is_at}
-use Rattle.casa_flight.specs.Text.{Text, at_name, put, same_text, without}
+use Rattle.casa_filing.specs.Text.{Text, at_name, put, same_text, without}
 use Rattle.casa_flight.specs.Good.{AreInOrder}
-use Rattle.casa_flight.proofs.Entries.{text_cmp, after_all, sorted-put, sorted-remove}
+use Rattle.casa_filing.proofs.Entries.{text_cmp, after_all, sorted-put, sorted-remove}
 use Rattle.casa_laws.proofs.Kept.{Above}
 use Rattle.casa_named.specs.Named.{ahead, IsFew}
 use Rattle.casa_named.proofs.Found.{same_test}

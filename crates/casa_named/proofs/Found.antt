@@ -1,8 +1,8 @@
 -- what a look-up finds
 use Rattle.std.proofs.Common.{◌≡◌, true, false, refl, subst}
 use Rattle.std.specs.Ordering.{is_eq}
-use Rattle.casa_flight.specs.Text.{Text, same_text}
-use Rattle.casa_flight.proofs.Entries.{text_cmp, itself, named, apart}
+use Rattle.casa_filing.specs.Text.{Text, same_text}
+use Rattle.casa_filing.proofs.Entries.{text_cmp, itself, named, apart}
 
 -- names are the same for a look-up as for a test
 pub same_test : (k q : Text) → is_eq (text_cmp q k) ≡ same_text k q

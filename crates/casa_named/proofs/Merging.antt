@@ -9,9 +9,9 @@ use Rattle.std.specs.List.Sorted.{IsStrictlySortedBy}
 use Rattle.std.specs.Map.{keys_of}
 use Rattle.std.specs.Map.Iter.{deref_pair}
 use Rattle.std.proofs.lemmas.Cmp.{nat_list_cmp_total}
-use Rattle.casa_flight.specs.Text.{Text, put}
+use Rattle.casa_filing.specs.Text.{Text, put}
 use Rattle.casa_flight.specs.Good.{AreInOrder}
-use Rattle.casa_flight.proofs.Entries.{text_cmp, same_name, after_all}
+use Rattle.casa_filing.proofs.Entries.{text_cmp, same_name, after_all}
 use Rattle.casa_laws.proofs.Kept.{Above}
 use Rattle.casa_named.specs.Named.{ahead}
 use Rattle.casa_named.specs.Overlaid.{overlaid, present}

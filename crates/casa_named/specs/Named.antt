@@ -1,6 +1,6 @@
 -- inner contracts: few values under names, as they are kept
 use Rattle.std.specs.Prelude.{◌≡◌, List, [], ◌∷◌, Option, None, Some}
-use Rattle.casa_flight.specs.Text.{Text}
+use Rattle.casa_filing.specs.Text.{Text}
 use Rattle.casa_flight.specs.Good.{AreInOrder}
 
 -- the first entry and those behind it; without a first one, nothing

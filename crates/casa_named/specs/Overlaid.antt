@@ -1,6 +1,6 @@
 -- inner contracts: values under names, with changes over them
 use Rattle.std.specs.Prelude.{List, [], ◌∷◌, map, Option, Some}
-use Rattle.casa_flight.specs.Text.{Text, put}
+use Rattle.casa_filing.specs.Text.{Text, put}
 
 -- the entries with these over them: each takes the place of the one with its name, if there is one
 abbrev pub overlaid : {X : Type 0} → List (Text × X) → List (Text × X) → List (Text × X)

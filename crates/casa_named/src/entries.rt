@@ -24,7 +24,7 @@ impl<'a, Kind, X> Model for Entries<'a, Kind, X> {
     ghost use Rattle.std.specs.Prelude.{List, [], unwrap_or};
     ghost use Rattle.std.specs.Map.Iter.{deref_pair};
     ghost use Rattle.std.specs.Option.{option_map};
-    ghost use Rattle.casa_flight.specs.Text.{Text};
+    ghost use Rattle.casa_filing.specs.Text.{Text};
     ghost use Rattle.casa_flight.specs.Good.{AreInOrder};
     ghost use Rattle.casa_named.specs.Named.{ahead};
 

@@ -2,7 +2,7 @@
 
 ghost use Rattle.std.specs.Prelude.{◌≡◌, [], None, OnOk, OnErr, IfErr};
 ghost use Rattle.std.specs.Option.{option_copied};
-ghost use Rattle.casa_flight.specs.Text.{at_name, put, without};
+ghost use Rattle.casa_filing.specs.Text.{at_name, put, without};
 ghost use Rattle.casa_flight.specs.Good.{AreInOrder};
 ghost use Rattle.casa_named.specs.Named.{ahead};
 
@@ -24,7 +24,7 @@ pub struct Few<Kind, X> {
 
 impl<Kind, X> Model for Few<Kind, X> {
     ghost use Rattle.std.specs.Prelude.{List};
-    ghost use Rattle.casa_flight.specs.Text.{Text};
+    ghost use Rattle.casa_filing.specs.Text.{Text};
     ghost use Rattle.casa_named.specs.Named.{ahead, IsFew};
 
     ghost Value = { List (Text × X) };

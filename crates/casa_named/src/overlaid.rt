@@ -23,7 +23,7 @@ pub struct Overlaid<'a, Kind, V> {
 
 impl<'a, Kind, V> Model for Overlaid<'a, Kind, V> {
     ghost use Rattle.std.specs.Prelude.{List, Option};
-    ghost use Rattle.casa_flight.specs.Text.{Text};
+    ghost use Rattle.casa_filing.specs.Text.{Text};
     ghost use Rattle.casa_named.specs.Overlaid.{overlaid, present};
 
     ghost Value = { List (Text × Option V) };

@@ -6,10 +6,10 @@ use Rattle.std.specs.List.{AllByRecursion}
 use Rattle.std.specs.List.Sorted.{IsStrictlySortedBy}
 use Rattle.std.specs.Map.{keys_of}
 use Rattle.std.proofs.lemmas.Cmp.{nat_list_cmp_total}
-use Rattle.casa_flight.specs.Text.{Text, put}
+use Rattle.casa_filing.specs.Text.{Text, put}
 use Rattle.casa_flight.specs.Listing.{kept}
 use Rattle.casa_flight.specs.Good.{AreInOrder}
-use Rattle.casa_flight.proofs.Entries.{text_cmp}
+use Rattle.casa_filing.proofs.Entries.{text_cmp}
 use Rattle.casa_laws.proofs.Kept.{put_all, sorted-kept}
 
 -- every name of the entries comes before this one

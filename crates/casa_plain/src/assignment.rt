@@ -7,7 +7,7 @@ ghost use Rattle.casa_grid.specs.Slots.{slots, wanted, is_within};
 ghost use Rattle.casa_flight.specs.declared.comp.Assigned.{Assigned};
 ghost use Rattle.casa_flight.specs.Assignment.{assignment, is_blocked, is_free, is_from, is_open, is_taken};
 ghost use Rattle.casa_flight.specs.Assignment.{place_after};
-ghost use Rattle.casa_flight.specs.Text.{same_text};
+ghost use Rattle.casa_filing.specs.Text.{same_text};
 
 use casa_flight::{Assigned, Comp, Key};
 use casa_grid::{Grid, Place};

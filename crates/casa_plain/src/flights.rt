@@ -2,10 +2,11 @@
 
 ghost use Rattle.std.specs.Prelude.{◌≡◌, IfOk, map};
 ghost use Rattle.std.specs.List.{filter_map};
-ghost use Rattle.casa_flight.specs.declared.regulation.Measure.{Measure};
+ghost use Rattle.casa_filing.specs.declared.regulation.Measure.{Measure};
 ghost use Rattle.casa_flight.specs.declared.row.Row.{Row};
-ghost use Rattle.casa_flight.specs.Text.{Text};
-ghost use Rattle.casa_flight.specs.State.{is_governed_by, regulation};
+ghost use Rattle.casa_filing.specs.Text.{Text};
+ghost use Rattle.casa_filing.specs.Subject.{regulation};
+ghost use Rattle.casa_flight.specs.State.{is_governed_by};
 ghost use Rattle.casa_flight.specs.Steps.{flights_over, freed, may_compete};
 ghost use Rattle.casa_plain.specs.Flights.{flight_if};
 

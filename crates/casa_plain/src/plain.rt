@@ -4,7 +4,7 @@ ghost use Rattle.std.specs.Prelude.{◌≡◌, IfOk, OnOk, OnErr, length, option
 ghost use Rattle.casa_flight.specs.State.{empty, row_of, measure_of, with_row, catalogue};
 ghost use Rattle.casa_flight.specs.Steps.{next};
 ghost use Rattle.casa_flight.specs.Replies.{reply};
-ghost use Rattle.casa_flight.specs.Text.{put, without};
+ghost use Rattle.casa_filing.specs.Text.{put, without};
 
 use crate::flights::catalogue;
 use casa_flight::{Call, Key, Measure, RegId, Regulation, Reply, Row};

@@ -6,7 +6,7 @@ ghost use Rattle.std.specs.Option.{option_map_or};
 ghost use Rattle.casa_time.specs.Moment.{last_moment};
 ghost use Rattle.casa_grid.specs.Slots.{slots, window_of};
 ghost use Rattle.casa_flight.specs.declared.row.Stance.{Stance};
-ghost use Rattle.casa_flight.specs.Text.{Text};
+ghost use Rattle.casa_filing.specs.Text.{Text};
 ghost use Rattle.casa_flight.specs.Listing.{listing, kept, stance_in, competitor, issued_cto, in_order, is_before};
 ghost use Rattle.casa_flight.specs.Listing.{places, place_of, stance_of, cto_as, cto_of, eto_as, delay_in};
 ghost use Rattle.casa_flight.specs.Entry.{with_competitor};

@@ -2,7 +2,7 @@
 
 ghost use Rattle.std.specs.Prelude.{◌≡◌, IfOk, OnOk, OnErr, map};
 ghost use Rattle.casa_flight.specs.declared.row.Stance.{Stance};
-ghost use Rattle.casa_flight.specs.Text.{Text};
+ghost use Rattle.casa_filing.specs.Text.{Text};
 ghost use Rattle.casa_flight.specs.Steps.{next, step};
 ghost use Rattle.casa_flight.specs.Replies.{flight_reply, flight_answer, forced_time, row_in};
 ghost use Rattle.casa_flight.specs.Replies.{list_rows, list_reply, list_answer, answer};

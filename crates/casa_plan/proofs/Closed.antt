@@ -1,8 +1,8 @@
 -- a regulation closes: from what the code has to what is defined
 use Rattle.std.proofs.Common.{◌≡◌, ℕ, List, [], map, sym, ap, ◌∙◌, None, Some}
 use Rattle.casa_flight.specs.declared.comp.Comp.{Comp}
-use Rattle.casa_flight.specs.declared.regulation.Regulation.{Regulation}
-use Rattle.casa_flight.specs.Text.{Text, put, without}
+use Rattle.casa_filing.specs.declared.regulation.Regulation.{Regulation}
+use Rattle.casa_filing.specs.Text.{Text, put, without}
 use Rattle.casa_flight.specs.Listing.{Listing}
 use Rattle.casa_footprint.specs.Finding.{by_id}
 use Rattle.casa_answer.specs.Sight.{Sight, nothing_written, clock_in, regulations_in}

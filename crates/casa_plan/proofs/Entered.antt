@@ -1,10 +1,11 @@
 -- flights that enter one by one: from what the code has to what is defined
 use Rattle.std.proofs.Common.{◌≡◌, ℕ, List, false, cond, sym, ap, ◌∙◌, ◌||◌, Option}
 use Rattle.std.specs.Option.{option_map_or}
-use Rattle.casa_flight.specs.declared.regulation.Regulation.{Regulation}
+use Rattle.casa_filing.specs.declared.regulation.Regulation.{Regulation}
 use Rattle.casa_flight.specs.declared.row.Row.{Row}
-use Rattle.casa_flight.specs.Text.{Text}
-use Rattle.casa_flight.specs.State.{is_exempt, is_gone}
+use Rattle.casa_filing.specs.Text.{Text}
+use Rattle.casa_filing.specs.Subject.{is_gone}
+use Rattle.casa_flight.specs.State.{is_exempt}
 use Rattle.casa_flight.specs.Entry.{Offer, Situation, most_penalising, governed, choice, entered}
 use Rattle.casa_footprint.specs.Finding.{crossed}
 use Rattle.casa_answer.specs.Sight.{Sight, Written, list_with}

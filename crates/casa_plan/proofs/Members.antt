@@ -10,10 +10,10 @@ use Rattle.casa_flight.specs.declared.comp.Comp.{Comp}
 use Rattle.casa_flight.specs.declared.comp.Assigned.{Assigned}
 use Rattle.casa_flight.specs.declared.row.Stance.{Stance}
 use Rattle.casa_flight.specs.declared.row.Stance.TheVariants.{Competing, Issued, Forced}
-use Rattle.casa_flight.specs.Text.{Text, at_name}
+use Rattle.casa_filing.specs.Text.{Text, at_name}
 use Rattle.casa_flight.specs.Good.{AreInOrder}
 use Rattle.casa_flight.specs.Listing.{Listing, put_by, in_order, is_before, competitor, competitors, places}
-use Rattle.casa_flight.proofs.Entries.{all-each, each_found}
+use Rattle.casa_filing.proofs.Entries.{all-each, each_found}
 use Rattle.casa_flight.proofs.PutBy.{each_itself}
 use Rattle.casa_slots.specs.declared.standing.Standing.{Standing}
 use Rattle.casa_slots.specs.declared.standing.Standing.TheVariants.{Pre, Forced as NoSlot}

@@ -10,11 +10,11 @@ use Rattle.casa_flight.specs.declared.comp.Comp.{Comp}
 use Rattle.casa_flight.specs.declared.reply.ListRow.{ListRow}
 use Rattle.casa_flight.specs.declared.row.Stance.{Stance}
 use Rattle.casa_flight.specs.declared.row.Stance.TheVariants.{Competing, Issued, Forced}
-use Rattle.casa_flight.specs.Text.{Text}
+use Rattle.casa_filing.specs.Text.{Text}
 use Rattle.casa_flight.specs.Good.{AreInOrder}
 use Rattle.casa_flight.specs.Listing.{Listing, in_order, stance_of}
 use Rattle.casa_flight.specs.Replies.{is_row_before}
-use Rattle.casa_flight.proofs.Entries.{each_found}
+use Rattle.casa_filing.proofs.Entries.{each_found}
 use Rattle.casa_flight.proofs.Planning.{rows_order, tied_comps}
 use Rattle.casa_flight.proofs.Sorting.{ranked-in_order, sorted_of_same}
 use Rattle.casa_laws.proofs.InOrder.{pairs_from_recursion}

@@ -4,7 +4,7 @@ use Rattle.std.specs.Option.{option_map_or}
 use Rattle.std.specs.List.{fold}
 use Rattle.casa_flight.specs.declared.comp.Comp.{Comp}
 use Rattle.casa_flight.specs.declared.row.Stance.{Stance}
-use Rattle.casa_flight.specs.Text.{Text, put}
+use Rattle.casa_filing.specs.Text.{Text, put}
 use Rattle.casa_answer.specs.TakingIn.{stance_by}
 use Rattle.casa_item.specs.declared.item.Item.{Item}
 use Rattle.casa_item.specs.Versions.{row_of}

@@ -3,7 +3,7 @@
 ghost use Rattle.std.specs.Prelude.{◌≡◌, [], List, IfOk, OnOk, option_copied};
 ghost use Rattle.std.specs.List.{filter_map};
 ghost use Rattle.casa_flight.specs.declared.row.Stance.{Stance};
-ghost use Rattle.casa_flight.specs.Text.{Text};
+ghost use Rattle.casa_filing.specs.Text.{Text};
 ghost use Rattle.casa_answer.specs.Sight.{regulations_in};
 ghost use Rattle.casa_answer.specs.Closing.{without_regulation, governed_comp, governed_flights};
 ghost use Rattle.casa_answer.specs.Closing.{after_closing, close_reg};

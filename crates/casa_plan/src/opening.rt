@@ -1,7 +1,7 @@
 //! The planner of a regulation that opens.
 
 ghost use Rattle.std.specs.Prelude.{◌≡◌, IfOk};
-ghost use Rattle.casa_flight.specs.State.{regulation};
+ghost use Rattle.casa_filing.specs.Subject.{regulation};
 ghost use Rattle.casa_answer.specs.Opening.{open_reg};
 
 use crate::replies::{done, refused};

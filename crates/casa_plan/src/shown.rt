@@ -6,7 +6,7 @@ ghost use Rattle.std.specs.Option.{option_copied};
 ghost use Rattle.casa_flight.specs.declared.row.Row.{Row};
 ghost use Rattle.casa_flight.specs.Good.{AreInOrder};
 ghost use Rattle.casa_flight.specs.Steps.{flights_over};
-ghost use Rattle.casa_flight.specs.Text.{at_name};
+ghost use Rattle.casa_filing.specs.Text.{at_name};
 ghost use Rattle.casa_footprint.specs.Finding.{by_id, crossed, due_keys};
 ghost use Rattle.casa_table.specs.Asking.{HaveRows};
 ghost use Rattle.casa_view.specs.Shown.{HasRowsInOrder};

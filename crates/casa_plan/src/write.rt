@@ -3,7 +3,7 @@
 ghost use Rattle.std.specs.Prelude.{◌≡◌, ◌++◌, [], ◌∷◌, IfOk, OnOk, option_copied};
 ghost use Rattle.std.specs.Option.{option_map};
 ghost use Rattle.casa_flight.specs.Listing.{Listing};
-ghost use Rattle.casa_flight.specs.Text.{without};
+ghost use Rattle.casa_filing.specs.Text.{without};
 ghost use Rattle.casa_flight.specs.Good.{AreInOrder};
 ghost use Rattle.casa_answer.specs.Sight.{regulations_in, list_with};
 ghost use Rattle.casa_answer.specs.Write.{with_flight, with_stances, crossed_by, left, standing, write_flight};

@@ -1,7 +1,7 @@
 -- to believe: columns of a table: where a text stands in its width, and what a line has in each column
 use Rattle.std.specs.Prelude.{ℕ, ◌-◌, List, [], ◌∷◌, ◌++◌, map, length, replicate, codes, decimal, Option, Some, None}
 use Rattle.std.specs.List.{join_with_byte}
-use Rattle.casa_flight.specs.Text.{Text}
+use Rattle.casa_filing.specs.Text.{Text}
 
 -- a text on the left of so many characters, and one on the right; a longer text is written whole
 abbrev pub left : ℕ → Text → Text

@@ -4,7 +4,7 @@ use Rattle.std.specs.List.{flat_map, join_with_byte}
 use Rattle.std.specs.Option.{option_map_or}
 use Rattle.std.specs.Int.{div_ceil}
 use Rattle.casa_time.specs.Hhmm.{hhmm}
-use Rattle.casa_flight.specs.Text.{Text}
+use Rattle.casa_filing.specs.Text.{Text}
 use Rattle.casa_inquiry.specs.declared.load.Step.{Step}
 use Rattle.casa_report.specs.Columns.{Column, left, right, shown_line, titles}
 

@@ -4,7 +4,7 @@ use Rattle.std.specs.List.{flat_map}
 use Rattle.jiff.specs.Words.{date_text}
 use Rattle.jiff_core.specs.declared.civil.date.Date.{Date}
 use Rattle.casa_time.specs.Hhmm.{hhmm}
-use Rattle.casa_flight.specs.Text.{Text}
+use Rattle.casa_filing.specs.Text.{Text}
 use Rattle.casa_flight.specs.declared.reply.ListReply.{ListReply}
 use Rattle.casa_inquiry.specs.declared.summary.Cost.{Cost}
 use Rattle.casa_inquiry.specs.Summary.{cost_of, cost_of_all, mean_delay}

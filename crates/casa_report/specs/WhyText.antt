@@ -7,7 +7,7 @@ use Rattle.casa_time.specs.Hhmm.{hhmm}
 use Rattle.casa_flight.specs.declared.reply.FlightReply.{FlightReply}
 use Rattle.casa_flight.specs.declared.row.Stance.{Stance}
 use Rattle.casa_flight.specs.declared.row.Stance.TheVariants.{Competing, Issued, Forced}
-use Rattle.casa_flight.specs.Text.{Text}
+use Rattle.casa_filing.specs.Text.{Text}
 use Rattle.casa_flight.specs.Listing.{eto_as}
 use Rattle.casa_flight.specs.Entry.{Offer}
 use Rattle.casa_inquiry.specs.declared.why.Reasons.{Reasons}

@@ -3,7 +3,7 @@ use Rattle.std.proofs.Common.{◌≡◌, ℕ, sym, ap, ◌∙◌, Option, None, 
 use Rattle.std.specs.Option.{option_and_then}
 use Rattle.casa_flight.specs.declared.row.Stance.{Stance}
 use Rattle.casa_flight.specs.declared.row.Stance.TheVariants.{Competing}
-use Rattle.casa_flight.specs.Text.{Text}
+use Rattle.casa_filing.specs.Text.{Text}
 use Rattle.casa_flight.specs.Listing.{Listing, stance_of, cto_as}
 use Rattle.casa_flight.specs.Entry.{with_competitor}
 use Rattle.casa_list.specs.Standings.{governed_cto_as, governed_cto}

@@ -3,9 +3,9 @@ use Rattle.std.proofs.Common.{◌≡◌, List, [], ◌∷◌, Bool, true, false,
 use Rattle.std.proofs.Common.{subst}
 use Rattle.std.specs.Ordering.{is_eq}
 use Rattle.std.specs.List.Sorted.{IsStrictlySortedBy}
-use Rattle.casa_flight.specs.Text.{Text, at_name}
+use Rattle.casa_filing.specs.Text.{Text, at_name}
 use Rattle.casa_flight.specs.Good.{AreInOrder}
-use Rattle.casa_flight.proofs.Entries.{text_cmp, same_name, itself}
+use Rattle.casa_filing.proofs.Entries.{text_cmp, same_name, itself}
 use Rattle.casa_laws.proofs.Kept.{at_above}
 use Rattle.casa_table.specs.Laid.{laid}
 use Rattle.casa_table.proofs.Layers.{at-below}

@@ -10,10 +10,10 @@ use Rattle.std.specs.List.Sorted.{IsStrictlySortedBy}
 use Rattle.std.specs.Map.{keys_of}
 use Rattle.casa_time.specs.Due as due
 use Rattle.casa_flight.specs.declared.row.Row.{Row}
-use Rattle.casa_flight.specs.Text.{Text, same_text}
+use Rattle.casa_filing.specs.Text.{Text, same_text}
 use Rattle.casa_flight.specs.Listing.{kept}
 use Rattle.casa_flight.specs.Entry.{is_to_issue}
-use Rattle.casa_flight.proofs.Entries.{text_cmp, same_name, itself, named}
+use Rattle.casa_filing.proofs.Entries.{text_cmp, same_name, itself, named}
 use Rattle.casa_table.specs.declared.flights.Departure.{Departure}
 use Rattle.casa_table.specs.contracts.flights.DepartureOrd.TheImpl.{ghosts as departures}
 use Rattle.casa_table.specs.Laid.{where_put}

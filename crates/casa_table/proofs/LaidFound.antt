@@ -5,10 +5,10 @@ use Rattle.std.specs.Ordering.{is_eq}
 use Rattle.std.specs.Option.{option_and_then}
 use Rattle.std.specs.Map.{keys_of}
 use Rattle.std.proofs.lemmas.List.Folds.{list_any-append}
-use Rattle.casa_flight.specs.Text.{Text, at_name}
+use Rattle.casa_filing.specs.Text.{Text, at_name}
 use Rattle.casa_flight.specs.Good.{AreInOrder}
 use Rattle.casa_flight.specs.Listing.{kept}
-use Rattle.casa_flight.proofs.Entries.{text_cmp, at-put_other, at-without_other}
+use Rattle.casa_filing.proofs.Entries.{text_cmp, at-put_other, at-without_other}
 use Rattle.casa_laws.proofs.Kept.{at-kept}
 use Rattle.casa_item.specs.declared.item.Item.{Item}
 use Rattle.casa_item.specs.Versions.{row_of}

@@ -9,10 +9,10 @@ use Rattle.std.specs.List.{AllByRecursion}
 use Rattle.std.specs.List.Sorted.{IsStrictlySortedBy}
 use Rattle.std.specs.Map.{keys_of}
 use Rattle.std.proofs.lemmas.Cmp.{nat_list_cmp_total}
-use Rattle.casa_flight.specs.Text.{Text, same_text, at_name, put, without}
+use Rattle.casa_filing.specs.Text.{Text, same_text, at_name, put, without}
 use Rattle.casa_flight.specs.Good.{AreInOrder}
-use Rattle.casa_flight.proofs.Entries.{text_cmp, same_name, itself, named, at-put, at-without_other, sorted-put}
-use Rattle.casa_flight.proofs.Entries.{sorted-remove}
+use Rattle.casa_filing.proofs.Entries.{text_cmp, same_name, itself, named, at-put, at-without_other, sorted-put}
+use Rattle.casa_filing.proofs.Entries.{sorted-remove}
 use Rattle.casa_laws.proofs.Kept.{at_above, at-without_same, same_entries}
 use Rattle.casa_named.proofs.Found.{same_test}
 use Rattle.casa_table.specs.Laid.{where_put, with_value, laid}

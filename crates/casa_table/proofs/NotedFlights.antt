@@ -1,7 +1,7 @@
 -- the flights that versions show, as an index of them has them
 use Rattle.std.proofs.Common.{◌≡◌, List, Bool, true, false, sym, ◌∙◌, Option, Some, if◌then◌else◌}
 use Rattle.casa_flight.specs.declared.row.Row.{Row}
-use Rattle.casa_flight.specs.Text.{Text, same_text}
+use Rattle.casa_filing.specs.Text.{Text, same_text}
 use Rattle.casa_item.specs.declared.item.Item.{Item}
 use Rattle.casa_table.specs.declared.flights.Departure.{Departure}
 use Rattle.casa_table.specs.declared.flights.Passing.{Passing}

@@ -9,17 +9,17 @@ use Rattle.std.specs.Option.{option_and_then, option_map_or, option_cmp}
 use Rattle.std.specs.List.{list_any, filter, find, cons_option}
 use Rattle.std.specs.BTreeMap.{is_at}
 use Rattle.std.specs.BTreeMap.Range.{range_contains}
-use Rattle.casa_flight.specs.declared.plan.Crossing.{Crossing}
-use Rattle.casa_flight.specs.contracts.plan.CrossingPartialEq.TheImpl.{ghosts as crossing}
-use Rattle.casa_flight.specs.contracts.plan.CrossingEq.TheImpl.Laws.{laws-law as crossing_laws}
-use Rattle.casa_flight.specs.declared.regulation.Regulation.{Regulation}
+use Rattle.casa_filing.specs.declared.plan.Crossing.{Crossing}
+use Rattle.casa_filing.specs.contracts.plan.CrossingPartialEq.TheImpl.{ghosts as crossing}
+use Rattle.casa_filing.specs.contracts.plan.CrossingEq.TheImpl.Laws.{laws-law as crossing_laws}
+use Rattle.casa_filing.specs.declared.regulation.Regulation.{Regulation}
 use Rattle.casa_flight.specs.declared.row.Row.{Row}
-use Rattle.casa_flight.specs.Text.{Text, same_text}
-use Rattle.casa_flight.specs.State.{is_there, covered}
-use Rattle.casa_flight.specs.FlightPlan.{FlightPlan}
-use Rattle.casa_flight.specs.PlanEquality.{plan_eq}
-use Rattle.casa_flight.proofs.Same.{plan_same}
-use Rattle.casa_flight.proofs.Entries.{text_cmp, same_name, itself, named}
+use Rattle.casa_filing.specs.Text.{Text, same_text}
+use Rattle.casa_filing.specs.Subject.{is_there, covered}
+use Rattle.casa_filing.specs.FlightPlan.{FlightPlan}
+use Rattle.casa_filing.specs.PlanEquality.{plan_eq}
+use Rattle.casa_filing.proofs.Same.{plan_same}
+use Rattle.casa_filing.proofs.Entries.{text_cmp, same_name, itself, named}
 use Rattle.casa_table.specs.declared.flights.Passing.{Passing}
 use Rattle.casa_table.specs.contracts.flights.PassingOrd.TheImpl.{ghosts as passings}
 use Rattle.casa_table.specs.Laid.{where_put}

@@ -4,8 +4,8 @@ use Rattle.std.specs.Ordering.{is_eq}
 use Rattle.std.specs.Option.{option_map_or}
 use Rattle.std.specs.BTreeMap.{is_at}
 use Rattle.std.specs.BTreeSet.{BTreeSet}
-use Rattle.casa_flight.specs.Text.{Text, at_name}
-use Rattle.casa_flight.proofs.Entries.{text_cmp, same_name}
+use Rattle.casa_filing.specs.Text.{Text, at_name}
+use Rattle.casa_filing.proofs.Entries.{text_cmp, same_name}
 use Rattle.casa_table.specs.declared.flights.Passing.{Passing}
 use Rattle.casa_table.specs.contracts.flights.PassingOrd.TheImpl.{ghosts as passings}
 use Rattle.casa_table.specs.Passing.{has_passing, passings_at, HaveMore}

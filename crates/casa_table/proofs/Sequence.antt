@@ -12,14 +12,14 @@ use Rattle.std.specs.BTreeMap.{insert_entry}
 use Rattle.std.proofs.lemmas.Cmp.{nat_list_cmp_total}
 use Rattle.casa_flight.specs.declared.comp.Comp.{Comp}
 use Rattle.casa_flight.specs.contracts.comp.CompOrd.TheImpl.{ghosts as sequence}
-use Rattle.casa_flight.specs.declared.regulation.Regulation.{Regulation}
+use Rattle.casa_filing.specs.declared.regulation.Regulation.{Regulation}
 use Rattle.casa_flight.specs.declared.row.Row.{Row}
-use Rattle.casa_flight.specs.Text.{Text, at_name}
+use Rattle.casa_filing.specs.Text.{Text, at_name}
 use Rattle.casa_flight.specs.Good.{AreInOrder}
-use Rattle.casa_flight.specs.State.{subject}
+use Rattle.casa_filing.specs.Subject.{subject}
 use Rattle.casa_flight.specs.Steps.{flights_over}
 use Rattle.casa_flight.specs.Listing.{kept, in_order, put_by, is_before}
-use Rattle.casa_flight.proofs.Entries.{text_cmp, same_name}
+use Rattle.casa_filing.proofs.Entries.{text_cmp, same_name}
 use Rattle.casa_laws.proofs.Competitors.{less_apart, before_one_way}
 use Rattle.casa_flight.proofs.PutBy.{put_later, put_first, all-put_by}
 use Rattle.std.specs.Map.{keys_of}

@@ -6,7 +6,7 @@ use Rattle.std.specs.BTreeMap.{insert_entry}
 use Rattle.casa_flight.specs.declared.comp.Comp.{Comp}
 use Rattle.casa_flight.specs.contracts.comp.CompOrd.TheImpl.{ghosts as sequence}
 use Rattle.casa_flight.specs.declared.row.Row.{Row}
-use Rattle.casa_flight.specs.Text.{Text, at_name}
+use Rattle.casa_filing.specs.Text.{Text, at_name}
 use Rattle.casa_table.specs.declared.asking.Question.{Question}
 use Rattle.casa_table.specs.declared.asking.Question.TheVariants.{Due, Over}
 use Rattle.casa_item.specs.declared.item.Item.{Item}

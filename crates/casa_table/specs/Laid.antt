@@ -1,6 +1,6 @@
 -- inner contracts: entries with changes laid over them
 use Rattle.std.specs.Prelude.{List, [], ◌∷◌, Option, None, Some, if◌then◌else◌}
-use Rattle.casa_flight.specs.Text.{Text, same_text, put, without}
+use Rattle.casa_filing.specs.Text.{Text, same_text, put, without}
 
 -- what stands under each name, with this value in place of that under one name, or with none there
 abbrev pub where_put : {X : Type 0} → (Text → Option X) → Text → Option X → Text → Option X

@@ -7,11 +7,11 @@ use Rattle.std.specs.declared.ops.Bound.TheVariants.{Included, Excluded}
 use Rattle.std.specs.BTreeMap.{is_at}
 use Rattle.std.specs.BTreeSet.{BTreeSet}
 use Rattle.casa_flight.specs.declared.comp.Comp.{Comp}
-use Rattle.casa_flight.specs.declared.plan.Crossing.{Crossing}
-use Rattle.casa_flight.specs.declared.regulation.Regulation.{Regulation}
+use Rattle.casa_filing.specs.declared.plan.Crossing.{Crossing}
+use Rattle.casa_filing.specs.declared.regulation.Regulation.{Regulation}
 use Rattle.casa_flight.specs.declared.row.Row.{Row}
-use Rattle.casa_flight.specs.Text.{Text, at_name}
-use Rattle.casa_flight.specs.State.{subject}
+use Rattle.casa_filing.specs.Text.{Text, at_name}
+use Rattle.casa_filing.specs.Subject.{subject}
 use Rattle.casa_table.specs.declared.flights.Passing.{Passing}
 use Rattle.casa_table.specs.contracts.flights.PassingOrd.TheImpl.{ghosts as passings}
 

@@ -5,7 +5,7 @@ use Rattle.std.specs.List.{list_any, filter}
 use Rattle.std.specs.BTreeMap.{is_at}
 use Rattle.casa_time.specs.Due as due
 use Rattle.casa_flight.specs.declared.row.Row.{Row}
-use Rattle.casa_flight.specs.Text.{Text}
+use Rattle.casa_filing.specs.Text.{Text}
 use Rattle.casa_flight.specs.Entry.{is_to_issue}
 use Rattle.casa_table.specs.declared.flights.Departure.{Departure}
 use Rattle.casa_table.specs.contracts.flights.DepartureOrd.TheImpl.{ghosts as departures}

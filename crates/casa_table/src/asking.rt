@@ -4,7 +4,7 @@ ghost use Rattle.std.specs.Prelude.{◌≡◌, ◌≤◌, [], List, true, IfOk, 
 ghost use Rattle.std.specs.Option.{option_and_then};
 ghost use Rattle.std.specs.Map.{keys_of};
 ghost use Rattle.casa_flight.specs.declared.row.Row.{Row};
-ghost use Rattle.casa_flight.specs.Text.{Text, at_name};
+ghost use Rattle.casa_filing.specs.Text.{Text, at_name};
 ghost use Rattle.casa_flight.specs.Good.{AreInOrder};
 ghost use Rattle.casa_flight.specs.Listing.{kept, in_order, is_before};
 ghost use Rattle.casa_flight.specs.Steps.{flights_over};

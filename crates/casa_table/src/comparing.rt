@@ -2,7 +2,7 @@
 
 ghost use Rattle.std.specs.Prelude.{◌≡◌, ◌↔◌, Option, Some, true, IsTrue};
 ghost use Rattle.std.specs.Option.{option_copied, option_map};
-ghost use Rattle.casa_flight.specs.Text.{Text, at_name};
+ghost use Rattle.casa_filing.specs.Text.{Text, at_name};
 ghost use Rattle.casa_table.specs.Same.{same_version};
 
 use crate::index::Index;

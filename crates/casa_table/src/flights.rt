@@ -2,12 +2,12 @@
 
 ghost use Rattle.std.specs.Prelude.{◌≡◌, List, Option, Some, None, true, false, OnOk};
 ghost use Rattle.std.specs.Option.{option_copied, option_map_or};
-ghost use Rattle.casa_flight.specs.Text.{Text};
-ghost use Rattle.casa_flight.specs.PlanEquality.{plan_eq};
+ghost use Rattle.casa_filing.specs.Text.{Text};
+ghost use Rattle.casa_filing.specs.PlanEquality.{plan_eq};
 ghost use Rattle.casa_flight.specs.declared.row.Row.{Row};
 ghost use Rattle.casa_item.specs.Versions.{row_of};
 ghost use Rattle.casa_table.specs.Laid.{where_put};
-ghost use Rattle.casa_flight.specs.declared.plan.Crossing.{Crossing};
+ghost use Rattle.casa_filing.specs.declared.plan.Crossing.{Crossing};
 ghost use Rattle.casa_table.specs.Waiting.{is_waiting, is_waiting_at, departure, has_departure, HaveWaiting};
 ghost use Rattle.casa_table.specs.Passing.{passing, has_passing, passings_at, HaveMore, HaveVia};
 ghost use Rattle.casa_table.specs.Flights.{IsIndexed, row_named};

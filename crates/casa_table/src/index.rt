@@ -1,6 +1,6 @@
 ghost use Rattle.std.specs.Prelude.{◌≡◌, List, Option, None, Some, OnOk};
 ghost use Rattle.std.specs.Option.{option_copied};
-ghost use Rattle.casa_flight.specs.Text.{Text};
+ghost use Rattle.casa_filing.specs.Text.{Text};
 ghost use Rattle.casa_table.specs.Laid.{where_put};
 
 use casa_flight::Name;

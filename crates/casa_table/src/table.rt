@@ -3,7 +3,7 @@
 ghost use Rattle.std.specs.Prelude.{◌≡◌, ◌-◌, [], length, Some, None, IfOk, OnOk, OnErr, if◌then◌else◌};
 ghost use Rattle.std.specs.Arc.{arc_value};
 ghost use Rattle.std.specs.Option.{option_copied, option_or};
-ghost use Rattle.casa_flight.specs.Text.{Text, same_text, at_name, put, without};
+ghost use Rattle.casa_filing.specs.Text.{Text, same_text, at_name, put, without};
 ghost use Rattle.casa_flight.specs.Good.{AreInOrder};
 ghost use Rattle.casa_table.specs.Laid.{with_value, laid};
 
@@ -28,7 +28,7 @@ pub(crate) struct Base<Kind, V, I: Index<Kind, V>> {
 
 impl<Kind, V, I: Index<Kind, V>> Model for Base<Kind, V, I> {
     ghost use Rattle.std.specs.Prelude.{List};
-    ghost use Rattle.casa_flight.specs.Text.{Text, at_name};
+    ghost use Rattle.casa_filing.specs.Text.{Text, at_name};
     ghost use Rattle.casa_flight.specs.Good.{AreInOrder};
 
     ghost Value = { List (Text × V) };
@@ -393,7 +393,7 @@ pub struct Shared<Kind, V, I: Index<Kind, V>> {
 impl<Kind, V, I: Index<Kind, V>> Model for Shared<Kind, V, I> {
     ghost use Rattle.std.specs.Prelude.{List};
     ghost use Rattle.std.specs.Arc.{arc_value};
-    ghost use Rattle.casa_flight.specs.Text.{Text};
+    ghost use Rattle.casa_filing.specs.Text.{Text};
     ghost use Rattle.casa_flight.specs.Good.{AreInOrder};
     ghost use Rattle.casa_table.specs.Laid.{laid};
 

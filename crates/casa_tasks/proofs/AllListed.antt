@@ -6,8 +6,8 @@ use Rattle.std.specs.Option.{option_map_or}
 use Rattle.std.specs.List.{AllByRecursion, filter, sum_by}
 use Rattle.casa_flight.specs.declared.call.Call.{Call}
 use Rattle.casa_flight.specs.declared.call.Call.TheVariants.{List as ListOf}
-use Rattle.casa_flight.specs.declared.regulation.Measure.{Measure}
-use Rattle.casa_flight.specs.declared.regulation.Regulation.{Regulation}
+use Rattle.casa_filing.specs.declared.regulation.Measure.{Measure}
+use Rattle.casa_filing.specs.declared.regulation.Regulation.{Regulation}
 use Rattle.casa_flight.specs.declared.reply.Answer.TheVariants.{Done, List as ListAnswer}
 use Rattle.casa_flight.specs.declared.reply.ListReply.{ListReply}
 use Rattle.casa_flight.specs.declared.row.Stance.{Stance}
@@ -16,10 +16,11 @@ use Rattle.casa_flight.specs.declared.state.State.{State}
 use Rattle.casa_flight.specs.Good.{IsGood}
 use Rattle.casa_flight.specs.Listing.{Listing, delay_in, listing}
 use Rattle.casa_flight.specs.Replies.{kind_of, list_reply, reply, reply_of}
-use Rattle.casa_flight.specs.State.{catalogue, measure_of, regulation}
+use Rattle.casa_filing.specs.Subject.{regulation}
+use Rattle.casa_flight.specs.State.{catalogue, measure_of}
 use Rattle.casa_flight.specs.Steps.{list}
-use Rattle.casa_flight.specs.Text.{Text, at_name}
-use Rattle.casa_flight.proofs.Entries.{each_found}
+use Rattle.casa_filing.specs.Text.{Text, at_name}
+use Rattle.casa_filing.proofs.Entries.{each_found}
 use Rattle.casa_inquiry.specs.Summary.{delays_in, governs, lists_told, total_delay}
 use Rattle.casa_inquiry.proofs.Told.{told_delays}
 use Rattle.casa_engine.specs.Delays.{delays, is_governed, lists_in}

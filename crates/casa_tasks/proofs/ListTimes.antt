@@ -5,7 +5,7 @@ use Rattle.std.specs.List.{All, AllByRecursion}
 use Rattle.std.proofs.lemmas.List.Elements.{All-from_recursion}
 use Rattle.casa_grid.specs.Profile.{end_of}
 use Rattle.casa_grid.specs.Slots.{slots}
-use Rattle.casa_flight.specs.declared.regulation.Measure.{Measure}
+use Rattle.casa_filing.specs.declared.regulation.Measure.{Measure}
 use Rattle.casa_flight.specs.declared.reply.ListRow.{ListRow}
 use Rattle.casa_flight.specs.declared.reply.ListReply.{ListReply}
 use Rattle.casa_flight.specs.declared.reply.Message.{Message}
@@ -17,14 +17,15 @@ use Rattle.casa_flight.specs.declared.row.Row.{Row}
 use Rattle.casa_flight.specs.declared.row.Stance.{Stance}
 use Rattle.casa_flight.specs.declared.row.Stance.TheVariants.{Competing, Issued, Forced}
 use Rattle.casa_flight.specs.declared.state.State.{State}
-use Rattle.casa_flight.specs.Text.{Text, at_name}
-use Rattle.casa_flight.specs.State.{measure_of, regulation, subject, is_due, is_governed_by}
+use Rattle.casa_filing.specs.Text.{Text, at_name}
+use Rattle.casa_filing.specs.Subject.{regulation, subject, is_due}
+use Rattle.casa_flight.specs.State.{measure_of, is_governed_by}
 use Rattle.casa_flight.specs.Listing.{Listing, listing, stance, stance_in, place_of}
 use Rattle.casa_flight.specs.Replies.{is_row_before, list_answer, list_reply, list_rows, messages, reply, reply_of, row_in}
 use Rattle.casa_flight.specs.Steps.{list}
 use Rattle.casa_flight.specs.Good.{IsGood, IsGoodRow, IsFree, IsGoverned}
 use Rattle.casa_tasks.specs.Listed.{list_in}
-use Rattle.casa_flight.proofs.Entries.{all-filter_map}
+use Rattle.casa_filing.proofs.Entries.{all-filter_map}
 use Rattle.casa_laws.proofs.Choice.{cto-between, eto-before_end}
 use Rattle.casa_flight.proofs.PutBy.{all-fold}
 use Rattle.casa_laws.proofs.ChangeMessages.{governed_name}

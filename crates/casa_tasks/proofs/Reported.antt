@@ -4,7 +4,7 @@ use Rattle.std.specs.Prelude.{◌⊎◌, Result, Ok, Err, IsErrAnd}
 use Rattle.std.specs.Io.KnownBytes.{Appends}
 use Rattle.std.proofs.KnownBytes.{Appends-nil}
 use Rattle.jiff_core.specs.declared.civil.date.Date.{Date}
-use Rattle.casa_flight.specs.Text.{Text}
+use Rattle.casa_filing.specs.Text.{Text}
 use Rattle.casa_flight.specs.declared.call.Call.{Call}
 use Rattle.casa_report.specs.declared.fault.ReportFault.{ReportFault}
 use Rattle.casa_report.specs.declared.fault.ReportFault.TheVariants.{WriteFailed, NoMemory as NoMemoryForHeading}

@@ -2,7 +2,7 @@
 use Rattle.std.specs.Prelude.{◌≡◌, ℕ, List, Option, None, Some, Result, Ok, Err}
 use Rattle.std.specs.Io.KnownBytes.{Appends}
 use Rattle.jiff_core.specs.declared.civil.date.Date.{Date}
-use Rattle.casa_flight.specs.Text.{Text}
+use Rattle.casa_filing.specs.Text.{Text}
 use Rattle.casa_flight.specs.declared.call.Call.{Call}
 use Rattle.casa_inquiry.specs.Why.{why_of}
 use Rattle.casa_inquiry.specs.declared.why.Reasons.{Reasons}

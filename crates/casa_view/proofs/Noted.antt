@@ -5,8 +5,8 @@ use Rattle.std.proofs.Math.Bool.{or-false, or-true}
 use Rattle.std.specs.Prelude.{if◌then◌else◌}
 use Rattle.std.specs.List.{list_any}
 use Rattle.std.specs.Ordering.{is_eq}
-use Rattle.casa_flight.specs.Text.{Text, at_name, put, same_text}
-use Rattle.casa_flight.proofs.Entries.{text_cmp, named, at-put}
+use Rattle.casa_filing.specs.Text.{Text, at_name, put, same_text}
+use Rattle.casa_filing.proofs.Entries.{text_cmp, named, at-put}
 use Rattle.casa_view.specs.Taking.{Sees}
 use Rattle.casa_named.proofs.Found.{same_test}
 

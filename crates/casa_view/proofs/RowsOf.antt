@@ -9,10 +9,10 @@ use Rattle.std.specs.Map.Iter.{deref_pair}
 use Rattle.std.specs.Iterator.{SkipsThenYields, YieldsFirstBy}
 use Rattle.std.proofs.lemmas.Iterator.Consumers.{nth_from_yields_List, YieldsList-from_first}
 use Rattle.std.specs.List.Sorted.{IsStrictlySortedBy}
-use Rattle.casa_flight.specs.Text.{Text, put}
+use Rattle.casa_filing.specs.Text.{Text, put}
 use Rattle.casa_flight.specs.Listing.{kept}
 use Rattle.casa_flight.specs.Good.{AreInOrder}
-use Rattle.casa_flight.proofs.Entries.{sorted-put}
+use Rattle.casa_filing.proofs.Entries.{sorted-put}
 use Rattle.casa_laws.proofs.Kept.{set_at, kept-put, kept-without}
 use Rattle.casa_item.specs.declared.item.Item.{Item}
 use Rattle.casa_item.specs.Versions.{row_of}

@@ -2,7 +2,7 @@
 use Rattle.std.proofs.Common.{◌≡◌, Bool, true, false, refl, ap, ◌∙◌, Option, None, Some}
 use Rattle.std.specs.Prelude.{if◌then◌else◌}
 use Rattle.std.specs.Option.{option_map}
-use Rattle.casa_flight.specs.Text.{Text, at_name}
+use Rattle.casa_filing.specs.Text.{Text, at_name}
 use Rattle.casa_footprint.specs.Items.{the_clock, the_catalogue, a_row, a_list}
 use Rattle.casa_view.specs.declared.view.View.{View}
 use Rattle.casa_item.specs.Versions.{Versions}

@@ -2,8 +2,8 @@
 use Rattle.std.proofs.Common.{◌≡◌, List, [], ◌∷◌, map, Bool, true, false, cond, refl, ap, ◌∙◌, Option, None, Some}
 use Rattle.std.specs.Option.{option_map, option_and_then, option_flatten}
 use Rattle.std.specs.Ordering.{is_eq}
-use Rattle.casa_flight.specs.Text.{Text, at_name}
-use Rattle.casa_flight.proofs.Entries.{text_cmp}
+use Rattle.casa_filing.specs.Text.{Text, at_name}
+use Rattle.casa_filing.proofs.Entries.{text_cmp}
 use Rattle.casa_item.specs.declared.item.Item.{Item}
 use Rattle.casa_item.specs.Versions.{list_of}
 use Rattle.casa_view.specs.declared.view.Part.{Part}

@@ -1,7 +1,7 @@
 -- the rows that a view shows
 use Rattle.std.proofs.Common.{◌≡◌, refl, ◌∙◌, Option, None, Some}
 use Rattle.std.specs.Option.{option_map, option_and_then}
-use Rattle.casa_flight.specs.Text.{Text, at_name}
+use Rattle.casa_filing.specs.Text.{Text, at_name}
 use Rattle.casa_flight.specs.Good.{AreInOrder}
 use Rattle.casa_laws.proofs.Kept.{at-kept, sorted-kept}
 use Rattle.casa_item.specs.declared.item.Item.{Item}

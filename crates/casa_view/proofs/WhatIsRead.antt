@@ -14,19 +14,20 @@ use Rattle.casa_grid.specs.Profile.{end_of}
 use Rattle.casa_flight.specs.declared.call.Call.{Call}
 use Rattle.casa_flight.specs.declared.call.Call.TheVariants.{File, Amend, Cancel, Revise, Exempt, Rates, Show}
 use Rattle.casa_flight.specs.declared.call.Call.TheVariants.{List as ListOf, Swap}
-use Rattle.casa_flight.specs.declared.regulation.Regulation.{Regulation}
-use Rattle.casa_flight.specs.declared.regulation.Measure.{Measure}
+use Rattle.casa_filing.specs.declared.regulation.Regulation.{Regulation}
+use Rattle.casa_filing.specs.declared.regulation.Measure.{Measure}
 use Rattle.casa_flight.specs.declared.row.Row.{Row}
 use Rattle.casa_flight.specs.declared.row.Stance.{Stance}
 use Rattle.casa_flight.specs.declared.state.State.{State}
-use Rattle.casa_flight.specs.Text.{Text, at_name, same_text}
-use Rattle.casa_flight.specs.FlightPlan.{FlightPlan}
+use Rattle.casa_filing.specs.Text.{Text, at_name, same_text}
+use Rattle.casa_filing.specs.FlightPlan.{FlightPlan}
 use Rattle.casa_flight.specs.State as state
-use Rattle.casa_flight.specs.State.{regulation, subject, is_governed_by}
+use Rattle.casa_filing.specs.Subject.{regulation, subject}
+use Rattle.casa_flight.specs.State.{is_governed_by}
 use Rattle.casa_flight.specs.Listing.{Listing, list_of}
 use Rattle.casa_flight.specs.Steps.{ends_later, extends}
 use Rattle.casa_flight.specs.Good.{AreInOrder}
-use Rattle.casa_flight.proofs.Entries.{text_cmp, same_name}
+use Rattle.casa_filing.proofs.Entries.{text_cmp, same_name}
 use Rattle.casa_laws.proofs.Kept.{Above, at_above, at-kept}
 use Rattle.casa_footprint.specs.Items.{ItemName, the_clock, the_catalogue, a_row, a_list}
 use Rattle.casa_footprint.specs.Footprint.{reads, is_subject, is_list_of, governs, is_forced}

@@ -4,18 +4,19 @@ use Rattle.std.proofs.Common.{None, Some, map}
 use Rattle.std.specs.Option.{option_map, option_map_or, option_and_then}
 use Rattle.std.specs.List.{AllByRecursion}
 use Rattle.casa_flight.specs.declared.call.Call.{Call}
-use Rattle.casa_flight.specs.declared.regulation.Regulation.{Regulation}
-use Rattle.casa_flight.specs.declared.regulation.Measure.{Measure}
+use Rattle.casa_filing.specs.declared.regulation.Regulation.{Regulation}
+use Rattle.casa_filing.specs.declared.regulation.Measure.{Measure}
 use Rattle.casa_grid.specs.declared.period.Period.{Period}
 use Rattle.casa_flight.specs.declared.row.Row.{Row}
 use Rattle.casa_flight.specs.declared.state.State.{State}
-use Rattle.casa_flight.specs.Text.{Text, at_name}
+use Rattle.casa_filing.specs.Text.{Text, at_name}
+use Rattle.casa_filing.specs.Subject.{regulation}
 use Rattle.casa_flight.specs.State as state
 use Rattle.casa_flight.specs.Listing as lists
 use Rattle.casa_flight.specs.Listing.{Listing, listing, kept}
 use Rattle.casa_flight.specs.Steps.{next}
 use Rattle.casa_flight.specs.Good.{IsGood, AreInOrder}
-use Rattle.casa_flight.proofs.Entries.{each_found}
+use Rattle.casa_filing.proofs.Entries.{each_found}
 use Rattle.casa_laws.proofs.Kept.{at-kept, same_entries, sorted-kept}
 use Rattle.casa_laws.proofs.GoodRegs.{next-good}
 use Rattle.casa_footprint.specs.Items.{ItemName, the_clock, the_catalogue, a_row, a_list, Content, moment, regulations}
@@ -60,7 +61,7 @@ profile_of rows id y w e = ap (λ (v : Option Measure). profile_in (option_map (
 
 measures_each : (m : State) (es : List (Text × Measure))
     → AllByRecursion (λ (e : Text × Measure). at_name m.regs e.0 ≡ Some e.1) es
-    → measures (map (λ (e : Text × Measure). state.regulation e.0 e.1) es) (lists.list_of m) ≡ es
+    → measures (map (λ (e : Text × Measure). regulation e.0 e.1) es) (lists.list_of m) ≡ es
 measures_each m [] h = refl
 measures_each m (e ∷ es) h =
     let first = profile_of m.rows e.0 e.1 (at_name m.regs e.0) h.0 in

@@ -3,9 +3,9 @@ use Rattle.std.specs.Prelude.{ℕ, List, Option}
 use Rattle.std.specs.Coded.{coded_list, coded_option, coded_ℕ}
 use base.Stored.{Coded-set}
 use Rattle.casa_flight.specs.contracts.state.State as state_row
-use Rattle.casa_flight.specs.contracts.regulation.Regulation as regulation_row
+use Rattle.casa_filing.specs.contracts.regulation.Regulation as regulation_row
 use Rattle.casa_list.specs.contracts.list.SlotList as list_row
-use Rattle.casa_flight.specs.declared.regulation.Regulation.{Regulation}
+use Rattle.casa_filing.specs.declared.regulation.Regulation.{Regulation}
 use Rattle.casa_flight.specs.declared.state.State.{State}
 use Rattle.casa_flight.specs.Listing.{Listing}
 use Rattle.casa_view.specs.Standing.{Standing}

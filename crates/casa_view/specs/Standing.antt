@@ -1,10 +1,10 @@
 -- to believe, in part (Standing, standing): how a board stands, and how it stands after a call
 use Rattle.std.specs.Prelude.{◌≡◌, ℕ, List, Option, None, if◌then◌else◌}
 use Rattle.casa_flight.specs.declared.call.Call.{Call}
-use Rattle.casa_flight.specs.declared.regulation.Regulation.{Regulation}
+use Rattle.casa_filing.specs.declared.regulation.Regulation.{Regulation}
 use Rattle.casa_flight.specs.declared.reply.Reply.{Reply}
 use Rattle.casa_flight.specs.declared.state.State.{State}
-use Rattle.casa_flight.specs.Text.{Text}
+use Rattle.casa_filing.specs.Text.{Text}
 use Rattle.casa_flight.specs.State.{empty, row_of, catalogue}
 use Rattle.casa_flight.specs.Listing.{Listing, list_of}
 use Rattle.casa_flight.specs.Steps.{next}

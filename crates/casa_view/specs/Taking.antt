@@ -5,11 +5,11 @@ use Rattle.std.specs.List.{list_any}
 use Rattle.casa_grid.specs.declared.period.Period.{Period}
 use Rattle.casa_grid.specs.Profile.{end_of}
 use Rattle.casa_flight.specs.declared.call.Call.{Call}
-use Rattle.casa_flight.specs.declared.regulation.Regulation.{Regulation}
+use Rattle.casa_filing.specs.declared.regulation.Regulation.{Regulation}
 use Rattle.casa_flight.specs.declared.row.Row.{Row}
 use Rattle.casa_flight.specs.declared.row.Stance.{Stance}
-use Rattle.casa_flight.specs.Text.{Text, at_name, same_text}
-use Rattle.casa_flight.specs.FlightPlan.{FlightPlan}
+use Rattle.casa_filing.specs.Text.{Text, at_name, same_text}
+use Rattle.casa_filing.specs.FlightPlan.{FlightPlan}
 use Rattle.casa_flight.specs.Listing.{Listing}
 use Rattle.casa_footprint.specs.Items.{ItemName, the_clock, the_catalogue, a_row, a_list}
 use Rattle.casa_footprint.specs.Finding.{by_id}

@@ -2,7 +2,7 @@
 
 ghost use Rattle.std.specs.Prelude.{◌≡◌, Some, IfOk, OnOk, OnErr};
 ghost use Rattle.std.specs.Option.{option_copied};
-ghost use Rattle.casa_flight.specs.Text.{at_name, put, without};
+ghost use Rattle.casa_filing.specs.Text.{at_name, put, without};
 ghost use Rattle.casa_flight.specs.Good.{AreInOrder};
 ghost use Rattle.casa_answer.specs.Sight.{nothing_written};
 ghost use Rattle.casa_view.specs.Board.{catalogue_written};

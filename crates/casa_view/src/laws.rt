@@ -1,7 +1,7 @@
 //! Laws of the definitions, each on a function that does nothing: what the contracts of this crate mean.
 
 ghost use Rattle.std.specs.Prelude.{◌≡◌};
-ghost use Rattle.casa_flight.specs.Text.{Text, at_name};
+ghost use Rattle.casa_filing.specs.Text.{Text, at_name};
 ghost use Rattle.casa_flight.specs.Good.{AreInOrder};
 ghost use Rattle.casa_view.specs.declared.view.View.{View};
 ghost use Rattle.casa_view.specs.Shown.{row_shown, rows_shown, HasRowsInOrder};

@@ -47,7 +47,7 @@ pub struct Rows<'a, V: Version> {
 impl<'a, V: Version> Model for Rows<'a, V> {
     ghost use Rattle.std.specs.Prelude.{List};
     ghost use Rattle.casa_flight.specs.declared.row.Row.{Row};
-    ghost use Rattle.casa_flight.specs.Text.{Text};
+    ghost use Rattle.casa_filing.specs.Text.{Text};
     ghost use Rattle.casa_table.specs.Flights.{rows_named};
 
     ghost Value = { List (Text × Row) };

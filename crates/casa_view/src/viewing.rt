@@ -3,7 +3,7 @@
 ghost use Rattle.std.specs.Prelude.{◌≡◌, ◌||◌, ◌&&◌, Bool, OnOk, IfOk, is_some, if◌then◌else◌, true, false, Some, None};
 ghost use Rattle.std.specs.Option.{option_copied, option_map, option_and_then};
 ghost use Rattle.casa_flight.specs.declared.row.Row.{Row as FlightRow};
-ghost use Rattle.casa_flight.specs.Text.{Text, at_name, same_text};
+ghost use Rattle.casa_filing.specs.Text.{Text, at_name, same_text};
 ghost use Rattle.casa_footprint.specs.Footprint.{is_forced};
 ghost use Rattle.casa_item.specs.Crossed.{meets};
 ghost use Rattle.casa_view.specs.Board.{versions};

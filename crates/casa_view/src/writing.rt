@@ -1,7 +1,7 @@
 //! How a change is written: its versions are made, and then they are turned to.
 
 ghost use Rattle.std.specs.Prelude.{◌≡◌, [], OnOk, IfOk, unwrap_or};
-ghost use Rattle.casa_flight.specs.Text.{put};
+ghost use Rattle.casa_filing.specs.Text.{put};
 ghost use Rattle.casa_flight.specs.Good.{AreInOrder};
 ghost use Rattle.casa_answer.specs.Sight.{says};
 ghost use Rattle.casa_view.specs.Board.{versions, next_versions, catalogue_written};

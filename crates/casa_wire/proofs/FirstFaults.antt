@@ -9,13 +9,13 @@ use Rattle.casa_grid.specs.declared.period.Period.{Period}
 use Rattle.casa_grid.specs.declared.profile.ProfileFault.{ProfileFault}
 use Rattle.casa_grid.specs.Profile.{most_periods}
 use Rattle.casa_grid.specs.ProfileFaults.{profile_fault, has_gap, has_bad_rate, is_too_long}
-use Rattle.casa_flight.specs.Text.{Text, is_name}
-use Rattle.casa_flight.specs.FlightPlan.{FlightPlan, longest_taxi, most_crossings, etot}
-use Rattle.casa_flight.specs.PlanFaults.{plan_fault, has_twice, has_early}
-use Rattle.casa_flight.specs.declared.plan.Crossing.{Crossing}
-use Rattle.casa_flight.specs.declared.plan.PlanFault.{PlanFault}
-use Rattle.casa_flight.specs.declared.plan.PlanFault.TheVariants.{BadKey, TaxiTooLong, TooManyCrossings, SameLocation, EtoBeforeTakeOff, OutOfRange}
-use Rattle.casa_flight.specs.declared.plan.Sts.{Sts}
+use Rattle.casa_filing.specs.Text.{Text, is_name}
+use Rattle.casa_filing.specs.FlightPlan.{FlightPlan, longest_taxi, most_crossings, etot}
+use Rattle.casa_filing.specs.PlanFaults.{plan_fault, has_twice, has_early}
+use Rattle.casa_filing.specs.declared.plan.Crossing.{Crossing}
+use Rattle.casa_filing.specs.declared.plan.PlanFault.{PlanFault}
+use Rattle.casa_filing.specs.declared.plan.PlanFault.TheVariants.{BadKey, TaxiTooLong, TooManyCrossings, SameLocation, EtoBeforeTakeOff, OutOfRange}
+use Rattle.casa_filing.specs.declared.plan.Sts.{Sts}
 use Rattle.casa_flight.specs.declared.call.Call.{Call}
 use Rattle.casa_flight.specs.declared.call.Call.TheVariants.{File as FileCall, Amend as AmendCall, Cancel as CancelCall, Revise as ReviseCall, Exempt as ExemptCall, Show as ShowCall, OpenReg as OpenCall, CloseReg as CloseCall, Rates as RatesCall, List as ListCall, Tick as TickCall, Swap as SwapCall}
 use Rattle.casa_wire.specs.declared.fault.Field.TheVariants.{Key, Eobt, Taxi, Via, Sts as Status, Reg, Loc, Periods, At, Other}

@@ -5,9 +5,9 @@ use Rattle.serde_json.specs.Data.{Data}
 use Rattle.serde_json.specs.Find.{get, as_str, as_object}
 use Rattle.casa_time.specs.Moment.{last_moment}
 use Rattle.casa_grid.specs.ProfileFaults.{profile_fault}
-use Rattle.casa_flight.specs.Text.{is_name}
-use Rattle.casa_flight.specs.FlightPlan.{FlightPlan, longest_taxi, most_crossings, etot}
-use Rattle.casa_flight.specs.PlanFaults.{has_twice, has_early}
+use Rattle.casa_filing.specs.Text.{is_name}
+use Rattle.casa_filing.specs.FlightPlan.{FlightPlan, longest_taxi, most_crossings, etot}
+use Rattle.casa_filing.specs.PlanFaults.{has_twice, has_early}
 use Rattle.casa_flight.specs.declared.call.Call.{Call}
 use Rattle.casa_flight.specs.declared.call.Call.TheVariants.{File as FileCall, Amend as AmendCall, Cancel as CancelCall, Revise as ReviseCall, Exempt as ExemptCall, Show as ShowCall, OpenReg as OpenCall, CloseReg as CloseCall, Rates as RatesCall, List as ListCall, Tick as TickCall, Swap as SwapCall}
 use Rattle.casa_wire.specs.declared.fault.Field.{Field}

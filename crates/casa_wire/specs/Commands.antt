@@ -8,12 +8,12 @@ use Rattle.casa_grid.specs.declared.period.Period.{Period}
 use Rattle.casa_grid.specs.declared.profile.ProfileFault.{ProfileFault}
 use Rattle.casa_grid.specs.declared.profile.ProfileFault.TheVariants.{NoMemory as NoMemoryForProfile}
 use Rattle.casa_grid.specs.ProfileFaults.{profile_fault}
-use Rattle.casa_flight.specs.Text.{Text}
-use Rattle.casa_flight.specs.FlightPlan.{FlightPlan}
-use Rattle.casa_flight.specs.PlanFaults.{plan_fault}
-use Rattle.casa_flight.specs.declared.plan.PlanFault.{PlanFault}
-use Rattle.casa_flight.specs.declared.plan.PlanFault.TheVariants.{BadKey, TaxiTooLong, TooManyCrossings, SameLocation, EtoBeforeTakeOff, OutOfRange, NoMemory as NoMemoryForPlan}
-use Rattle.casa_flight.specs.declared.plan.Sts.{Sts}
+use Rattle.casa_filing.specs.Text.{Text}
+use Rattle.casa_filing.specs.FlightPlan.{FlightPlan}
+use Rattle.casa_filing.specs.PlanFaults.{plan_fault}
+use Rattle.casa_filing.specs.declared.plan.PlanFault.{PlanFault}
+use Rattle.casa_filing.specs.declared.plan.PlanFault.TheVariants.{BadKey, TaxiTooLong, TooManyCrossings, SameLocation, EtoBeforeTakeOff, OutOfRange, NoMemory as NoMemoryForPlan}
+use Rattle.casa_filing.specs.declared.plan.Sts.{Sts}
 use Rattle.casa_flight.specs.declared.call.Call.{Call}
 use Rattle.casa_flight.specs.declared.call.Call.TheVariants.{File as FileCall, Amend as AmendCall, Cancel as CancelCall, Revise as ReviseCall, Exempt as ExemptCall, Show as ShowCall, OpenReg as OpenCall, CloseReg as CloseCall, Rates as RatesCall, List as ListCall, Tick as TickCall, Swap as SwapCall}
 use Rattle.casa_wire.specs.declared.fault.Field.{Field}

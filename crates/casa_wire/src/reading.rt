@@ -221,7 +221,7 @@ fn plan_member(alloc: Global, value: &Value) -> Result<Plan, WireFault>
     let taxi = number_member(value, Field::Taxi)?;
     let via = via_member(alloc, value, Field::Via)?;
     let sts = status_member(value)?;
-    match Plan::new(alloc, key.as_bytes(), eobt, taxi, &via, sts) {
+    match Plan::of(key.as_bytes(), eobt, taxi, via, sts) {
         Ok(plan) => Ok(plan),
         Err(fault) => Err(plan_wire_fault(fault)),
     }

@@ -5,7 +5,7 @@ use Rattle.std.specs.Option.{option_map_or}
 use Rattle.std.proofs.lemmas.Bool.Decides.{nat_tests}
 use Rattle.jiff_fmt.specs.Temporal.{DateParts}
 use Rattle.clap.specs.Words.{Row, fault_of, first_of, one_of, subcommand_of}
-use Rattle.casa_flight.specs.Text.{Text}
+use Rattle.casa_filing.specs.Text.{Text}
 use Rattle.casa_words.specs.Words.{Request, WrongValue, run, report, load, summary, why, serve, wrong_reg, wrong_key, wrong_day, casa_app, request_of, named_request, serve_at, or_wrong, ◌>>=◌, number_of, day_in, day_of, named_in, step_of, turns_of, connections_of, checked_day}
 use Rattle.casa_words.specs.Checks.{AreRead, first_wrong, report_checks, report_request, load_request, summary_checks, summary_request, why_checks, why_request, serve_checks, serve_request, unless_wrong}
 use Rattle.casa_words.proofs.Served.{serve_checked}

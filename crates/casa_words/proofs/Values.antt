@@ -1,7 +1,7 @@
 -- the values of options
 use Rattle.std.proofs.Common.{◌≡◌, Bool, true, false, cond, Option, Some, None, refl}
 use Rattle.std.specs.Prelude.{IsSome, IfSome, ◌↔◌}
-use Rattle.casa_flight.specs.Text.{Text, is_name}
+use Rattle.casa_filing.specs.Text.{Text, is_name}
 use Rattle.casa_words.specs.Words.{name_of}
 
 name_at : (b : Bool) (r : Option Text) (t : Text) → (IsSome r ↔ (b ≡ true)) → IfSome r (λ name. name ≡ t) → r ≡ cond b (Some t) None

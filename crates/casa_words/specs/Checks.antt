@@ -2,7 +2,7 @@
 use Rattle.std.specs.Prelude.{◌≡◌, Bool, false, not, ◌&&◌, ◌==◌, List, [], ◌∷◌, find, Option, Some, None, is_none, option_and_then, option_map, codes, Result, Ok, Err}
 use Rattle.std.specs.Option.{option_map_or}
 use Rattle.clap.specs.Words.{Row, fault_of, first_of, subcommand_of}
-use Rattle.casa_flight.specs.Text.{Text}
+use Rattle.casa_filing.specs.Text.{Text}
 use Rattle.casa_words.specs.Words.{Request, WrongValue, report, load, summary, why, serve, wrong_reg, wrong_key, wrong_day, casa_app, connections_of, day_in, day_of, named_in, number_of, step_of, turns_of}
 
 -- clap finds no fault in the words, and they are this subcommand with these options

@@ -4,7 +4,7 @@ use Rattle.clap.specs.Kinds.{HasKind}
 use Rattle.clap.specs.Words.{IsSignedIn, Row, fault_of, one_of, without_minus, subcommand_of, subcommand_rows_of}
 use Rattle.clap.specs.declared.parser.matches.ArgMatches.{ArgMatches}
 use Rattle.jiff_fmt.specs.Temporal.{date_parts}
-use Rattle.casa_flight.specs.Text.{Text}
+use Rattle.casa_filing.specs.Text.{Text}
 use Rattle.casa_words.specs.Words.{Request, WrongValue, run, report, load, summary, why, serve, wrong_reg, wrong_key, wrong_day, casa_app, request_of}
 use Rattle.casa_words.specs.declared.kinds.Task.{Task}
 use Rattle.casa_words.specs.declared.kinds.Task.TheVariants.{Run, Report, Load, Summary, Why, Serve}

@@ -6,7 +6,7 @@ use Rattle.clap.specs.Walk.{is_empty}
 use Rattle.clap.specs.Words.{App, Row, Rule, fault_of, first_of, new_app, new_rule, one_of, subcommand_of, with_rule, with_subcommand}
 use Rattle.clap.specs.declared.builder.value_parser.ValueParser.TheVariants.{Signed}
 use Rattle.jiff_fmt.specs.Temporal.{DateParts, parse_date}
-use Rattle.casa_flight.specs.Text.{Text, is_name}
+use Rattle.casa_filing.specs.Text.{Text, is_name}
 
 -- `--name VALUE`
 abbrev pub option_rule : Text → Rule

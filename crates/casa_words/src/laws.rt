@@ -2,7 +2,7 @@
 
 ghost use Rattle.std.specs.Prelude.{◌≡◌, List, [], Ok, None, Some, codes};
 ghost use Rattle.clap.specs.Words.{Row, fault_of};
-ghost use Rattle.casa_flight.specs.Text.{Text};
+ghost use Rattle.casa_filing.specs.Text.{Text};
 ghost use Rattle.casa_words.specs.Checks.{AreRead, first_wrong, load_request, report_checks, report_request, serve_checks, serve_request, summary_checks, summary_request, unless_wrong, why_checks, why_request};
 ghost use Rattle.casa_words.specs.Words.{casa_app, request_of, run};
 

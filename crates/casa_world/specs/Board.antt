@@ -3,7 +3,7 @@ use Rattle.std.specs.Prelude.{◌≡◌, ℕ, List, ◌++◌, Bool, true, Option
 use Rattle.std.specs.Option.{option_map_or}
 use Rattle.casa_flight.specs.declared.call.Call.{Call}
 use Rattle.casa_flight.specs.declared.reply.Reply.{Reply}
-use Rattle.casa_flight.specs.Text.{Text}
+use Rattle.casa_filing.specs.Text.{Text}
 use Rattle.casa_flight.specs.Replies.{reply}
 use Rattle.casa_history.specs.declared.entry.Entry.{Entry}
 use Rattle.casa_footprint.specs.Items.{ItemName, a_row}

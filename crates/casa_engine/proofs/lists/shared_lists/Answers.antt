@@ -3,7 +3,7 @@ use Rattle.std.specs.List.{slice_get, cons_option}
 use Rattle.std.specs.Option.{option_copied}
 use Rattle.std.proofs.lemmas.Option.{slice_get_read}
 use Rattle.casa_commit.specs.Rooms.{entries_of}
-use Rattle.casa_flight.specs.declared.regulation.Regulation.{Regulation}
+use Rattle.casa_filing.specs.declared.regulation.Regulation.{Regulation}
 use Rattle.casa_flight.specs.Listing.{Listing}
 use Rattle.casa_footprint.specs.Stamps.{state_after}
 use Rattle.casa_engine.specs.Delays.{lists_in}

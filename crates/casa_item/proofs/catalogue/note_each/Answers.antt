@@ -1,6 +1,6 @@
 use Rattle.std.proofs.Common.{◌≡◌, ℕ, List, [], drop, sym, ap, ◌∙◌, subst}
 use Rattle.std.proofs.lemmas.List.{drop_all}
-use Rattle.casa_flight.specs.Text.{Text}
+use Rattle.casa_filing.specs.Text.{Text}
 use Rattle.casa_footprint.specs.Finding.{crossed}
 use Rattle.casa_item.specs.Gathered.{HasNoted}
 use Rattle.casa_item.proofs.Crossed.{noted_each, each_noted}

@@ -1,7 +1,7 @@
 use Rattle.std.proofs.Common.{◌≡◌, ℕ, ◌∷◌, [], drop, ◌+◌, List, sym, ap, ◌∙◌, subst}
 use Rattle.std.proofs.lemmas.List.{drop_more, drop_all}
-use Rattle.casa_flight.specs.declared.plan.Crossing.{Crossing}
-use Rattle.casa_flight.specs.Text.{Text}
+use Rattle.casa_filing.specs.declared.plan.Crossing.{Crossing}
+use Rattle.casa_filing.specs.Text.{Text}
 use Rattle.casa_footprint.specs.Finding.{crossed}
 use Rattle.casa_item.specs.Gathered.{HasNoted}
 use Rattle.casa_item.specs.Crossed.{at_place, along}

@@ -1,5 +1,5 @@
 use Rattle.std.proofs.Common.{ℕ, List, [], drop}
-use Rattle.casa_flight.specs.Text.{Text}
+use Rattle.casa_filing.specs.Text.{Text}
 use Rattle.casa_footprint.specs.Finding.{crossed}
 use Rattle.casa_item.specs.Gathered.{HasNoted}
 use Rattle.casa_item.specs.Crossed.{at_place, along}

@@ -1,4 +1,4 @@
-use Rattle.casa_flight.proofs.PlanFaults.{is_valid, has_name, plan_fault-none}
+use Rattle.casa_filing.proofs.PlanFaults.{is_valid, has_name, plan_fault-none}
 use Rattle.casa_laws.proofs.laws.valid_plan_has_no_fault.Goals as goal
 
 pub returns : goal.returns

@@ -1,7 +1,7 @@
 use Rattle.std.proofs.Common.{◌≡◌, take}
 use Rattle.std.specs.List.{filter_map}
 use Rattle.casa_flight.specs.declared.row.Stance.{Stance}
-use Rattle.casa_flight.specs.Text.{Text}
+use Rattle.casa_filing.specs.Text.{Text}
 use Rattle.casa_flight.specs.Listing.{competitor}
 use Rattle.casa_slots.specs.Walk.{comps_in}
 use Rattle.casa_list.proofs.fresh.competing_by_key.Given as goal

@@ -1,7 +1,7 @@
 use Rattle.std.proofs.Common.{◌≡◌, map, take}
 use Rattle.std.specs.List.{filter_map}
 use Rattle.casa_flight.specs.declared.row.Stance.{Stance}
-use Rattle.casa_flight.specs.Text.{Text}
+use Rattle.casa_filing.specs.Text.{Text}
 use Rattle.casa_list.specs.Governing.{forced_in}
 use Rattle.casa_list.specs.Standings.{forced_flight}
 use Rattle.casa_list.proofs.fresh.forced_by_key.Given as goal

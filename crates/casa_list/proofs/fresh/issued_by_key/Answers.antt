@@ -3,7 +3,7 @@ use Rattle.std.specs.List.{All}
 use Rattle.std.proofs.lemmas.List.Elements.{All-push}
 use Rattle.casa_flight.specs.declared.row.Stance.{Stance}
 use Rattle.casa_flight.specs.declared.row.Stance.TheVariants.{Issued}
-use Rattle.casa_flight.specs.Text.{Text}
+use Rattle.casa_filing.specs.Text.{Text}
 use Rattle.casa_slots.specs.Seat.{HoldsTime, issued_in}
 use Rattle.casa_list.specs.Standings.{issued_flight}
 use Rattle.casa_list.proofs.AtOnce.{kind_more, kind_same, not_issued}

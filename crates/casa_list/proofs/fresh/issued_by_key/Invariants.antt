@@ -1,7 +1,7 @@
 use Rattle.std.proofs.Common.{◌≡◌, map, take}
 use Rattle.std.specs.List.{All, filter_map}
 use Rattle.casa_flight.specs.declared.row.Stance.{Stance}
-use Rattle.casa_flight.specs.Text.{Text}
+use Rattle.casa_filing.specs.Text.{Text}
 use Rattle.casa_slots.specs.Seat.{HoldsTime, issued_in}
 use Rattle.casa_list.specs.Standings.{issued_flight}
 use Rattle.casa_list.proofs.fresh.issued_by_key.Given as goal

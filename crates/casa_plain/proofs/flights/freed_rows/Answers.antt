@@ -1,7 +1,7 @@
 use Rattle.std.proofs.Common.{arith}
 use Rattle.std.proofs.lemmas.Grind.{common_steps}
 use Rattle.casa_flight.specs.declared.row.Row.{Row}
-use Rattle.casa_flight.specs.Text.{Text}
+use Rattle.casa_filing.specs.Text.{Text}
 use Rattle.casa_flight.specs.State.{is_governed_by}
 use Rattle.casa_flight.specs.Steps.{freed}
 use Rattle.casa_plain.proofs.InOrder.{put_all-each}

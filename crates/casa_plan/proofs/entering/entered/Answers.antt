@@ -1,6 +1,7 @@
 use Rattle.std.proofs.Common.{◌≡◌, false, ap, sym, ◌∙◌, Option}
 use Rattle.std.specs.Option.{option_map_or}
-use Rattle.casa_flight.specs.State.{is_exempt, is_gone}
+use Rattle.casa_filing.specs.Subject.{is_gone}
+use Rattle.casa_flight.specs.State.{is_exempt}
 use Rattle.casa_flight.specs.Entry.{Offer, governed}
 use Rattle.casa_plan.proofs.Entered.{entered_as}
 use Rattle.casa_plan.proofs.entering.entered.Goals as goal

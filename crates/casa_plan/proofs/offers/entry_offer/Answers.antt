@@ -1,6 +1,7 @@
 use Rattle.std.proofs.Common.{◌≡◌, ◌∙◌, ℕ, false, cond, ◌||◌, sym, ap, subst, IfOk, Option, None}
 use Rattle.casa_flight.specs.declared.row.Row.{Row}
-use Rattle.casa_flight.specs.State.{is_exempt, is_gone}
+use Rattle.casa_filing.specs.Subject.{is_gone}
+use Rattle.casa_flight.specs.State.{is_exempt}
 use Rattle.casa_flight.specs.Entry.{Offer, most_penalising}
 use Rattle.casa_answer.specs.Sight.{Sight, clock_in, list_with}
 use Rattle.casa_answer.specs.OneFlight.{offers_of, best_offer}

@@ -3,9 +3,9 @@ use Rattle.std.specs.Option.{option_map_or}
 use Rattle.std.specs.List.{filter}
 use Rattle.std.specs.Map.{keys_of}
 use Rattle.casa_flight.specs.declared.comp.Comp.{Comp}
-use Rattle.casa_flight.specs.declared.regulation.Regulation.{Regulation}
+use Rattle.casa_filing.specs.declared.regulation.Regulation.{Regulation}
 use Rattle.casa_flight.specs.Steps.{may_compete}
-use Rattle.casa_flight.specs.Text.{put}
+use Rattle.casa_filing.specs.Text.{put}
 use Rattle.casa_flight.specs.Listing.{Listing}
 use Rattle.casa_answer.specs.Sight.{Sight, Written, row_in}
 use Rattle.casa_answer.specs.Enter.{with_entries}

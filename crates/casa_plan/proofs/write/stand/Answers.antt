@@ -1,7 +1,7 @@
 use Rattle.std.proofs.Common.{◌≡◌, ap, ◌∙◌}
 use Rattle.std.specs.Option.{option_map}
 use Rattle.std.proofs.lemmas.Result.{on_ok_weaker}
-use Rattle.casa_flight.specs.Text.{Text, put}
+use Rattle.casa_filing.specs.Text.{Text, put}
 use Rattle.casa_flight.specs.Listing.{Listing}
 use Rattle.casa_flight.specs.Good.{AreInOrder}
 use Rattle.casa_laws.proofs.Kept.{put-without}

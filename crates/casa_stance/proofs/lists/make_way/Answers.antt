@@ -1,6 +1,6 @@
 use Rattle.std.proofs.Common.{ap, refl}
 use Rattle.std.specs.Option.{option_and_then}
-use Rattle.casa_flight.specs.Text.{Text}
+use Rattle.casa_filing.specs.Text.{Text}
 use Rattle.casa_list.specs.Standings.{place_as}
 use Rattle.casa_stance.proofs.Standing.{absent_without, put_again}
 use Rattle.casa_stance.proofs.lists.make_way.Goals as goal

@@ -4,8 +4,8 @@ use Rattle.std.specs.Map.{keys_of}
 use Rattle.std.specs.Option.{option_and_then}
 use Rattle.casa_flight.specs.Good.{AreInOrder}
 use Rattle.casa_flight.specs.Listing.{kept}
-use Rattle.casa_flight.specs.Text.{Text, at_name}
-use Rattle.casa_flight.proofs.Entries.{each_found}
+use Rattle.casa_filing.specs.Text.{Text, at_name}
+use Rattle.casa_filing.proofs.Entries.{each_found}
 use Rattle.casa_table.specs.Flights.{row_named, rows_named}
 use Rattle.casa_table.specs.Passing.{over_row}
 use Rattle.casa_table.specs.Asking.{HaveRows, with_flight}

@@ -3,7 +3,7 @@ use Rattle.std.specs.List.{AllByRecursion}
 use Rattle.std.specs.Map.{keys_of}
 use Rattle.std.specs.Option.{option_and_then}
 use Rattle.casa_flight.specs.Listing.{kept}
-use Rattle.casa_flight.specs.Text.{at_name}
+use Rattle.casa_filing.specs.Text.{at_name}
 use Rattle.casa_table.specs.Flights.{row_named, rows_named}
 use Rattle.casa_table.specs.Passing.{over_row}
 use Rattle.casa_table.specs.Asking.{HaveRows}

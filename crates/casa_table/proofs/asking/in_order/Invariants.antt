@@ -1,7 +1,7 @@
 use Rattle.std.proofs.Common.{◌≡◌, List, []}
 use Rattle.std.specs.Map.{keys_of}
 use Rattle.casa_flight.specs.declared.row.Row.{Row}
-use Rattle.casa_flight.specs.Text.{Text}
+use Rattle.casa_filing.specs.Text.{Text}
 use Rattle.casa_table.specs.Asking.{times, AreOf, HaveRows}
 use Rattle.casa_table.proofs.Sequence.{inserted}
 use Rattle.casa_table.proofs.asking.in_order.Given as goal

@@ -1,6 +1,6 @@
 use Rattle.std.proofs.Common.{◌≡◌, true, refl, sym, ap, ◌∙◌}
 use Rattle.std.specs.Option.{option_map}
-use Rattle.casa_flight.specs.Text.{Text, at_name}
+use Rattle.casa_filing.specs.Text.{Text, at_name}
 use Rattle.casa_table.specs.Same.{same_version}
 use Rattle.casa_table.proofs.Compared.{each-earlier, no-later, first-found, later-in-order, later-found}
 use Rattle.casa_table.proofs.comparing.same_named.Goals as goal

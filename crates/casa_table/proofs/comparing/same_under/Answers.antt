@@ -1,6 +1,6 @@
 use Rattle.std.proofs.Common.{◌≡◌, true, refl, sym, ◌∙◌}
 use Rattle.std.specs.Option.{option_map}
-use Rattle.casa_flight.specs.Text.{Text, at_name}
+use Rattle.casa_filing.specs.Text.{Text, at_name}
 use Rattle.casa_table.specs.Same.{same_version}
 use Rattle.casa_table.proofs.Compared.{each-earlier}
 use Rattle.casa_table.proofs.comparing.same_under.Goals as goal

@@ -2,8 +2,8 @@ use Rattle.std.proofs.Common.{rules, ◌≡◌, Some, None, true, cond, sym, ap,
 use Rattle.std.specs.Option.{option_copied_mut}
 use Rattle.std.specs.BTreeMap.{BTreeMap, is_at}
 use Rattle.std.specs.BTreeSet.{BTreeSet}
-use Rattle.casa_flight.specs.Text.{Text, at_name}
-use Rattle.casa_flight.proofs.Entries.{text_cmp}
+use Rattle.casa_filing.specs.Text.{Text, at_name}
+use Rattle.casa_filing.proofs.Entries.{text_cmp}
 use Rattle.casa_table.specs.declared.flights.Passing.{Passing}
 use Rattle.casa_table.specs.Passing.{has_passing}
 use Rattle.casa_table.proofs.Placed.{more_placed}

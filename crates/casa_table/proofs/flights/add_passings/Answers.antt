@@ -1,6 +1,6 @@
 use Rattle.std.proofs.Common.{◌≡◌, ◌∷◌, [], drop, ◌+◌, sym, ap, ◌∙◌, subst}
 use Rattle.std.proofs.lemmas.List.{drop_more, drop_all}
-use Rattle.casa_flight.specs.declared.plan.Crossing.{Crossing}
+use Rattle.casa_filing.specs.declared.plan.Crossing.{Crossing}
 use Rattle.casa_table.specs.Passing.{passing, passings_at, HaveVia}
 use Rattle.casa_table.proofs.flights.add_passings.Goals as goal
 

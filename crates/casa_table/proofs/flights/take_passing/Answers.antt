@@ -1,6 +1,6 @@
 use Rattle.std.proofs.Common.{rules, ◌≡◌, Some, sym, ap, ◌∙◌}
 use Rattle.std.specs.Option.{option_copied_mut}
-use Rattle.casa_flight.specs.Text.{at_name}
+use Rattle.casa_filing.specs.Text.{at_name}
 use Rattle.casa_table.specs.Passing.{passing}
 use Rattle.casa_table.proofs.Over.{idle_goes}
 use Rattle.casa_table.proofs.Placed.{others_placed}

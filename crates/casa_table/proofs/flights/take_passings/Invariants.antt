@@ -1,6 +1,6 @@
 use Rattle.std.proofs.Common.{◌≡◌, List}
-use Rattle.casa_flight.specs.declared.plan.Crossing.{Crossing}
-use Rattle.casa_flight.specs.Text.{Text}
+use Rattle.casa_filing.specs.declared.plan.Crossing.{Crossing}
+use Rattle.casa_filing.specs.Text.{Text}
 use Rattle.casa_table.specs.Passing.{passings_at, HaveVia}
 use Rattle.casa_table.proofs.flights.take_passings.Given as goal
 

@@ -1,5 +1,5 @@
 use Rattle.std.proofs.Common.{◌≡◌, Some, false, ◌∙◌, ap, sym, is_some}
-use Rattle.casa_flight.specs.Text.{at_name}
+use Rattle.casa_filing.specs.Text.{at_name}
 use Rattle.casa_table.proofs.Layers.{kept-put}
 use Rattle.casa_table.proofs.table.keep.Goals as goal
 use Rattle.casa_table.proofs.table.keep.Goals.{in-Some+in_ok-try_clone-in-Some, in-None}

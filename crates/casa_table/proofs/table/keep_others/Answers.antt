@@ -1,6 +1,6 @@
 use Rattle.std.proofs.Common.{◌∙◌, ap, sym}
 use Rattle.std.specs.Option.{option_or}
-use Rattle.casa_flight.specs.Text.{at_name}
+use Rattle.casa_filing.specs.Text.{at_name}
 use Rattle.casa_table.proofs.Layers.{kept-next, kept-none}
 use Rattle.casa_table.proofs.table.keep_others.Goals as goal
 

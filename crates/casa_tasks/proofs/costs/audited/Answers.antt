@@ -2,7 +2,7 @@ use Rattle.std.proofs.Common.{List, [], ◌++◌, ◌≤◌, Option, take, refl,
 use Rattle.std.specs.List.{slice_get, cons_option, sum_by}
 use Rattle.std.specs.Option.{option_copied}
 use Rattle.std.proofs.lemmas.Option.{slice_get_read}
-use Rattle.casa_flight.specs.declared.regulation.Regulation.{Regulation}
+use Rattle.casa_filing.specs.declared.regulation.Regulation.{Regulation}
 use Rattle.casa_flight.specs.Listing.{Listing}
 use Rattle.casa_session.specs.Played.{state_after}
 use Rattle.casa_engine.specs.Delays.{delays, lists_in}

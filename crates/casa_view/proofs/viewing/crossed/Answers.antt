@@ -1,6 +1,6 @@
 use Rattle.std.proofs.Common.{List, is_some, sym, ap, ◌∙◌, ℕ}
 use Rattle.std.proofs.lemmas.Result.{IfOk-weaker}
-use Rattle.casa_flight.specs.Text.{Text, at_name}
+use Rattle.casa_filing.specs.Text.{Text, at_name}
 use Rattle.casa_item.specs.declared.item.Item.{Item}
 use Rattle.casa_item.specs.Crossed.{meets}
 use Rattle.casa_item.specs.Versions.{regulations_of}

@@ -4,9 +4,9 @@ use Rattle.std.specs.declared.cmp.Ordering.TheVariants.{Less, Equal, Greater}
 use Rattle.std.specs.Ordering.{ordering_index}
 use Rattle.std.specs.List.Sorted.{IsNonDecreasingBy, IsPartitionPoint}
 use Rattle.std.proofs.lemmas.Fn.{always_returns_same}
-use Rattle.casa_flight.specs.declared.regulation.Regulation.{Regulation}
-use Rattle.casa_flight.specs.Text.{at_name}
-use Rattle.casa_flight.proofs.Entries.{text_cmp}
+use Rattle.casa_filing.specs.declared.regulation.Regulation.{Regulation}
+use Rattle.casa_filing.specs.Text.{at_name}
+use Rattle.casa_filing.proofs.Entries.{text_cmp}
 use Rattle.casa_footprint.specs.Finding.{by_id}
 use Rattle.casa_item.specs.Crossed.{AreListed}
 use Rattle.casa_item.proofs.Listed.{searchable, found_at, none_found}

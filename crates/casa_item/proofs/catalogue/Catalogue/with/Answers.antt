@@ -1,6 +1,6 @@
 use Rattle.std.proofs.Common.{◌≡◌, subst, sym, ◌∙◌, ap}
 use Rattle.std.proofs.lemmas.Result.{IfOk-weaker}
-use Rattle.casa_flight.specs.Text.{put}
+use Rattle.casa_filing.specs.Text.{put}
 use Rattle.casa_footprint.specs.Finding.{by_id}
 use Rattle.casa_item.specs.Crossed.{AreListed}
 use Rattle.casa_item.proofs.Listed.{listed_with, with_is, with_listed}

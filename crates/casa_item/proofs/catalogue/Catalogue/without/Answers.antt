@@ -1,6 +1,6 @@
 use Rattle.std.proofs.Common.{◌≡◌, subst, sym, ◌∙◌, ap}
 use Rattle.std.proofs.lemmas.Result.{IfOk-weaker}
-use Rattle.casa_flight.specs.Text.{without}
+use Rattle.casa_filing.specs.Text.{without}
 use Rattle.casa_footprint.specs.Finding.{by_id}
 use Rattle.casa_item.specs.Crossed.{others, AreListed}
 use Rattle.casa_item.proofs.Listed.{without_is, without_listed}

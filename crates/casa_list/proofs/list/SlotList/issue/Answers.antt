@@ -5,7 +5,7 @@ use Rattle.std.proofs.lemmas.Bool.{both_ways}
 use Rattle.std.proofs.lemmas.Cmp.{nat_list_eq_equiv}
 use Rattle.casa_flight.specs.declared.comp.Comp.{Comp}
 use Rattle.casa_flight.specs.declared.row.Stance.TheVariants.{Competing}
-use Rattle.casa_flight.specs.Text.{same_text}
+use Rattle.casa_filing.specs.Text.{same_text}
 use Rattle.casa_flight.specs.Listing.{Listing, places, place_of}
 use Rattle.casa_laws.proofs.MovesNobody.{place_issued}
 use Rattle.casa_list.proofs.Keeping.{index_of, standing_within, kept_few, kept_roomy, stands}

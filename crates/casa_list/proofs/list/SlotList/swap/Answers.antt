@@ -2,7 +2,7 @@ use Rattle.std.proofs.Common.{◌≡◌, ◌∙◌, Some, is_some, ap, subst, sy
 use Rattle.std.specs.List.Sorted.{IsSortedBy}
 use Rattle.casa_flight.specs.declared.comp.Comp.{Comp}
 use Rattle.casa_flight.specs.declared.row.Stance.TheVariants.{Issued}
-use Rattle.casa_flight.specs.Text.{put}
+use Rattle.casa_filing.specs.Text.{put}
 use Rattle.casa_flight.specs.Listing.{Listing, places}
 use Rattle.casa_list.specs.Standings.{is_flight_before}
 use Rattle.casa_list.proofs.Keeping.{stands}

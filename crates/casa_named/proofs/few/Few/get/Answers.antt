@@ -1,5 +1,5 @@
 use Rattle.std.proofs.Common.{ap, sym, ◌∙◌}
-use Rattle.casa_flight.specs.Text.{at_name}
+use Rattle.casa_filing.specs.Text.{at_name}
 use Rattle.casa_named.specs.Named.{ahead}
 use Rattle.casa_named.proofs.Ahead.{found, not_first}
 use Rattle.casa_named.proofs.few.Few.get.Goals as goal

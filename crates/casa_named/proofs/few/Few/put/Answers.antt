@@ -1,5 +1,5 @@
 use Rattle.std.proofs.Common.{◌∷◌, ap, sym, ◌∙◌, subst}
-use Rattle.casa_flight.specs.Text.{put}
+use Rattle.casa_filing.specs.Text.{put}
 use Rattle.casa_named.specs.Named.{ahead, IsFew}
 use Rattle.casa_named.proofs.Ahead.{alone-few, before-put, before-few, behind-few}
 use Rattle.casa_named.proofs.few.Few.put.Goals as goal

@@ -1,5 +1,5 @@
 use Rattle.std.proofs.Common.{◌∷◌, ap, sym, ◌∙◌, subst}
-use Rattle.casa_flight.specs.Text.{at_name, without}
+use Rattle.casa_filing.specs.Text.{at_name, without}
 use Rattle.casa_named.specs.Named.{ahead, IsFew}
 use Rattle.casa_named.proofs.Ahead.{found, not_first, first-left, other-left, other-few, first-few}
 use Rattle.casa_named.proofs.few.Few.take.Goals as goal

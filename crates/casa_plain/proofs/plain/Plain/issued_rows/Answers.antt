@@ -1,7 +1,7 @@
 use Rattle.std.proofs.Common.{arith}
 use Rattle.std.proofs.lemmas.Grind.{common_steps}
 use Rattle.casa_flight.specs.declared.row.Row.{Row}
-use Rattle.casa_flight.specs.Text.{Text}
+use Rattle.casa_filing.specs.Text.{Text}
 use Rattle.casa_flight.specs.Entry.{issue_if, is_to_issue}
 use Rattle.casa_plain.proofs.InOrder.{put_all-each}
 use Rattle.casa_plain.proofs.plain.Plain.issued_rows.Goals as goal

@@ -1,6 +1,6 @@
 use Rattle.std.proofs.Common.{◌≡◌, [], map}
 use Rattle.casa_flight.specs.declared.row.Row.{Row}
-use Rattle.casa_flight.specs.Text.{Text}
+use Rattle.casa_filing.specs.Text.{Text}
 use Rattle.casa_flight.specs.Entry.{issue_if, is_to_issue}
 use Rattle.casa_laws.proofs.Kept.{put_all}
 use Rattle.casa_plain.proofs.plain.Plain.issued_rows.Given as goal

@@ -1,5 +1,5 @@
 use Rattle.std.proofs.Common.{◌∙◌}
-use Rattle.casa_flight.specs.Text.{at_name}
+use Rattle.casa_filing.specs.Text.{at_name}
 use Rattle.casa_table.specs.declared.asking.Question.TheVariants.{Due}
 use Rattle.casa_table.specs.Laid.{laid}
 use Rattle.casa_table.specs.Asking.{answered}

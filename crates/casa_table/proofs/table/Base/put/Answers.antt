@@ -1,7 +1,7 @@
 use Rattle.std.proofs.Common.{rules, ◌≡◌, Some, None, sym, ap, ◌∙◌, subst}
-use Rattle.casa_flight.specs.Text.{at_name, put}
+use Rattle.casa_filing.specs.Text.{at_name, put}
 use Rattle.casa_flight.specs.Good.{AreInOrder}
-use Rattle.casa_flight.proofs.Entries.{at-put_same, sorted-put}
+use Rattle.casa_filing.proofs.Entries.{at-put_same, sorted-put}
 use Rattle.casa_table.proofs.Layers.{where-put, put-there}
 use Rattle.casa_table.proofs.table.Base.put.Goals as goal
 

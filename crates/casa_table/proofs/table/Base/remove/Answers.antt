@@ -1,5 +1,5 @@
 use Rattle.std.proofs.Common.{None, sym}
-use Rattle.casa_flight.specs.Text.{at_name}
+use Rattle.casa_filing.specs.Text.{at_name}
 use Rattle.casa_table.proofs.Layers.{where-put}
 use Rattle.casa_table.proofs.table.Base.remove.Goals as goal
 

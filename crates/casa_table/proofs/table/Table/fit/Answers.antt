@@ -2,7 +2,7 @@ use Rattle.std.proofs.Common.{ap, ◌∙◌}
 use Rattle.std.proofs.lemmas.Result.{on_ok_weaker}
 use Rattle.std.specs.Arc.{arc_value}
 use Rattle.std.specs.Option.{option_or}
-use Rattle.casa_flight.specs.Text.{at_name}
+use Rattle.casa_filing.specs.Text.{at_name}
 use Rattle.casa_table.specs.Laid.{laid}
 use Rattle.casa_table.proofs.Layers.{laid-over}
 use Rattle.casa_table.proofs.table.Table.fit.Goals as goal

@@ -1,7 +1,7 @@
 use Rattle.std.proofs.Common.{◌||◌, false, Bool, Option, ap}
 use Rattle.std.proofs.lemmas.Result.{IfOk-weaker}
 use Rattle.casa_flight.specs.Listing.{Listing}
-use Rattle.casa_flight.specs.Text.{Text, same_text}
+use Rattle.casa_filing.specs.Text.{Text, same_text}
 use Rattle.casa_view.specs.Board.{versions}
 use Rattle.casa_view.specs.Taking.{Sees, is_of, governing_at, has_forced, forced_at, governs_forced_at}
 use Rattle.casa_view.proofs.Noted.{sees_last, sees_same, sees_nothing}

@@ -1,5 +1,5 @@
 use Rattle.std.proofs.Common.{false}
-use Rattle.casa_flight.specs.Text.{same_text}
+use Rattle.casa_filing.specs.Text.{same_text}
 use Rattle.casa_view.proofs.Noted.{sees_last, sees_nothing}
 use Rattle.casa_view.proofs.items.Items.one_row.Goals as goal
 

@@ -1,5 +1,5 @@
 use Rattle.std.proofs.Common.{Bool, true, false, sym, ap, ◌∙◌}
-use Rattle.casa_flight.specs.Text.{same_text}
+use Rattle.casa_filing.specs.Text.{same_text}
 use Rattle.casa_item.specs.declared.item.Item.{Item}
 use Rattle.casa_item.specs.Versions.{regulations_of}
 use Rattle.casa_view.specs.Board.{versions}

@@ -4,7 +4,7 @@ use Rattle.std.specs.List.{list_any}
 use Rattle.std.proofs.lemmas.List.{take_more, take_all}
 use Rattle.casa_flight.specs.declared.row.Stance.{Stance}
 use Rattle.casa_flight.specs.Listing.{Listing}
-use Rattle.casa_flight.specs.Text.{Text, same_text}
+use Rattle.casa_filing.specs.Text.{Text, same_text}
 use Rattle.casa_footprint.specs.Footprint.{is_forced}
 use Rattle.casa_view.specs.Board.{versions}
 use Rattle.casa_view.specs.Taking.{is_of, governing_at, has_forced}

@@ -1,7 +1,7 @@
 use Rattle.std.proofs.Common.{◌||◌, ◌&&◌, List, Bool, Option, take}
 use Rattle.std.specs.List.{list_any}
 use Rattle.casa_flight.specs.declared.row.Stance.{Stance}
-use Rattle.casa_flight.specs.Text.{Text, same_text}
+use Rattle.casa_filing.specs.Text.{Text, same_text}
 use Rattle.casa_footprint.specs.Footprint.{is_forced}
 use Rattle.casa_view.specs.Board.{versions}
 use Rattle.casa_view.specs.Taking.{Sees, is_of, governing_at}

@@ -1,6 +1,6 @@
 use Rattle.std.proofs.Common.{◌&&◌, OnOk, sym, subst}
 use Rattle.casa_flight.specs.declared.row.Stance.{Stance}
-use Rattle.casa_flight.specs.Text.{same_text}
+use Rattle.casa_filing.specs.Text.{same_text}
 use Rattle.casa_footprint.specs.Footprint.{is_forced}
 use Rattle.casa_view.specs.Board.{versions}
 use Rattle.casa_view.specs.Taking.{SeesAlso, is_of, governing_at}

@@ -1,7 +1,7 @@
 use Rattle.std.proofs.Common.{rules, ◌≡◌, ◌||◌, is_some, map, subst}
 use Rattle.std.specs.Map.Iter.{deref_pair}
 use Rattle.std.proofs.lemmas.Map.Iter.{iter_end}
-use Rattle.casa_flight.specs.Text.{at_name}
+use Rattle.casa_filing.specs.Text.{at_name}
 use Rattle.casa_view.specs.Taking.{Sees}
 use Rattle.casa_view.proofs.Noted.{sees_same, some-push}
 use Rattle.casa_view.proofs.items.Items.see_lists.Goals as goal

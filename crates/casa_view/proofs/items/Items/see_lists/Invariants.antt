@@ -1,6 +1,6 @@
 use Rattle.std.proofs.Common.{◌||◌, Bool, is_some, map}
 use Rattle.std.specs.Map.Iter.{deref_pair}
-use Rattle.casa_flight.specs.Text.{Text, at_name}
+use Rattle.casa_filing.specs.Text.{Text, at_name}
 use Rattle.casa_view.specs.Taking.{Sees}
 use Rattle.casa_view.proofs.items.Items.see_lists.Given as goal
 

@@ -1,6 +1,6 @@
 use Rattle.std.proofs.Common.{◌||◌, false}
 use Rattle.std.proofs.lemmas.Result.{IfOk-weaker}
-use Rattle.casa_flight.specs.Text.{same_text}
+use Rattle.casa_filing.specs.Text.{same_text}
 use Rattle.casa_view.specs.Board.{versions}
 use Rattle.casa_view.specs.Taking.{Sees, is_of, governing_at}
 use Rattle.casa_view.proofs.Noted.{sees_last, sees_nothing}

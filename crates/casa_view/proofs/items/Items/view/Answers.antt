@@ -1,5 +1,5 @@
 use Rattle.std.proofs.Common.{◌||◌, Bool, true, false, None, Some, refl, ap, ◌∙◌}
-use Rattle.casa_flight.specs.Text.{Text, same_text}
+use Rattle.casa_filing.specs.Text.{Text, same_text}
 use Rattle.casa_footprint.specs.Items.{ItemName}
 use Rattle.casa_item.specs.Versions.{regulations_of}
 use Rattle.casa_view.specs.Board.{versions}

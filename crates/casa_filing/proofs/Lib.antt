@@ -1,0 +1,5 @@
+pub mod Names
+pub mod Numbers
+pub mod PlanFaults
+pub mod Entries
+pub mod Same
