@@ -3,9 +3,9 @@
 //! `casa serve` answers the desks that connect.
 #![tactic(auto)]
 
+use casa_app::{ProgramFault, Timing, load, outcome, report, serve_desks, summary, why};
+use casa_cli::{Task, TaskFault, task};
 use casa_session::Lone;
-use casa_tasks::{ProgramFault, Timing, load, outcome, report, serve_desks, summary, why};
-use casa_words::{Task, TaskFault, task};
 use clap::Command;
 use clap::error::ErrorKind;
 use jiff::civil::Date;

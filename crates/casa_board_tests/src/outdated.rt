@@ -9,7 +9,7 @@ use casa_flight::{Answer, Call, Reply};
 use casa_history::Pass;
 use casa_plan::{Direct, plan};
 use casa_shelf::{Shelf, Shelving};
-use casa_view::{Board, Copies, Item, Kept, Version, View};
+use casa_view::{Board, Copies, Item, Store, Version, View};
 use std::alloc::Global;
 use std::marker::Brand;
 use std::process::Abort;
@@ -39,7 +39,7 @@ fn slots<V: Version>(rt: &impl Abort, alloc: Global, view: &View<V>, list: &Call
 }
 
 /// Makes the call of a command line.
-fn make<K: Kept>(
+fn make<K: Store>(
     rt: &impl Abort,
     alloc: Global,
     room: &mut Room<Board<K>>,
@@ -52,7 +52,7 @@ fn make<K: Kept>(
 }
 
 /// The commit of the answer on this view is refused.
-fn is_refused<K: Kept>(
+fn is_refused<K: Store>(
     rt: &impl Abort,
     alloc: Global,
     room: &mut Room<Board<K>>,
@@ -69,7 +69,7 @@ fn is_refused<K: Kept>(
 
 /// A view of the list is taken, and then the rates are set so often. The answer on that view is the one of before, and its
 /// commit is refused; the answer on a new view is the one of now.
-fn is_outdated<K: Kept>(
+fn is_outdated<K: Store>(
     rt: &impl Abort,
     alloc: Global,
     room: &mut Room<Board<K>>,
@@ -89,7 +89,7 @@ fn is_outdated<K: Kept>(
 }
 
 /// So it is on a room over this store, where the regulation is open.
-fn outdated<K: Kept>(rt: &impl Abort, alloc: Global, store: K) {
+fn outdated<K: Store>(rt: &impl Abort, alloc: Global, store: K) {
     let board = Board::new(alloc, store).expect(rt, "memory");
     let mut room = Room::new(alloc, board, 7);
     let mut pass = room.open_desk().expect(rt, "a desk");

@@ -6,7 +6,7 @@ use crate::lines::call_of;
 use casa_flight::{Call, Reply};
 use casa_history::{Entry, History, Receipt, SharedEntry};
 use casa_shelf::{Shelf, Shelving};
-use casa_view::{Copies, Item, Kept};
+use casa_view::{Copies, Item, Store};
 use casa_wire::reply_line;
 use casa_world::{Event, play};
 use std::alloc::Global;
@@ -55,7 +55,7 @@ fn push_history(rt: &impl Abort, alloc: Global, told: &mut String, history: &His
 }
 
 /// Plays the events up to a worker's commit, over this store, and writes the outcome.
-fn push_outcome<K: Kept>(
+fn push_outcome<K: Store>(
     rt: &impl Abort,
     alloc: Global,
     told: &mut String,
@@ -68,7 +68,7 @@ fn push_outcome<K: Kept>(
 }
 
 /// Plays the events over this store, and writes the clock and the history.
-fn push_end<K: Kept>(
+fn push_end<K: Store>(
     rt: &impl Abort,
     alloc: Global,
     told: &mut String,

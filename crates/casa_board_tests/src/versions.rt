@@ -4,7 +4,7 @@ ghost use Rattle.std.specs.Prelude.{◌≡◌};
 
 use casa_shelf::{Shelf, Shelving};
 use casa_time::Moment;
-use casa_view::{Copied, Copies, Item, Kept, Version};
+use casa_view::{Copied, Copies, Item, Store, Version};
 use std::alloc::Global;
 use std::marker::Brand;
 use std::process::Abort;

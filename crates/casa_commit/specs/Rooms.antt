@@ -85,7 +85,7 @@ pub record IsUnchanged {W C V D R : Type 0} {world : WorldOf W C V D R} (room ro
   -- the history is the old one
   pub history : entries_of room' ≡ entries_of room
   -- the world is like the old one
-  pub same_world : world.alike (world_of room) (world_of room')
+  pub same_world : world.same_but_capacity (world_of room) (world_of room')
   -- and stands for the replay of the history
   pub replayed : world.state (world_of room') ≡ replay world.after world.opening (entries_of room')
   -- number and open desks are the old ones

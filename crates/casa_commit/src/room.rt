@@ -117,7 +117,7 @@ impl<W: World> Room<W> {
     /// Lets the world move in what it kept apart for views that are gone. `AllocError` where there is no memory for it; the
     /// room says what it said at each end.
     pub fn consolidate(&mut self) -> Result<(), AllocError>
-        ensures world { W.alike (world_of self.old) (world_of self.new) }
+        ensures world { W.same_but_capacity (world_of self.old) (world_of self.new) }
         ensures history { history_of self.new ≡ history_of self.old }
         ensures number { room_number self.new ≡ room_number self.old }
         ensures desks { open_desks self.new ≡ open_desks self.old }
@@ -272,7 +272,7 @@ impl<W: World> Room<W> {
         answered: &SharedEntry<W::Call, W::Reply>,
         change: &W::Change,
     ) -> Result<Receipt<W::Call, W::Reply>, AllocError>
-        ensures world { W.alike (world_of self.old) (world_of self.new) }
+        ensures world { W.same_but_capacity (world_of self.old) (world_of self.new) }
         ensures history { entries_of self.new ≡ entries_of self.old }
         ensures number { room_number self.new ≡ room_number self.old }
         ensures desks { self.new.desks ≡ self.old.desks }

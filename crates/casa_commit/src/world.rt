@@ -27,7 +27,7 @@ pub trait World {
     /// The state of a world with an empty history.
     ghost opening: { state_type };
 
-    /// The state after a call whose entry has this number.
+    /// The state after a call whose entry has this position.
     ghost after: { ℕ → state_type → Self.Call → state_type };
 
     /// The reply to a call in a state.
@@ -52,12 +52,12 @@ pub trait World {
     ghost changes: { state_type → Self.Call → Self.Change → Type 0 };
 
     /// The worlds differ in their spare memory at most.
-    ghost alike: { Self → Self → Type 0 };
+    ghost same_but_capacity: { Self → Self → Type 0 };
 
-    /// There is memory for the change of the entry with this number.
+    /// There is memory for the change of the entry at this position.
     ghost has_room: { Self → ℕ → Self.Change → Type 0 };
 
-    /// The second world is the first with the change of the entry with this number applied.
+    /// The second world is the first with the change of the entry at this position applied.
     ghost applied: { Self → ℕ → Self.Change → Self → Type 0 };
 
     /// What the call reads, with the present versions. `AllocError` where there is no memory for it.
@@ -76,18 +76,18 @@ pub trait World {
     /// Moves in what was kept apart for views that are gone. `AllocError` where there is no memory for it; the world says
     /// what it said at each end.
     fn consolidate(&mut self) -> Result<(), AllocError>
-        ensures { alike self.old self.new };
+        ensures { same_but_capacity self.old self.new };
 
-    /// Makes all growths of a change, which the entry with this number will apply. `AllocError` where one is refused;
+    /// Makes all growths of a change, which the entry at this position will apply. `AllocError` where one is refused;
     /// nothing but spare memory has changed then.
-    fn fits(&mut self, number: usize, change: &Self::Change) -> Result<(), AllocError>
-        ensures alike { alike self.old self.new }
-        ensures room { OnOk result (has_room self.new number change.now) };
+    fn fits(&mut self, position: usize, change: &Self::Change) -> Result<(), AllocError>
+        ensures alike { same_but_capacity self.old self.new }
+        ensures room { OnOk result (has_room self.new position change.now) };
 
-    /// Applies the change of the entry with this number, for which `fits` has made room.
-    fn apply(&mut self, number: usize, change: Self::Change)
-        requires { has_room self.old number change }
-        ensures { applied self.old number change self.new };
+    /// Applies the change of the entry at this position, for which `fits` has made room.
+    fn apply(&mut self, position: usize, change: Self::Change)
+        requires { has_room self.old position change }
+        ensures { applied self.old position change self.new };
 
     /// The same call in memory of its own. `AllocError` where there is none.
     fn copy_call(call: &Self::Call) -> Result<Self::Call, AllocError>
@@ -101,27 +101,27 @@ pub trait World {
     ghost good_opening: { good opening };
 
     /// Each call keeps the state in order.
-    ghost good_after: { (n : ℕ) (s : state_type) (c : Self.Call) → good s → good (after n s c) };
+    ghost good_after: { (position : ℕ) (s : state_type) (c : Self.Call) → good s → good (after position s c) };
 
     /// To apply what a call writes gives the state after the call.
-    ghost applied_after: { (w : Self) (n : ℕ) (c : Self.Call) (d : Self.Change) (w' : Self) →
-        good (state w) → changes (state w) c d → applied w n d w' → state w' ≡ after n (state w) c };
+    ghost applied_after: { (w : Self) (position : ℕ) (c : Self.Call) (d : Self.Change) (w' : Self) →
+        good (state w) → changes (state w) c d → applied w position d w' → state w' ≡ after position (state w) c };
 
     /// A change is applied to a world as to one that differs in spare memory.
-    ghost alike_applied: { (w w' : Self) (n : ℕ) (d : Self.Change) (w'' : Self) →
-        alike w w' → applied w' n d w'' → applied w n d w'' };
+    ghost alike_applied: { (w w' : Self) (position : ℕ) (d : Self.Change) (w'' : Self) →
+        same_but_capacity w w' → applied w' position d w'' → applied w position d w'' };
 
     /// Each world is like itself.
-    ghost alike_same: { (w : Self) → alike w w };
+    ghost alike_same: { (w : Self) → same_but_capacity w w };
 
     /// Worlds that are alike stand for one state.
-    ghost alike_state: { (w w' : Self) → alike w w' → state w' ≡ state w };
+    ghost alike_state: { (w w' : Self) → same_but_capacity w w' → state w' ≡ state w };
 
     /// A view of a world is one of each world like it, with the same versions.
-    ghost alike_views: { (w w' : Self) (v : Self.View) → alike w w' →
+    ghost alike_views: { (w w' : Self) (v : Self.View) → same_but_capacity w w' →
         (is_of v w ↔ is_of v w') × (is_current w v ↔ is_current w' v) };
 
     /// Views keep the name of their world when a change is applied.
-    ghost applied_views: { (w : Self) (n : ℕ) (d : Self.Change) (w' : Self) (v : Self.View) →
-        applied w n d w' → (is_of v w ↔ is_of v w') };
+    ghost applied_views: { (w : Self) (position : ℕ) (d : Self.Change) (w' : Self) (v : Self.View) →
+        applied w position d w' → (is_of v w ↔ is_of v w') };
 }

@@ -12,7 +12,7 @@ use Rattle.casa_history.specs.Entries.{receipts, desk_of}
 use Rattle.casa_commit.specs.declared.world.World.{Ghosts as WorldOf}
 use Rattle.casa_commit.specs.Passes.{SamePass}
 use Rattle.casa_commit.proofs.Replays.{slice_get-pushed}
-use Rattle.casa_engine.specs.Receipts.{AllStand, IsNextAfter, Stands}
+use Rattle.casa_engine.specs.Receipts.{AreReceiptsOf, IsNextAfter, IsReceiptOf}
 
 -- an element that stands before others
 found_before : {X : Type 0} → (xs ys : List X) (k : ℕ) → k < length xs → slice_get (xs ++ ys) k ≡ slice_get xs k
@@ -25,17 +25,17 @@ pub counted_more : {X : Type 0} → (n m : ℕ) (xs ys : List X) (x : X) → n �
 counted_more n m xs ys x had more is = omega (arith, had, more, ap length is, length-append xs (x ∷ []))
 
 module _ {W C V D R : Type 0} (world : WorldOf W C V D R) where
-  pub none_stand : (pass : Pass C R) → receipts pass ≡ [] → AllStand world (desk_of pass) (receipts pass)
-  none_stand pass none = subst (AllStand world (desk_of pass)) (sym none) (λ k r is. absurd (cc))
+  pub none_stand : (pass : Pass C R) → receipts pass ≡ [] → AreReceiptsOf world (desk_of pass) (receipts pass)
+  none_stand pass none = subst (AreReceiptsOf world (desk_of pass)) (sym none) (λ k r is. absurd (cc))
 
-  pub same_stand : (pass pass' : Pass C R) → SamePass pass pass' → AllStand world (desk_of pass) (receipts pass)
-      → AllStand world (desk_of pass') (receipts pass')
+  pub same_stand : (pass pass' : Pass C R) → SamePass pass pass' → AreReceiptsOf world (desk_of pass) (receipts pass)
+      → AreReceiptsOf world (desk_of pass') (receipts pass')
   same_stand pass pass' same all =
-      subst (λ (d : ℕ). AllStand world d (receipts pass')) (sym same.1)
-      (subst (AllStand world (desk_of pass)) (sym same.2) all)
+      subst (λ (d : ℕ). AreReceiptsOf world d (receipts pass')) (sym same.1)
+      (subst (AreReceiptsOf world (desk_of pass)) (sym same.2) all)
 
-  more_stand : (desk : ℕ) (rs : List (Receipt C R)) (given : Receipt C R) (earlier : List (Entry C R)) → AllStand world desk rs
-      → given.entry.desk ≡ desk → IsNextAfter world rs given earlier → AllStand world desk (rs ++ given ∷ [])
+  more_stand : (desk : ℕ) (rs : List (Receipt C R)) (given : Receipt C R) (earlier : List (Entry C R)) → AreReceiptsOf world desk rs
+      → given.entry.desk ≡ desk → IsNextAfter world rs given earlier → AreReceiptsOf world desk (rs ++ given ∷ [])
   more_stand desk rs given earlier all of_desk next k r is =
       elim (cases_lt k (length rs)) [
         | inl before ↦
@@ -49,9 +49,9 @@ module _ {W C V D R : Type 0} (world : WorldOf W C V D R) where
             rw (same, last, take-append_seam rs (given ∷ [])) (of_desk, (earlier, next))
       ]
 
-  pub given_stand : (pass : Pass C R) (call : C) (given : Receipt C R) (pass' : Pass C R) → Stands world pass call given pass'
-      → AllStand world (desk_of pass) (receipts pass) → AllStand world (desk_of pass') (receipts pass')
+  pub given_stand : (pass : Pass C R) (call : C) (given : Receipt C R) (pass' : Pass C R) → IsReceiptOf world pass call given pass'
+      → AreReceiptsOf world (desk_of pass) (receipts pass) → AreReceiptsOf world (desk_of pass') (receipts pass')
   given_stand pass call given pass' is all =
-      subst (λ (d : ℕ). AllStand world d (receipts pass')) (sym is.kept.1)
-      (subst (AllStand world (desk_of pass)) (sym is.kept.2)
+      subst (λ (d : ℕ). AreReceiptsOf world d (receipts pass')) (sym is.kept.1)
+      (subst (AreReceiptsOf world (desk_of pass)) (sym is.kept.2)
       (more_stand (desk_of pass) (receipts pass) given is.history.0 all is.desk is.history.1))

@@ -16,8 +16,8 @@ use Rattle.casa_flight.specs.Listing.{listing, list_of}
 use Rattle.casa_filing.proofs.Entries.{each_found}
 use Rattle.casa_history.specs.declared.entry.Entry.{Entry}
 use Rattle.casa_footprint.specs.Stamps.{state_after}
-use Rattle.casa_view.specs.Standing.{Standing}
-use Rattle.casa_plan.specs.Rooms.{StandsAfter}
+use Rattle.casa_view.specs.BoardState.{BoardState}
+use Rattle.casa_plan.specs.Rooms.{IsBoardAfter}
 use Rattle.casa_engine.specs.Delays.{lists_in}
 
 nth_in : (m : State) (es : List (Text × Measure)) (i : ℕ) (r : Regulation)
@@ -36,7 +36,7 @@ pub nth_listed : (m : State) → AreInOrder m.regs → (i : ℕ) (r : Regulation
 nth_listed m in_order i r found = nth_in m m.regs i r (each_found m.regs in_order) found
 
 -- the list that a board keeps of a regulation has the regulation's number
-pub nth_list : {history : List (Entry Call Reply)} {s : Standing} → StandsAfter history s → (i : ℕ) (r : Regulation)
+pub nth_list : {history : List (Entry Call Reply)} {s : BoardState} → IsBoardAfter history s → (i : ℕ) (r : Regulation)
     → slice_get s.catalogue i ≡ Some r → slice_get (lists_in (state_after history)) i ≡ s.list r.id
 nth_list {history} {s} stands i r found =
     let there : slice_get (catalogue s.state) i ≡ Some r = subst (λ (rs : List Regulation). slice_get rs i ≡ Some r) stands.catalogue_is found in

@@ -7,14 +7,14 @@ use Rattle.casa_commit.specs.declared.world.World.{Ghosts as WorldOf}
 use Rattle.casa_commit.specs.declared.room.Room.{Room}
 use Rattle.casa_commit.specs.Legal.{IsLegal}
 use Rattle.casa_commit.specs.Rooms.{entries_of, next_entry, Accepts}
-use Rattle.casa_engine.specs.Receipts.{Stands}
+use Rattle.casa_engine.specs.Receipts.{IsReceiptOf}
 use Rattle.casa_engine.proofs.Positions.{latest_within}
 
 module _ {W C V D R : Type 0} (world : WorldOf W C V D R) where
   -- the receipt of an accepted call stands
   pub accepted_stands : (room : Room W C V D R world) (pass : Pass C R) (call : C) (change : D) (given : Receipt C R)
       (room' : Room W C V D R world) (pass' : Pass C R) → Accepts room pass call change given room' pass'
-      → Stands world pass call given pass'
+      → IsReceiptOf world pass call given pass'
   accepted_stands room pass call change given room' pass' is =
       let es : List (Entry C R) = entries_of room in
       let entry_is : given.entry ≡ next_entry room (desk_of pass) call = ap (λ (r : Receipt C R). r.entry) is.extended.receipt_is in

@@ -4,7 +4,7 @@ use Rattle.std.proofs.lemmas.List.Sums.{sum_by-cons, sum_by-insert}
 use Rattle.std.proofs.Math.Seq.{take-nil}
 use Rattle.std.specs.List.{All, AllZip, sum_by, slice_get, fold}
 use Rattle.std.specs.Option.{option_map_or}
-use Rattle.casa_flight.specs.Listing.{put_by, in_order}
+use Rattle.casa_flight.specs.Listing.{insert_sorted, sorted_by}
 
 -- a sum over one element more has what f gives of it, if there is one
 pub sum_by_next : {X : Type 0} → (f : X → ℕ) (xs : List X) (n : ℕ)
@@ -38,11 +38,11 @@ sum_by-map {X} f g (x ∷ xs) =
 
 -- to put a list in order leaves its sum
 sum_by-fold : {X : Type 0} → (f : X → ℕ) (precedes : X → X → Bool) (ys xs : List X)
-    → sum_by f (fold (λ (ys : List X) (x : X). put_by precedes x ys) ys xs) ≡ sum_by f ys + sum_by f xs
+    → sum_by f (fold (λ (ys : List X) (x : X). insert_sorted precedes x ys) ys xs) ≡ sum_by f ys + sum_by f xs
 sum_by-fold f precedes ys [] = omega arith
 sum_by-fold f precedes ys (x ∷ xs) =
-    let put : sum_by f (put_by precedes x ys) ≡ sum_by f ys + f x = sum_by-insert f ys _ x in
-    omega (arith, put, sum_by-cons f x xs, sum_by-fold f precedes (put_by precedes x ys) xs)
+    let put : sum_by f (insert_sorted precedes x ys) ≡ sum_by f ys + f x = sum_by-insert f ys _ x in
+    omega (arith, put, sum_by-cons f x xs, sum_by-fold f precedes (insert_sorted precedes x ys) xs)
 
-pub sum_by-in_order : {X : Type 0} → (f : X → ℕ) (precedes : X → X → Bool) (xs : List X) → sum_by f (in_order precedes xs) ≡ sum_by f xs
+pub sum_by-in_order : {X : Type 0} → (f : X → ℕ) (precedes : X → X → Bool) (xs : List X) → sum_by f (sorted_by precedes xs) ≡ sum_by f xs
 sum_by-in_order f precedes xs = sum_by-fold f precedes [] xs ∙ zero-add (sum_by f xs)

@@ -11,7 +11,7 @@ ghost use Rattle.casa_plan.specs.Rooms.{IsSequential};
 ghost use Rattle.casa_engine.specs.Delays.{lists_in};
 ghost use Rattle.casa_engine.specs.Ledgers.{all_parts, IsBlankOf};
 ghost use Rattle.casa_engine.specs.Passes.{pass_of, passes_in, calls_in};
-ghost use Rattle.casa_engine.specs.Receipts.{Stands};
+ghost use Rattle.casa_engine.specs.Receipts.{IsReceiptOf};
 
 use crate::lists::shared_lists;
 use crate::pass::CountedPass;
@@ -19,7 +19,7 @@ use crate::shared::Shareable;
 use casa_commit::{CallFault, CommitFault, DeskFault, Gate, Prepared, Room, World, commit};
 use casa_history::{History, Receipt, Settled, Torn, settle};
 use casa_list::SharedList;
-use casa_view::{Board, Kept};
+use casa_view::{Board, Store};
 use std::alloc::{AllocError, Global};
 use std::sync::ledger::{Blank, Book, Ledger, Share};
 
@@ -94,7 +94,7 @@ impl<W: World, L: Ledger> CountedRoom<W, L> {
         prepared: Prepared<W>,
     ) -> Result<Receipt<W::Call, W::Reply>, (CommitFault, Prepared<W>)>
         requires { W.is_of (view_of prepared) (world_of self.old.room) }
-        ensures stands { IfOk result (λ r. Stands W.World (pass_of desk.old) (call_of prepared) r (pass_of desk.new)) }
+        ensures stands { IfOk result (λ r. IsReceiptOf W.World (pass_of desk.old) (call_of prepared) r (pass_of desk.new)) }
         ensures same_pass { OnErr result (SamePass (pass_of desk.old) (pass_of desk.new)) }
     {
         let CountedRoom {
@@ -116,7 +116,7 @@ impl<W: World, L: Ledger> CountedRoom<W, L> {
         call: &W::Call,
         gate: &G,
     ) -> Result<Receipt<W::Call, W::Reply>, CallFault>
-        ensures stands { IfOk result (λ r. Stands W.World (pass_of desk.old) call.now r (pass_of desk.new)) }
+        ensures stands { IfOk result (λ r. IsReceiptOf W.World (pass_of desk.old) call.now r (pass_of desk.new)) }
         ensures same_pass { OnErr result (SamePass (pass_of desk.old) (pass_of desk.new)) }
     {
         let CountedRoom {
@@ -131,7 +131,7 @@ impl<W: World, L: Ledger> CountedRoom<W, L> {
     }
 }
 
-impl<K: Kept, L: Ledger> CountedRoom<Board<K>, L> {
+impl<K: Store, L: Ledger> CountedRoom<Board<K>, L> {
     /// The lists of all open regulations, shared, as the room's history leads to them, which is one of a single thread.
     /// `AllocError` where there is no memory for that.
     pub(crate) fn lists(&self, alloc: Global) -> Result<Vec<SharedList>, AllocError>

@@ -1,7 +1,7 @@
 ghost use Rattle.std.specs.Prelude.{◌≡◌, IfOk, OnErr};
 ghost use Rattle.casa_commit.specs.Passes.{SamePass};
 ghost use Rattle.casa_engine.specs.Passes.{pass_of};
-ghost use Rattle.casa_engine.specs.Receipts.{Stands};
+ghost use Rattle.casa_engine.specs.Receipts.{IsReceiptOf};
 
 use crate::pass::CountedPass;
 use crate::shared::{Shareable, SharedRoom};
@@ -50,7 +50,7 @@ where
 {
     /// Answers a call and gives its receipt, as `call` of the room does.
     pub fn answer(&mut self, call: &W::Call) -> Result<Receipt<W::Call, W::Reply>, CallFault>
-        ensures stands { IfOk result (λ r. Stands W.World (pass_of self.old.pass) call.now r (pass_of self.new.pass)) }
+        ensures stands { IfOk result (λ r. IsReceiptOf W.World (pass_of self.old.pass) call.now r (pass_of self.new.pass)) }
         ensures same_pass { OnErr result (SamePass (pass_of self.old.pass) (pass_of self.new.pass)) }
     {
         self.room.call(self.rt, &mut self.pass, call)

@@ -12,7 +12,7 @@ ghost use Rattle.casa_engine.specs.Delays.{lists_in, IsAuditOf};
 ghost use Rattle.casa_engine.specs.Equality.{call_equality, reply_equality};
 ghost use Rattle.casa_engine.specs.Ledgers.{IsBlankOf};
 ghost use Rattle.casa_engine.specs.Passes.{pass_of};
-ghost use Rattle.casa_engine.specs.Receipts.{AllStand};
+ghost use Rattle.casa_engine.specs.Receipts.{AreReceiptsOf};
 
 use crate::audit::{Audit, audit_shared};
 use crate::desk::SharedDesk;
@@ -22,7 +22,7 @@ use casa_commit::{CallFault, Gate, World};
 use casa_desk::Desk;
 use casa_flight::{Call, Reply};
 use casa_history::Receipt;
-use casa_view::{Board, Kept};
+use casa_view::{Board, Store};
 use std::alloc::{AllocError, Global};
 use std::sync::Wait;
 use std::sync::ledger::{Blank, Ledger};
@@ -38,7 +38,7 @@ pub type DeskPass<K, L> = CountedPass<Board<K>, L>;
 /// A desk of an engine, which answers by its pass.
 pub type EngineDesk<'a, K, L, G, R> = SharedDesk<'a, Board<K>, L, G, R>;
 
-impl<K: Kept> Shareable for Board<K> {
+impl<K: Store> Shareable for Board<K> {
     ghost one_world = { λ v w. tt };
 
     ghost equal_calls = { call_equality };
@@ -46,7 +46,7 @@ impl<K: Kept> Shareable for Board<K> {
     ghost equal_replies = { reply_equality };
 }
 
-impl<K: Kept, L: Ledger, G: Gate<Board<K>> + Drop> SharedRoom<Board<K>, L, G> {
+impl<K: Store, L: Ledger, G: Gate<Board<K>> + Drop> SharedRoom<Board<K>, L, G> {
     /// The engine with this number over an empty board, whose versions this store keeps; no desk is open. `AllocError` where
     /// there is no memory for it.
     pub fn new(
@@ -79,10 +79,10 @@ impl<K: Kept, L: Ledger, G: Gate<Board<K>> + Drop> SharedRoom<Board<K>, L, G> {
 
 /// A desk of an engine has answered what its pass has receipts of: all of one desk, and each next after those before it
 /// in a legal history. Memory comes from the engine's allocator.
-impl<'a, K: Kept, L: Ledger, G: Gate<Board<K>>, R: Wait> Desk for EngineDesk<'a, K, L, G, R> {
+impl<'a, K: Store, L: Ledger, G: Gate<Board<K>>, R: Wait> Desk for EngineDesk<'a, K, L, G, R> {
     ghost answered = { λ desk. receipts (pass_of desk.pass) };
 
-    ghost lawful = { λ given. ∥ ((desk : ℕ) × AllStand ⟦<Board<K> as World>⟧ desk given) ∥₁ };
+    ghost lawful = { λ given. ∥ ((desk : ℕ) × AreReceiptsOf ⟦<Board<K> as World>⟧ desk given) ∥₁ };
 
     ghost may_be_foreign = { ⊤ };
 

@@ -8,11 +8,11 @@ ghost use Rattle.casa_commit.specs.Legal.{IsLegal};
 ghost use Rattle.casa_plan.specs.Rooms.{IsSequential};
 
 use casa_commit::World;
-use casa_view::{Board, Kept};
+use casa_view::{Board, Store};
 
 /// A history that is legal by an engine's world is one of a single thread: each reply is what the sequential allocator
 /// replies after the entries before it.
-pub fn legal_histories_are_sequential<K: Kept>()
+pub fn legal_histories_are_sequential<K: Store>()
     ensures { (es : List (Entry Call Reply)) →
         IsLegal ⟦<Board<K> as World>⟧.after ⟦<Board<K> as World>⟧.reply ⟦<Board<K> as World>⟧.opening es →
         IsSequential es }

@@ -11,12 +11,12 @@ ghost use Rattle.casa_engine.specs.Delays.{lists_in};
 use casa_commit::Room;
 use casa_list::SharedList;
 use casa_plan::board_of;
-use casa_view::{Board, Kept};
+use casa_view::{Board, Store};
 use std::alloc::{AllocError, Global};
 
 /// The lists of all open regulations, shared and not copied, as the room's history leads to them. `AllocError` where there
 /// is no memory for that.
-pub(crate) fn shared_lists<K: Kept>(
+pub(crate) fn shared_lists<K: Store>(
     alloc: Global,
     room: &Room<Board<K>>,
 ) -> Result<Vec<SharedList>, AllocError>

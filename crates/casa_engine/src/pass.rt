@@ -1,6 +1,6 @@
 ghost use Rattle.std.specs.Prelude.{◌≡◌, length};
 ghost use Rattle.casa_history.specs.Entries.{receipts, desk_of};
-ghost use Rattle.casa_engine.specs.Receipts.{AllStand};
+ghost use Rattle.casa_engine.specs.Receipts.{AreReceiptsOf};
 
 use casa_commit::World;
 use casa_history::{Holds, Pass};
@@ -16,7 +16,7 @@ pub struct CountedPass<W: World, L: Ledger> {
     pub(crate) share: Share<L>,
     ghost part: { share.parts ≡ 1 },
     ghost counted: { share.amount ≡ length (receipts pass) },
-    ghost stand: { ∥ AllStand W.World (desk_of pass) (receipts pass) ∥₁ },
+    ghost stand: { ∥ AreReceiptsOf W.World (desk_of pass) (receipts pass) ∥₁ },
 }
 
 impl<W: World, L: Ledger> Holds<W::Call, W::Reply> for CountedPass<W, L> {

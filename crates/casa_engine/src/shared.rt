@@ -5,7 +5,7 @@ ghost use Rattle.casa_commit.specs.Legal.{IsLegal};
 ghost use Rattle.casa_commit.specs.Passes.{SamePass};
 ghost use Rattle.casa_engine.specs.Ledgers.{IsBlankOf};
 ghost use Rattle.casa_engine.specs.Passes.{pass_of, passes_in, calls_in};
-ghost use Rattle.casa_engine.specs.Receipts.{Stands};
+ghost use Rattle.casa_engine.specs.Receipts.{IsReceiptOf};
 
 use crate::counted::CountedRoom;
 use crate::parts::AllParts;
@@ -111,11 +111,11 @@ where
         desk: &mut CountedPass<W, L>,
         call: &W::Call,
     ) -> Result<Receipt<W::Call, W::Reply>, CallFault>
-        ensures stands { IfOk result (λ r. Stands W.World (pass_of desk.old) call.now r (pass_of desk.new)) }
+        ensures stands { IfOk result (λ r. IsReceiptOf W.World (pass_of desk.old) call.now r (pass_of desk.new)) }
         ensures same_pass { OnErr result (SamePass (pass_of desk.old) (pass_of desk.new)) }
     {
-        for turn in 0..TRIES {
-            match self.attempt(rt, desk, call, turn) {
+        for attempt in 0..TRIES {
+            match self.attempt(rt, desk, call, attempt) {
                 Ok(receipt) => return Ok(receipt),
                 Err(CommitFault::Stale) => {}
                 Err(CommitFault::ForeignPass) => return Err(CallFault::ForeignPass),
@@ -131,9 +131,9 @@ where
         rt: &R,
         desk: &mut CountedPass<W, L>,
         call: &W::Call,
-        turn: u32,
+        attempt: u32,
     ) -> Result<Receipt<W::Call, W::Reply>, CommitFault>
-        ensures stands { IfOk result (λ r. Stands W.World (pass_of desk.old) call.now r (pass_of desk.new)) }
+        ensures stands { IfOk result (λ r. IsReceiptOf W.World (pass_of desk.old) call.now r (pass_of desk.new)) }
         ensures same_pass { OnErr result (SamePass (pass_of desk.old) (pass_of desk.new)) }
     {
         let Ok(copy) = W::copy_call(call) else {
@@ -144,7 +144,7 @@ where
             return Err(CommitFault::NoMemory);
         };
         let number = desk.pass.desk();
-        let Ok(prepared) = prepare(self.alloc, &self.gate, number, turn, view, copy) else {
+        let Ok(prepared) = prepare(self.alloc, &self.gate, number, attempt, view, copy) else {
             return Err(CommitFault::NoMemory);
         };
         // The lock is free again before a stale answer is dropped.
@@ -159,7 +159,7 @@ where
         desk: &mut CountedPass<W, L>,
         call: &W::Call,
     ) -> Result<Receipt<W::Call, W::Reply>, CallFault>
-        ensures stands { IfOk result (λ r. Stands W.World (pass_of desk.old) call.now r (pass_of desk.new)) }
+        ensures stands { IfOk result (λ r. IsReceiptOf W.World (pass_of desk.old) call.now r (pass_of desk.new)) }
         ensures same_pass { OnErr result (SamePass (pass_of desk.old) (pass_of desk.new)) }
     {
         self.held(rt).locked(self.alloc, desk, call, &Direct)

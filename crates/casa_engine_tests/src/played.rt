@@ -10,7 +10,7 @@ use casa_flight::{Call, Reply};
 use casa_history::{History, Holds};
 use casa_plain::Plain;
 use casa_shelf::{Shelf, Shelving};
-use casa_view::{Copies, Item, Kept};
+use casa_view::{Copies, Item, Store};
 use casa_wire::{read_call, reply_line};
 use std::alloc::Global;
 use std::marker::Brand;
@@ -95,7 +95,7 @@ fn make_calls<D: Desk>(
 }
 
 /// Opens desks, and writes why one is refused.
-fn open_desks<'a, K: Kept, L: Ledger, R: Wait + Abort>(
+fn open_desks<'a, K: Store, L: Ledger, R: Wait + Abort>(
     rt: &'a R,
     alloc: Global,
     engine: &'a Engine<K, L, Watched<'a>>,
@@ -119,7 +119,7 @@ fn open_desks<'a, K: Kept, L: Ledger, R: Wait + Abort>(
 /// Opens the desks of a script, and lets them make its calls, each in a thread of its own. The passes that are handed in.
 fn all_calls<
     'a,
-    K: Kept<Version: Send + Sync> + Send,
+    K: Store<Version: Send + Sync> + Send,
     L: Ledger + Send + Sync,
     R: Threads + Wait + Sync + Abort,
 >(
@@ -164,7 +164,7 @@ fn is_sequential(rt: &impl Abort, alloc: Global, history: &History<Call, Reply>)
 
 /// What comes of a script on an engine over this store, with this ledger.
 fn played_over<
-    K: Kept<Version: Send + Sync> + Send,
+    K: Store<Version: Send + Sync> + Send,
     L: Ledger + Send + Sync,
     R: Threads + Wait + Sync + Abort,
 >(rt: &R, alloc: Global, store: K, blank: Blank, script: &Script<'_>) -> Told

@@ -2,21 +2,21 @@
 
 use casa_engine::{Direct, Gate};
 use casa_flight::{Call, Reply};
-use casa_view::{Board, Change, Kept, View};
+use casa_view::{Board, Change, Store, View};
 use std::alloc::{AllocError, Global};
 use std::sync::atomic::{AtomicU64, Ordering};
 use std::thread;
 
 /// What the gate counts, and what two desks tell each other.
 ///
-/// Where they meet, a turn of desk 0's filing is worked out only when desk 1 was answered once more, and desk 1 makes a
-/// call only when such a turn has begun.
+/// Where they meet, an attempt of desk 0's filing is worked out only when desk 1 was answered once more, and desk 1 makes a
+/// call only when such an attempt has begun.
 #[derive(Drop)]
 pub struct Signals {
     meet: bool,
     /// How often the gate was asked.
     asked: AtomicU64,
-    /// How often it was asked in a turn after the first.
+    /// How often it was asked in an attempt after the first.
     again: AtomicU64,
     /// How many turns of desk 0's filing have begun.
     begun: AtomicU64,
@@ -39,7 +39,7 @@ impl Signals {
         }
     }
 
-    /// How often the gate was asked, how often in a turn after the first, and how often a desk waited in vain.
+    /// How often the gate was asked, how often in an attempt after the first, and how often a desk waited in vain.
     pub fn counts(&self) -> (u64, u64, u64) {
         (
             self.asked.load(Ordering::SeqCst),
@@ -80,24 +80,24 @@ pub struct Watched<'a> {
     pub signals: &'a Signals,
 }
 
-impl<K: Kept> Gate<Board<K>> for Watched<'_> {
+impl<K: Store> Gate<Board<K>> for Watched<'_> {
     fn plan(
         &self,
         alloc: Global,
         desk: u32,
-        turn: u32,
+        attempt: u32,
         view: &View<K::Version>,
         call: &Call,
     ) -> Result<(Reply, Change), AllocError> {
         let signals = self.signals;
         signals.asked.fetch_add(1, Ordering::SeqCst);
-        if turn > 0 {
+        if attempt > 0 {
             signals.again.fetch_add(1, Ordering::SeqCst);
         }
         if signals.meet && desk == 0 && matches!(call, Call::File(_)) {
             signals.begun.fetch_add(1, Ordering::SeqCst);
-            signals.wait(&signals.answered, turn as u64);
+            signals.wait(&signals.answered, attempt as u64);
         }
-        Gate::<Board<K>>::plan(&Direct, alloc, desk, turn, view, call)
+        Gate::<Board<K>>::plan(&Direct, alloc, desk, attempt, view, call)
     }
 }

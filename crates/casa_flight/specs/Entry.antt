@@ -66,13 +66,13 @@ governed clock row o =
     record row { governing = Some o.id; issued = if is_due clock row.plan then Some o.cto else None }
 
 -- an ungoverned flight as it stands after it entered: exempt, gone or subject to nothing it stays ungoverned (profile)
-abbrev pub entered : Situation → Text → Row → Row
-entered s key row =
+abbrev pub row_after_entry : Situation → Text → Row → Row
+row_after_entry s key row =
     if is_exempt row || is_gone s.clock row.plan then row
     else (option_map_or (governed s.clock row) (choice s key row.plan) row)
 
 abbrev pub enter : State → Text → Row → State
-enter m key row = with_row m key (entered (situation m) key row)
+enter m key row = with_row m key (row_after_entry (situation m) key row)
 
 abbrev pub reenter : State → Text → Option Row → State
 reenter m key None = m

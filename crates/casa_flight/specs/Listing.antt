@@ -46,22 +46,22 @@ abbrev pub stance_over : Regulation → Row → Option Stance
 stance_over r row = option_map (stance (is_governed_by r.id row) row.issued) (subject row.plan r)
 
 -- the values that f gives of the entries, under their names
-abbrev pub kept : {X Y : Type 0} → (X → Option Y) → List (Text × X) → List (Text × Y)
-kept {X} {Y} f es = filter_map (λ (e : Text × X). option_map (λ (y : Y). (e.0, y)) (f e.1)) es
+abbrev pub filter_map_values : {X Y : Type 0} → (X → Option Y) → List (Text × X) → List (Text × Y)
+filter_map_values {X} {Y} f es = filter_map (λ (e : Text × X). option_map (λ (y : Y). (e.0, y)) (f e.1)) es
 
 abbrev pub listing : List (Text × Row) → Text → Measure → Listing
-listing rows id measure = record { profile = measure.profile; flights = kept (stance_in id measure) rows }
+listing rows id measure = record { profile = measure.profile; flights = filter_map_values (stance_in id measure) rows }
 
 -- the list of an open regulation
 abbrev pub list_of : State → Text → Option Listing
 list_of m id = option_map (listing m.rows id) (measure_of m id)
 
 -- x put before the first element that does not precede it, and so a list in order
-abbrev pub put_by : {X : Type 0} → (X → X → Bool) → X → List X → List X
-put_by precedes x xs = insert xs (unwrap_or (position (λ y. not (precedes y x)) xs) (length xs)) x
+abbrev pub insert_sorted : {X : Type 0} → (X → X → Bool) → X → List X → List X
+insert_sorted precedes x xs = insert xs (unwrap_or (position (λ y. not (precedes y x)) xs) (length xs)) x
 
-abbrev pub in_order : {X : Type 0} → (X → X → Bool) → List X → List X
-in_order precedes xs = fold (λ ys x. put_by precedes x ys) [] xs
+abbrev pub sorted_by : {X : Type 0} → (X → X → Bool) → List X → List X
+sorted_by precedes xs = fold (λ ys x. insert_sorted precedes x ys) [] xs
 
 -- first planned comes first: by time over, and by key among equal times (manual; ties: profile)
 abbrev pub is_before : Comp → Comp → Bool
@@ -74,7 +74,7 @@ competitor key (Forced eto) = None
 
 -- the competitors of a list, in their order: the flights that its regulation governs and that are not issued
 abbrev pub competitors : Listing → List Comp
-competitors l = in_order is_before (filter_map (λ (e : Text × Stance). competitor e.0 e.1) l.flights)
+competitors l = sorted_by is_before (filter_map (λ (e : Text × Stance). competitor e.0 e.1) l.flights)
 
 abbrev pub issued_cto : Stance → Option ℕ
 issued_cto (Competing eto) = None

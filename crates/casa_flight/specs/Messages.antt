@@ -77,8 +77,8 @@ pub record HasSlot (m : State) (key : Text) (ctot : ℕ) (reg : Text) : Type 0 w
 
 -- what a message tells, by the states before and after the call: a slot where there was none, a slot with another take-off
 -- time than before, or that a flight which is still filed has no slot any more (manual)
-abbrev pub Tells : State → State → Message → Type 0
-Tells m n (Sam key ctot reg) = (is_issued (row_of m key) ≡ false) × HasSlot n key ctot reg
-Tells m n (Srm key ctot reg) = (is_issued (row_of m key) ≡ true) × (ctot ≡ ctot_before m key → ⊥) × HasSlot n key ctot reg
-Tells m n (Slc key) =
+abbrev pub TellsChange : State → State → Message → Type 0
+TellsChange m n (Sam key ctot reg) = (is_issued (row_of m key) ≡ false) × HasSlot n key ctot reg
+TellsChange m n (Srm key ctot reg) = (is_issued (row_of m key) ≡ true) × (ctot ≡ ctot_before m key → ⊥) × HasSlot n key ctot reg
+TellsChange m n (Slc key) =
     (is_issued (row_of m key) ≡ true) × (is_some (row_of n key) ≡ true) × (is_issued (row_of n key) ≡ false)

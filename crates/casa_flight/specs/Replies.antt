@@ -30,7 +30,7 @@ use Rattle.casa_filing.specs.Text.{Text}
 use Rattle.casa_filing.specs.FlightPlan.{etot}
 use Rattle.casa_filing.specs.Subject.{regulation}
 use Rattle.casa_flight.specs.State.{row_of, measure_of, is_exempt}
-use Rattle.casa_flight.specs.Listing.{Listing, listing, in_order, cto_as, place_of, delay_of, ctot_of}
+use Rattle.casa_flight.specs.Listing.{Listing, listing, sorted_by, cto_as, place_of, delay_of, ctot_of}
 use Rattle.casa_flight.specs.Steps.{Step, refused, leads, step}
 
 -- a flight as it is answered, with this delay
@@ -81,7 +81,7 @@ abbrev pub is_row_before : ListRow → ListRow → Bool
 is_row_before a b = nat_lt a.cto b.cto || ((a.cto == b.cto) && is_lt (slice_cmp nat_cmp a.key b.key))
 
 abbrev pub list_rows : State → Listing → List ListRow
-list_rows m l = in_order is_row_before (map (λ (e : Text × Stance). row_in m l e.0 e.1) l.flights)
+list_rows m l = sorted_by is_row_before (map (λ (e : Text × Stance). row_in m l e.0 e.1) l.flights)
 
 abbrev pub list_reply : State → Regulation → Listing → ListReply
 list_reply m r l =

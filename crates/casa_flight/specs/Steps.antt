@@ -17,8 +17,8 @@ use Rattle.casa_filing.specs.Text.{Text, put, without}
 use Rattle.casa_filing.specs.FlightPlan.{FlightPlan, etot}
 use Rattle.casa_filing.specs.Subject.{regulation, subject, is_gone}
 use Rattle.casa_flight.specs.State.{row_of, measure_of, with_row, is_exempt, is_governed_by, ungoverned}
-use Rattle.casa_flight.specs.Listing.{Listing, stance_of, eto_as, governing_list, ctot_of, in_order, is_before}
-use Rattle.casa_flight.specs.Entry.{situation, entered, enter, enter_all, issue_due}
+use Rattle.casa_flight.specs.Listing.{Listing, stance_of, eto_as, governing_list, ctot_of, sorted_by, is_before}
+use Rattle.casa_flight.specs.Entry.{situation, row_after_entry, enter, enter_all, issue_due}
 
 -- a call is refused, or it leads to a state
 pub data Step : Type 0 where
@@ -65,7 +65,7 @@ revise_to m key row new = state_if (is_revised m key row new) (with_row m key ne
 -- a revised flight is taken out and enters anew
 abbrev pub revise : State → Text → Option Row → Step
 revise m key None = refused NoFlight
-revise m key (Some row) = leads (revise_to m key row (entered (situation m) key (ungoverned row)))
+revise m key (Some row) = leads (revise_to m key row (row_after_entry (situation m) key (ungoverned row)))
 
 abbrev pub exempt_if : State → Text → Row → Bool → Step
 exempt_if m key row true = refused AlreadyExempt
@@ -78,7 +78,7 @@ exempt m key (Some row) = exempt_if m key row (is_exempt row)
 -- the flights that pass a test and are subject to a regulation, by their time over there and key
 abbrev pub flights_over : (Row → Bool) → Regulation → List (Text × Row) → List Comp
 flights_over test r rows =
-    in_order is_before (filter_map (λ (e : Text × Row).
+    sorted_by is_before (filter_map (λ (e : Text × Row).
     if test e.1 then option_map (λ (eto : ℕ). record { eto = eto; key = e.0 }) (subject e.1.plan r) else None) rows)
 
 -- whether an ungoverned flight may compete
@@ -97,20 +97,20 @@ open_regulation m id measure (Some old) full = refused DuplicateRegulation
 open_regulation m id measure None true = refused TooManyRegulations
 open_regulation m id measure None false = leads (take_in m id measure)
 
-abbrev pub freed : Bool → Row → Row
-freed true row = ungoverned row
-freed false row = row
+abbrev pub ungoverned_if : Bool → Row → Row
+ungoverned_if true row = ungoverned row
+ungoverned_if false row = row
 
 -- the state without a regulation, and the flights that it governed free
-abbrev pub closed : State → Text → State
-closed m id =
-    record m { regs = without m.regs id; rows = map (λ (e : Text × Row). (e.0, freed (is_governed_by id e.1) e.1)) m.rows }
+abbrev pub state_without_regulation : State → Text → State
+state_without_regulation m id =
+    record m { regs = without m.regs id; rows = map (λ (e : Text × Row). (e.0, ungoverned_if (is_governed_by id e.1) e.1)) m.rows }
 
 -- a closed regulation frees all its flights, and then they enter
 abbrev pub close_regulation : State → Text → Option Measure → Step
 close_regulation m id None = refused NoRegulation
 close_regulation m id (Some measure) =
-    leads (enter_all (closed m id) (flights_over (is_governed_by id) (regulation id measure) m.rows))
+    leads (enter_all (state_without_regulation m id) (flights_over (is_governed_by id) (regulation id measure) m.rows))
 
 -- whether a profile starts as another does and does not end before it
 abbrev pub keeps_span : List Period → List Period → Bool
@@ -149,8 +149,8 @@ list m None = refused NoRegulation
 list m (Some measure) = leads m
 
 -- an issued flight with another time
-abbrev pub reissued : Row → ℕ → Row
-reissued row time = record row { issued = Some time }
+abbrev pub with_issued_time : Row → ℕ → Row
+with_issued_time row time = record row { issued = Some time }
 
 -- two issued flights that exchange their times: each flight's key and row, and the time at which it was issued
 pub record Exchange : Type 0 where
@@ -177,13 +177,13 @@ abbrev pub are_too_early : ℕ → Option Listing → Option Listing → Exchang
 are_too_early clock l k x = is_too_early clock l x.key x.row x.time || is_too_early clock k x.other x.mate x.cto
 
 -- each of them is issued at the other's time
-abbrev pub exchanged : State → Exchange → State
-exchanged m x = with_row (with_row m x.key (reissued x.row x.time)) x.other (reissued x.mate x.cto)
+abbrev pub with_exchange : State → Exchange → State
+with_exchange m x = with_row (with_row m x.key (with_issued_time x.row x.time)) x.other (with_issued_time x.mate x.cto)
 
 abbrev pub swap_if : State → Exchange → Bool → Bool → Step
 swap_if m x false early = refused OtherRegulation
 swap_if m x true true = refused TooEarly
-swap_if m x true false = leads (exchanged m x)
+swap_if m x true false = leads (with_exchange m x)
 
 -- whether the regulation that governs a flight governs the other one too
 abbrev pub is_shared : Row → Row → Bool

@@ -16,8 +16,8 @@ mod state;
 
 pub use call::{Call, Refusal};
 pub use casa_filing::{
-    Crossing, Key, Loc, MAX_REGULATIONS, Measure, Name, OfFlight, OfLocation, OfRegulation, Plan, PlanFault,
-    RegId, Regulation, SharedSlice, Sts,
+    Crossing, Key, Loc, MAX_REGULATIONS, Measure, Name, OfFlight, OfLocation, OfRegulation, Plan,
+    PlanFault, RegId, Regulation, SharedSlice, Sts,
 };
 pub use comp::{Assigned, Comp};
 pub use equality::{call_equality, reply_equality, row_equality};

@@ -4,8 +4,8 @@ ghost use Rattle.std.specs.Prelude.{◌≡◌, ◌≤◌, ◌-◌};
 ghost use Rattle.casa_time.specs.Moment.{last_moment};
 ghost use Rattle.casa_flight.specs.Entry.{governed, more_penalising, most_penalising};
 
-use casa_filing::RegId;
 use crate::row::Row;
+use casa_filing::RegId;
 use casa_time::Moment;
 use std::marker::Model;
 

@@ -3,8 +3,8 @@ ghost use Rattle.casa_time.specs.Moment.{last_moment};
 ghost use Rattle.casa_flight.specs.Replies.{flight_with, message_of, slot_number};
 
 use crate::call::Refusal;
-use casa_filing::{Key, Loc, RegId, SharedSlice};
 use crate::row::Row;
+use casa_filing::{Key, Loc, RegId, SharedSlice};
 use casa_grid::Place;
 use casa_time::Moment;
 use std::alloc::AllocError;

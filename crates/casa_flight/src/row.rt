@@ -7,8 +7,8 @@ ghost use Rattle.casa_flight.specs.Steps.{may_compete, new_row};
 ghost use Rattle.casa_flight.specs.Replies.{is_issued, kind_of};
 
 use crate::comp::Comp;
-use casa_filing::{Key, Measure, Plan, RegId, Regulation};
 use crate::reply::Kind;
+use casa_filing::{Key, Measure, Plan, RegId, Regulation};
 use casa_time::Moment;
 use std::alloc::AllocError;
 

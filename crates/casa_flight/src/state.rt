@@ -1,5 +1,5 @@
-use casa_filing::{Key, Measure, RegId};
 use crate::row::Row;
+use casa_filing::{Key, Measure, RegId};
 use casa_time::Moment;
 use std::collections::LinkedList;
 

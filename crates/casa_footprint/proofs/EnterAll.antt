@@ -9,7 +9,7 @@ use Rattle.casa_filing.specs.Text.{Text, same_text}
 use Rattle.casa_filing.specs.FlightPlan.{FlightPlan}
 use Rattle.casa_flight.specs.State.{row_of, with_row, ungoverned}
 use Rattle.casa_flight.specs.Listing.{list_of}
-use Rattle.casa_flight.specs.Entry.{situation, entered, enter_all, reenter}
+use Rattle.casa_flight.specs.Entry.{situation, row_after_entry, enter_all, reenter}
 use Rattle.casa_flight.specs.Good.{AreInOrder}
 use Rattle.casa_filing.proofs.Entries.{all-each, at-put_same, sorted-put, named}
 use Rattle.casa_footprint.specs.Footprint.{is_subject, is_list_of}
@@ -22,7 +22,7 @@ IsOrdered s = AreInOrder s.rows × AreInOrder s.regs
 
 ordered-reenter : (s : State) (key : Text) (w : Option Row) → IsOrdered s → IsOrdered (reenter s key w)
 ordered-reenter s key None o = o
-ordered-reenter s key (Some row) o = (sorted-put key (entered (situation s) key (ungoverned row)) s.rows o.0, o.1)
+ordered-reenter s key (Some row) o = (sorted-put key (row_after_entry (situation s) key (ungoverned row)) s.rows o.0, o.1)
 
 -- a flight that enters keeps its plan, and so its lists
 not_list-reenter : (s : State) (key other id : Text) (w : Option Row) → row_of s key ≡ w → IsOrdered s → is_list_of s other id ≡ false → is_list_of (reenter s key w) other id ≡ false
@@ -30,7 +30,7 @@ not_list-reenter s key other id None e o h = h
 not_list-reenter s key other id (Some row) e o h = by (same_text key other) refl
   where
     new : Row
-    new = entered (situation s) key (ungoverned row)
+    new = row_after_entry (situation s) key (ungoverned row)
 
     by : (b : Bool) → same_text key other ≡ b → is_list_of (with_row s key new) other id ≡ false
     by true n =
@@ -45,7 +45,7 @@ list-reenter : (s : State) (key id : Text) (w : Option Row) → row_of s key ≡
 list-reenter s key id None e o h = refl
 list-reenter s key id (Some row) e o h =
     let own = entered_own s key (ungoverned row) o.1 refl in
-    other_list s key (entered (situation s) key (ungoverned row)) id o.0 h (ap (λ (p : FlightPlan). is_subject s p id) own.1 ∙ sym (list_of_own s key row id e) ∙ h)
+    other_list s key (row_after_entry (situation s) key (ungoverned row)) id o.0 h (ap (λ (p : FlightPlan). is_subject s p id) own.1 ∙ sym (list_of_own s key row id e) ∙ h)
 
 -- a list stays to which none of the flights is subject
 pub list-enter_all : (s : State) (id : Text) (cs : List Comp) → IsOrdered s → AllByRecursion (λ (c : Comp). is_list_of s c.key id ≡ false) cs → list_of (enter_all s cs) id ≡ list_of s id

@@ -8,7 +8,7 @@ use Rattle.casa_filing.specs.Text.{Text}
 use Rattle.casa_filing.specs.FlightPlan.{FlightPlan}
 use Rattle.casa_filing.specs.Subject.{regulation, subject, is_gone}
 use Rattle.casa_flight.specs.State.{measure_of, is_exempt}
-use Rattle.casa_flight.specs.Entry.{Offer, situation, choice, governed, entered}
+use Rattle.casa_flight.specs.Entry.{Offer, situation, choice, governed, row_after_entry}
 use Rattle.casa_flight.specs.Good.{AreInOrder}
 use Rattle.casa_laws.proofs.Choice.{IsOfferOf, choice-offer}
 use Rattle.casa_footprint.specs.Footprint.{is_subject}
@@ -32,7 +32,7 @@ chosen_own m key row sorted free (Some o) h =
     let of : IsOfferOf m.regs row.plan o = choice-offer m key row.plan o sorted h in
     (subject_at m row.plan o.id of.measure of.is_open ∙ ap is_some of.is_subject, refl)
 
-pub entered_own : (m : State) (key : Text) (row : Row) → AreInOrder m.regs → row.governing ≡ None → IsEntered m row (entered (situation m) key row)
+pub entered_own : (m : State) (key : Text) (row : Row) → AreInOrder m.regs → row.governing ≡ None → IsEntered m row (row_after_entry (situation m) key row)
 entered_own m key row sorted free =
     let o : Option Offer = choice (situation m) key row.plan in
     elim (is_exempt row || is_gone m.clock row.plan) as (λ b. IsEntered m row (cond b row (option_map_or (governed m.clock row) o row))) [

@@ -8,7 +8,7 @@ use Rattle.casa_flight.specs.declared.state.State.{State}
 use Rattle.casa_filing.specs.Text.{Text}
 use Rattle.casa_filing.specs.FlightPlan.{FlightPlan}
 use Rattle.casa_flight.specs.State.{row_of, ungoverned}
-use Rattle.casa_flight.specs.Entry.{situation, entered}
+use Rattle.casa_flight.specs.Entry.{situation, row_after_entry}
 use Rattle.casa_flight.specs.Steps.{new_row, file, amend, after}
 use Rattle.casa_flight.specs.Good.{IsGood}
 use Rattle.casa_footprint.specs.Items.{ItemName, the_clock, the_catalogue, a_row, a_list, row_or_none, list_or_none, contents, AgreeOn}
@@ -31,10 +31,10 @@ file_stays m plan good (Some row) e late i h = refl
 file_stays m plan good None e true i h = refl
 file_stays m plan good None e false the_clock h = refl
 file_stays m plan good None e false the_catalogue h = refl
-file_stays m plan good None e false (a_row other) h = ap row_or_none (other_row m plan.key (entered (situation m) plan.key (new_row plan)) other h)
+file_stays m plan good None e false (a_row other) h = ap row_or_none (other_row m plan.key (row_after_entry (situation m) plan.key (new_row plan)) other h)
 file_stays m plan good None e false (a_list id) h =
     let own = entered_own m plan.key (new_row plan) good.regs_in_order refl in
-    ap list_or_none (other_list m plan.key (entered (situation m) plan.key (new_row plan)) id good.rows_in_order
+    ap list_or_none (other_list m plan.key (row_after_entry (situation m) plan.key (new_row plan)) id good.rows_in_order
     (ap (λ (w : Option Row). option_map_or (λ (r : Row). is_subject m r.plan id) w false) e)
     (subst (λ (p : FlightPlan). is_subject m p id ≡ false) (sym own.1) h))
 
@@ -63,11 +63,11 @@ amend_stays m plan good None late i h = refl
 amend_stays m plan good (Some row) true i h = refl
 amend_stays m plan good (Some row) false the_clock h = refl
 amend_stays m plan good (Some row) false the_catalogue h = refl
-amend_stays m plan good (Some row) false (a_row other) h = ap row_or_none (other_row m plan.key (entered (situation m) plan.key (amended plan row)) other h)
+amend_stays m plan good (Some row) false (a_row other) h = ap row_or_none (other_row m plan.key (row_after_entry (situation m) plan.key (amended plan row)) other h)
 amend_stays m plan good (Some row) false (a_list id) h =
     let own = entered_own m plan.key (amended plan row) good.regs_in_order refl in
     let both = or_parts (is_list_of m plan.key id) (is_subject m plan id) h in
-    ap list_or_none (other_list m plan.key (entered (situation m) plan.key (amended plan row)) id good.rows_in_order both.0 (subst (λ (p : FlightPlan). is_subject m p id ≡ false) (sym own.1) both.1))
+    ap list_or_none (other_list m plan.key (row_after_entry (situation m) plan.key (amended plan row)) id good.rows_in_order both.0 (subst (λ (p : FlightPlan). is_subject m p id ≡ false) (sym own.1) both.1))
 
 pub amend_spares : (plan : FlightPlan) → Spares (Amend plan)
 amend_spares plan m good i h = amend_stays m plan good (row_of m plan.key) (nat_lt plan.eobt m.clock) i h

@@ -16,9 +16,9 @@ use Rattle.casa_filing.specs.Text.{Text, same_text, put}
 use Rattle.casa_filing.specs.FlightPlan.{FlightPlan}
 use Rattle.casa_filing.specs.Subject.{regulation, subject, is_gone}
 use Rattle.casa_flight.specs.State.{row_of, measure_of, is_exempt, is_governed_by, ungoverned}
-use Rattle.casa_flight.specs.Listing.{listing, list_of, stance, stance_in, kept}
+use Rattle.casa_flight.specs.Listing.{listing, list_of, stance, stance_in, filter_map_values}
 use Rattle.casa_flight.specs.Entry.{enter_all}
-use Rattle.casa_flight.specs.Steps.{most_regulations, flights_over, may_compete, take_in, open_regulation, freed, closed, close_regulation, after}
+use Rattle.casa_flight.specs.Steps.{most_regulations, flights_over, may_compete, take_in, open_regulation, ungoverned_if, state_without_regulation, close_regulation, after}
 use Rattle.casa_flight.specs.Good.{IsGood, IsGoodRow, IsFree, IsGoverned}
 use Rattle.casa_filing.proofs.Entries.{text_cmp, all_at, all-each, all-both, each_found, at-map, at-put_other, at-without_other, keys-map, sorted-put, sorted-remove, apart}
 use Rattle.casa_laws.proofs.EnterAll.{row-enter_all, clock-enter_all, all-flights_over, others}
@@ -82,7 +82,7 @@ none_from_any p [] h = tt
 none_from_any p (x ∷ xs) h = let both = or_parts (p x) (list_any p xs) h in (both.0, none_from_any p xs both.1)
 
 -- a flight that is not subject to a regulation stays out of its list, freed or not
-freed_stance : (other : Text) (measure : Measure) (row : Row) (b : Bool) → (b && is_some (subject row.plan (regulation other measure))) ≡ false → stance_in other measure (freed b row) ≡ stance_in other measure row
+freed_stance : (other : Text) (measure : Measure) (row : Row) (b : Bool) → (b && is_some (subject row.plan (regulation other measure))) ≡ false → stance_in other measure (ungoverned_if b row) ≡ stance_in other measure row
 freed_stance other measure row false h = refl
 freed_stance other measure row true h = by (subject row.plan (regulation other measure)) h
   where
@@ -91,57 +91,57 @@ freed_stance other measure row true h = by (subject row.plan (regulation other m
     by (Some eto) h = cc
 
 freed_flights : (id other : Text) (measure : Measure) (es : List (Text × Row)) → AllByRecursion (λ (e : Text × Row). (is_governed_by id e.1 && is_some (subject e.1.plan (regulation other measure))) ≡ false) es
-    → kept (stance_in other measure) (map (λ (e : Text × Row). (e.0, freed (is_governed_by id e.1) e.1)) es) ≡ kept (stance_in other measure) es
+    → filter_map_values (stance_in other measure) (map (λ (e : Text × Row). (e.0, ungoverned_if (is_governed_by id e.1) e.1)) es) ≡ filter_map_values (stance_in other measure) es
 freed_flights id other measure [] h = refl
 freed_flights id other measure (e ∷ es) h = λ i. cons_option (option_map (λ (y : Stance). (e.0, y)) (freed_stance other measure e.1 (is_governed_by id e.1) h.0 i)) (freed_flights id other measure es h.1 i)
 
 pub close_spares : (id : Text) → Spares (CloseReg id)
 close_spares id m good i h = by (measure_of m id) i h
   where
-    ordered : IsOrdered (closed m id)
-    ordered = (subst (IsStrictlySortedBy text_cmp) (sym (keys-map (λ (e : Text × Row). freed (is_governed_by id e.1) e.1) m.rows)) good.rows_in_order, sorted-remove (is_at (text_cmp id)) m.regs good.regs_in_order)
+    ordered : IsOrdered (state_without_regulation m id)
+    ordered = (subst (IsStrictlySortedBy text_cmp) (sym (keys-map (λ (e : Text × Row). ungoverned_if (is_governed_by id e.1) e.1) m.rows)) good.rows_in_order, sorted-remove (is_at (text_cmp id)) m.regs good.regs_in_order)
 
     found : AllByRecursion (λ (e : Text × Row). row_of m e.0 ≡ Some e.1) m.rows
     found = each_found m.rows good.rows_in_order
 
-    measures : (other : Text) → same_text id other ≡ false → measure_of (closed m id) other ≡ measure_of m other
+    measures : (other : Text) → same_text id other ≡ false → measure_of (state_without_regulation m id) other ≡ measure_of m other
     measures other n = at-without_other other id m.regs (apart id other n)
 
-    row-closed : (key : Text) → row_of (closed m id) key ≡ option_map (λ (row : Row). freed (is_governed_by id row) row) (row_of m key)
-    row-closed key = at-map (λ _ row. freed (is_governed_by id row) row) key m.rows
+    row-closed : (key : Text) → row_of (state_without_regulation m id) key ≡ option_map (λ (row : Row). ungoverned_if (is_governed_by id row) row) (row_of m key)
+    row-closed key = at-map (λ _ row. ungoverned_if (is_governed_by id row) row) key m.rows
 
-    row : (r : Regulation) (key : Text) → governs m id key ≡ false → row_of (enter_all (closed m id) (flights_over (is_governed_by id) r m.rows)) key ≡ row_of m key
+    row : (r : Regulation) (key : Text) → governs m id key ≡ false → row_of (enter_all (state_without_regulation m id) (flights_over (is_governed_by id) r m.rows)) key ≡ row_of m key
     row r key n =
-        row-enter_all (closed m id) key (flights_over (is_governed_by id) r m.rows)
+        row-enter_all (state_without_regulation m id) key (flights_over (is_governed_by id) r m.rows)
         (all-flights_over (λ k. same_text k key ≡ false) (is_governed_by id) r m.rows
         (all-each (λ (e : Text × Row). is_governed_by id e.1 ≡ true → same_text e.0 key ≡ false) (λ (e : Text × Row). is_governed_by id e.1 ≡ true → is_some (subject e.1.plan r) ≡ true → same_text e.0 key ≡ false)
         (λ e f a b. f a) m.rows (others m key (is_governed_by id) good n)))
         ∙ row-closed key ∙ same (row_of m key) n
       where
-        same : (w : Option Row) → option_map_or (is_governed_by id) w false ≡ false → option_map (λ (row : Row). freed (is_governed_by id row) row) w ≡ w
+        same : (w : Option Row) → option_map_or (is_governed_by id) w false ≡ false → option_map (λ (row : Row). ungoverned_if (is_governed_by id row) row) w ≡ w
         same None n = refl
-        same (Some row) n = ap (λ b. Some (freed b row)) n
+        same (Some row) n = ap (λ b. Some (ungoverned_if b row)) n
 
     list : (r : Regulation) (other : Text) → same_text id other ≡ false → list_any (λ (e : Text × Row). is_governed_by id e.1 && is_subject m e.1.plan other) m.rows ≡ false
-        → list_of (enter_all (closed m id) (flights_over (is_governed_by id) r m.rows)) other ≡ list_of m other
+        → list_of (enter_all (state_without_regulation m id) (flights_over (is_governed_by id) r m.rows)) other ≡ list_of m other
     list r other n a =
-        list-enter_all (closed m id) other (flights_over (is_governed_by id) r m.rows) ordered
-        (all-flights_over (λ k. is_list_of (closed m id) k other ≡ false) (is_governed_by id) r m.rows
-        (all-each (λ (e : Text × Row). (row_of m e.0 ≡ Some e.1) × ((is_governed_by id e.1 && is_subject m e.1.plan other) ≡ false)) (λ (e : Text × Row). is_governed_by id e.1 ≡ true → is_some (subject e.1.plan r) ≡ true → is_list_of (closed m id) e.0 other ≡ false)
+        list-enter_all (state_without_regulation m id) other (flights_over (is_governed_by id) r m.rows) ordered
+        (all-flights_over (λ k. is_list_of (state_without_regulation m id) k other ≡ false) (is_governed_by id) r m.rows
+        (all-each (λ (e : Text × Row). (row_of m e.0 ≡ Some e.1) × ((is_governed_by id e.1 && is_subject m e.1.plan other) ≡ false)) (λ (e : Text × Row). is_governed_by id e.1 ≡ true → is_some (subject e.1.plan r) ≡ true → is_list_of (state_without_regulation m id) e.0 other ≡ false)
         (λ e f b s. out e f.0 (sym (ap (λ t. t && is_subject m e.1.plan other) b) ∙ f.1))
         m.rows (all-both (λ (e : Text × Row). row_of m e.0 ≡ Some e.1) (λ (e : Text × Row). (is_governed_by id e.1 && is_subject m e.1.plan other) ≡ false) m.rows found none)))
-        ∙ ap (option_map (listing (closed m id).rows other)) (measures other n) ∙ flights (measure_of m other) refl
+        ∙ ap (option_map (listing (state_without_regulation m id).rows other)) (measures other n) ∙ flights (measure_of m other) refl
       where
         none : AllByRecursion (λ (e : Text × Row). (is_governed_by id e.1 && is_subject m e.1.plan other) ≡ false) m.rows
         none = none_from_any (λ (e : Text × Row). is_governed_by id e.1 && is_subject m e.1.plan other) m.rows a
 
-        out : (e : Text × Row) → row_of m e.0 ≡ Some e.1 → is_subject m e.1.plan other ≡ false → is_list_of (closed m id) e.0 other ≡ false
+        out : (e : Text × Row) → row_of m e.0 ≡ Some e.1 → is_subject m e.1.plan other ≡ false → is_list_of (state_without_regulation m id) e.0 other ≡ false
         out e f s =
-            ap (λ (w : Option Row). option_map_or (λ (row : Row). is_subject (closed m id) row.plan other) w false) (row-closed e.0 ∙ ap (option_map (λ (row : Row). freed (is_governed_by id row) row)) f)
-            ∙ ap (λ (p : FlightPlan). is_subject (closed m id) p other) (freed_plan (is_governed_by id e.1) e.1)
+            ap (λ (w : Option Row). option_map_or (λ (row : Row). is_subject (state_without_regulation m id) row.plan other) w false) (row-closed e.0 ∙ ap (option_map (λ (row : Row). ungoverned_if (is_governed_by id row) row)) f)
+            ∙ ap (λ (p : FlightPlan). is_subject (state_without_regulation m id) p other) (freed_plan (is_governed_by id e.1) e.1)
             ∙ ap (λ (w : Option Measure). option_map_or (λ (y : Measure). is_some (subject e.1.plan (regulation other y))) w false) (measures other n) ∙ s
 
-        flights : (w : Option Measure) → measure_of m other ≡ w → option_map (listing (closed m id).rows other) w ≡ option_map (listing m.rows other) w
+        flights : (w : Option Measure) → measure_of m other ≡ w → option_map (listing (state_without_regulation m id).rows other) w ≡ option_map (listing m.rows other) w
         flights None e = refl
         flights (Some measure) e =
             let each : AllByRecursion (λ (e : Text × Row). (is_governed_by id e.1 && is_some (subject e.1.plan (regulation other measure))) ≡ false) m.rows =
@@ -151,7 +151,7 @@ close_spares id m good i h = by (measure_of m id) i h
 
     by : (w : Option Measure) (i : ItemName) → (is_accepted (close_regulation m id w) && would_write m (CloseReg id) i) ≡ false → contents (after m (close_regulation m id w)) i ≡ contents m i
     by None i h = refl
-    by (Some measure) the_clock h = ap moment (clock-enter_all (closed m id) (flights_over (is_governed_by id) (regulation id measure) m.rows))
+    by (Some measure) the_clock h = ap moment (clock-enter_all (state_without_regulation m id) (flights_over (is_governed_by id) (regulation id measure) m.rows))
     by (Some measure) the_catalogue h = cc
     by (Some measure) (a_row key) h = ap row_or_none (row (regulation id measure) key h)
     by (Some measure) (a_list other) h =

@@ -15,7 +15,7 @@ use Rattle.casa_flight.specs.declared.state.State.{State}
 use Rattle.casa_filing.specs.Text.{Text, same_text, at_name, put}
 use Rattle.casa_filing.specs.Subject.{regulation, subject}
 use Rattle.casa_flight.specs.State.{measure_of, catalogue, is_governed_by}
-use Rattle.casa_flight.specs.Listing.{Listing, listing, list_of, stance, kept}
+use Rattle.casa_flight.specs.Listing.{Listing, listing, list_of, stance, filter_map_values}
 use Rattle.casa_flight.specs.Steps.{keeps_span, ends_later, extends, rates, rates_if, after}
 use Rattle.casa_flight.specs.Replies.{messages}
 use Rattle.casa_flight.specs.Good.{AreInOrder, IsGood}
@@ -71,7 +71,7 @@ pub list_rated : (m : State) (id : Text) (measure : Measure) (profile : List Per
     → list_of (rated m id measure profile) id ≡ Some (record (listing m.rows id measure) { profile = profile })
 list_rated m id measure profile k h =
     ap (option_map (listing m.rows id)) (at-put_same id (record measure { profile = profile }) m.regs)
-    ∙ ap (λ (r : Regulation). let l : Listing = record { profile = profile; flights = kept (λ (row : Row). option_map (stance (is_governed_by id row) row.issued) (subject row.plan r)) m.rows } in Some l) (regulation_rated id measure profile k h)
+    ∙ ap (λ (r : Regulation). let l : Listing = record { profile = profile; flights = filter_map_values (λ (row : Row). option_map (stance (is_governed_by id row) row.issued) (subject row.plan r)) m.rows } in Some l) (regulation_rated id measure profile k h)
 
 -- whether the end is later is decided by the catalogue
 extends_by : (profile : List Period) (id : Text) (w : Option Measure) → option_map_or (λ (r : Regulation). nat_lt r.end (end_of profile)) (option_map (regulation id) w) false ≡ option_map_or (λ (y : Measure). ends_later profile y.profile) w false

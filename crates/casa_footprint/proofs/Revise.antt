@@ -7,7 +7,7 @@ use Rattle.casa_flight.specs.declared.state.State.{State}
 use Rattle.casa_filing.specs.Text.{Text, same_text}
 use Rattle.casa_filing.specs.FlightPlan.{FlightPlan}
 use Rattle.casa_flight.specs.State.{row_of, with_row, ungoverned}
-use Rattle.casa_flight.specs.Entry.{situation, entered}
+use Rattle.casa_flight.specs.Entry.{situation, row_after_entry}
 use Rattle.casa_flight.specs.Steps.{is_revised, state_if, revise, after}
 use Rattle.casa_flight.specs.Good.{IsGood}
 use Rattle.casa_footprint.specs.Items.{ItemName, the_clock, the_catalogue, a_row, a_list, row_or_none, list_or_none, contents, AgreeOn}
@@ -20,7 +20,7 @@ use Rattle.casa_footprint.proofs.Forms.{DecidesReads, Spares}
 
 -- the flight as it would stand
 abbrev revised : State → Text → Row → Row
-revised m key row = entered (situation m) key (ungoverned row)
+revised m key row = row_after_entry (situation m) key (ungoverned row)
 
 -- the state after, if the new slot holds or not
 abbrev revised_if : Bool → State → Text → Row → State

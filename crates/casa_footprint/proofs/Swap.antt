@@ -6,7 +6,7 @@ use Rattle.casa_flight.specs.declared.call.Call.TheVariants.{Swap}
 use Rattle.casa_flight.specs.declared.row.Row.{Row}
 use Rattle.casa_filing.specs.Text.{Text, same_text}
 use Rattle.casa_flight.specs.State.{row_of, with_row, is_governed_by}
-use Rattle.casa_flight.specs.Steps.{Step, leads, reissued, Exchange, exchanged, after}
+use Rattle.casa_flight.specs.Steps.{Step, leads, with_issued_time, Exchange, with_exchange, after}
 use Rattle.casa_laws.proofs.Swap.{CanExchange, swap_cases, other_list}
 use Rattle.casa_footprint.specs.Items.{ItemName, the_clock, the_catalogue, a_row, a_list, row_or_none, list_or_none, contents}
 use Rattle.casa_footprint.specs.Footprint.{governs, would_write, is_accepted}
@@ -32,14 +32,14 @@ swap_spares key other m good =
     P : Step → Type 0
     P s = (i : ItemName) → (is_accepted s && would_write m (Swap key other) i) ≡ false → contents (after m s) i ≡ contents m i
 
-    accepted : (x : Exchange) → x.key ≡ key → x.other ≡ other → CanExchange m x → P (leads (exchanged m x))
+    accepted : (x : Exchange) → x.key ≡ key → x.other ≡ other → CanExchange m x → P (leads (with_exchange m x))
     accepted x k o can the_clock h = refl
     accepted x k o can the_catalogue h = refl
     accepted x k o can (a_row q) h =
         let parts = or_parts (same_text key q) (same_text other q) h in
         ap row_or_none
-        (other_row (with_row m x.key (reissued x.row x.time)) x.other (reissued x.mate x.cto) q (ap (λ t. same_text t q) o ∙ parts.1)
-        ∙ other_row m x.key (reissued x.row x.time) q (ap (λ t. same_text t q) k ∙ parts.0))
+        (other_row (with_row m x.key (with_issued_time x.row x.time)) x.other (with_issued_time x.mate x.cto) q (ap (λ t. same_text t q) o ∙ parts.1)
+        ∙ other_row m x.key (with_issued_time x.row x.time) q (ap (λ t. same_text t q) k ∙ parts.0))
     accepted x k o can (a_list id) h =
         ap list_or_none (other_list m x id good can
         (sym (ap (λ (w : Option Row). option_map_or (is_governed_by id) w false) can.here) ∙ ap (governs m id) k ∙ h))

@@ -13,7 +13,7 @@ use Rattle.casa_flight.specs.declared.state.State.{State}
 use Rattle.casa_filing.specs.Text.{Text}
 use Rattle.casa_filing.specs.Subject.{regulation, subject}
 use Rattle.casa_flight.specs.State.{row_of, measure_of, is_governed_by}
-use Rattle.casa_flight.specs.Listing.{listing, stance, stance_in, kept}
+use Rattle.casa_flight.specs.Listing.{listing, stance, stance_in, filter_map_values}
 use Rattle.casa_flight.specs.Entry.{is_to_issue, issue_if, issue_due}
 use Rattle.casa_flight.specs.Steps.{tick, after}
 use Rattle.casa_filing.proofs.Entries.{at-map}
@@ -50,7 +50,7 @@ stance_stays m id measure key row true h =
     ∙ sym (ap (λ g. option_map (stance g row.issued) (subject row.plan (regulation id measure))) h)
 
 flights_stay : (m : State) (at : ℕ) (id : Text) (measure : Measure) (es : List (Text × Row)) → list_any (λ (e : Text × Row). is_to_issue at e.1 && is_governed_by id e.1) es ≡ false
-    → kept (stance_in id measure) (map (λ (e : Text × Row). (e.0, issue_if (is_to_issue at e.1) m e.0 e.1)) es) ≡ kept (stance_in id measure) es
+    → filter_map_values (stance_in id measure) (map (λ (e : Text × Row). (e.0, issue_if (is_to_issue at e.1) m e.0 e.1)) es) ≡ filter_map_values (stance_in id measure) es
 flights_stay m at id measure [] h = refl
 flights_stay m at id measure (e ∷ es) h =
     let both = or_parts (is_to_issue at e.1 && is_governed_by id e.1) (list_any (λ (e : Text × Row). is_to_issue at e.1 && is_governed_by id e.1) es) h in

@@ -16,7 +16,7 @@ use Rattle.casa_filing.specs.FlightPlan.{FlightPlan}
 use Rattle.casa_filing.specs.Subject.{regulation, subject}
 use Rattle.casa_flight.specs.State.{row_of, measure_of, is_governed_by, ungoverned}
 use Rattle.casa_flight.specs.Listing.{Listing, list_of}
-use Rattle.casa_flight.specs.Entry.{situation, entered, is_to_issue}
+use Rattle.casa_flight.specs.Entry.{situation, row_after_entry, is_to_issue}
 use Rattle.casa_flight.specs.Steps.{Step, refused, leads, is_revised, may_compete, extends, step}
 use Rattle.casa_footprint.specs.Items.{ItemName, the_clock, the_catalogue, a_row, a_list}
 
@@ -101,7 +101,7 @@ reads m (Swap key other) (a_list id) = governs m id key || governs m id other
 -- whether Revise gives the flight what it would get: always before it is issued, then only if the new slot holds
 abbrev pub holds : State → Text → Bool
 holds m key =
-    option_map_or (λ (row : Row). is_revised m key row (entered (situation m) key (ungoverned row))) (row_of m key) false
+    option_map_or (λ (row : Row). is_revised m key row (row_after_entry (situation m) key (ungoverned row))) (row_of m key) false
 
 -- whether a flight enters as this regulation opens or gets a later end
 abbrev pub enters : State → Regulation → Row → Bool

@@ -10,15 +10,15 @@ use Rattle.casa_commit.specs.Legal.{replay}
 use Rattle.casa_footprint.specs.Items.{ItemName, the_clock, the_catalogue, a_row, a_list}
 use Rattle.casa_footprint.specs.Footprint.{writes}
 
--- the state after a history: its replay from the empty state, where no call looks at the number of its entry
+-- the state after a history: its replay from the empty state, where no call looks at the position of its entry
 abbrev pub state_after : List (Entry Call Reply) → State
-state_after history = replay (λ n m call. next m call) empty history
+state_after history = replay (λ position m call. next m call) empty history
 
--- the number of the last of these entries that wrote the item, where so many entries came before and `last` was the number
--- of the last of those
+-- the position of the last of these entries that wrote the item, where so many entries came before and `last` was the
+-- position of the last of those
 abbrev pub last_write : State → ℕ → ℕ → ItemName → List (Entry Call Reply) → ℕ
-last_write m count last i [] = last
-last_write m count last i (e ∷ es) = last_write (next m e.call) (count + 1) (if writes m e.call i then count + 1 else last) i es
+last_write m before last i [] = last
+last_write m before last i (e ∷ es) = last_write (next m e.call) (before + 1) (if writes m e.call i then before + 1 else last) i es
 
 -- whether the item is the row of a flight that is not there
 abbrev pub is_absent_row : State → ItemName → Bool
@@ -27,7 +27,7 @@ is_absent_row m the_catalogue = false
 is_absent_row m (a_row key) = not (is_some (row_of m key))
 is_absent_row m (a_list id) = false
 
--- the stamp of an item after a history: the number, from 1, of the last entry that wrote it, 0 if none did, and 0 for an
+-- the stamp of an item after a history: the position, from 1, of the last entry that wrote it, 0 if none did, and 0 for an
 -- absent row
 abbrev pub stamp : List (Entry Call Reply) → ItemName → ℕ
 stamp history i = if is_absent_row (state_after history) i then 0 else last_write empty 0 0 i history

@@ -38,10 +38,10 @@ entry_at position es = if position == 0 then None else slice_get es (position - 
 abbrev pub receipt : {C R : Type 0} → ℕ → Entry C R → Receipt C R
 receipt position e = record { position = position; entry = e }
 
--- the receipts of entries of which the first stands at position n
+-- the receipts of entries of which the first stands at this position
 abbrev pub receipts_from : {C R : Type 0} → ℕ → List (Entry C R) → List (Receipt C R)
-receipts_from n [] = []
-receipts_from n (e ∷ es) = receipt n e ∷ receipts_from (n + 1) es
+receipts_from position [] = []
+receipts_from position (e ∷ es) = receipt position e ∷ receipts_from (position + 1) es
 
 -- whether a receipt is a desk's
 abbrev pub is_of_desk : {C R : Type 0} → ℕ → Receipt C R → Bool

@@ -15,7 +15,7 @@ use Rattle.casa_flight.specs.declared.row.Stance.{Stance}
 use Rattle.casa_flight.specs.declared.state.State.{State}
 use Rattle.casa_filing.specs.Text.{Text, at_name, same_text}
 use Rattle.casa_flight.specs.Good.{AreInOrder, IsFree, IsGood, IsGoodRow, IsGoverned}
-use Rattle.casa_flight.specs.Listing.{Listing, delay_in, delay_of, kept, list_of, listing, stance, stance_in}
+use Rattle.casa_flight.specs.Listing.{Listing, delay_in, delay_of, filter_map_values, list_of, listing, stance, stance_in}
 use Rattle.casa_flight.specs.Replies.{kind_of}
 use Rattle.casa_filing.specs.Subject.{regulation, subject}
 use Rattle.casa_flight.specs.State.{is_governed_by}
@@ -33,14 +33,14 @@ added m key e row = option_map_or (added_as (delay_in (listing m.rows e.0 e.1) k
 
 -- the delays of a list, flight by flight
 by_flights : (f : Text → ℕ) (g : Row → Option Stance) (rows : List (Text × Row))
-    → sum_by (λ (e : Text × Stance). f e.0) (filter (λ (e : Text × Stance). governs (kind_of e.1)) (kept g rows))
+    → sum_by (λ (e : Text × Stance). f e.0) (filter (λ (e : Text × Stance). governs (kind_of e.1)) (filter_map_values g rows))
     ≡ sum_by (λ (r : Text × Row). option_map_or (added_as (f r.0)) (g r.1) 0) rows
 by_flights f g [] = refl
 by_flights f g (r ∷ rows) =
     let told : Text × Stance → ℕ = λ e. f e.0 in
     let is_governed : Text × Stance → Bool = λ e. governs (kind_of e.1) in
     let adds : Text × Row → ℕ = λ r. option_map_or (added_as (f r.0)) (g r.1) 0 in
-    let rest : List (Text × Stance) = kept g rows in
+    let rest : List (Text × Stance) = filter_map_values g rows in
     let later = by_flights f g rows in
     elim (g r.1) as (λ (o : Option Stance). g r.1 ≡ o
     → sum_by told (filter is_governed (cons_option (option_map (λ (s : Stance). (r.0, s)) o) rest)) ≡ sum_by adds (r ∷ rows)) [

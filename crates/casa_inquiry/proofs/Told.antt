@@ -12,7 +12,7 @@ use Rattle.casa_flight.specs.declared.row.Stance.TheVariants.{Competing, Issued,
 use Rattle.casa_flight.specs.declared.state.State.{State}
 use Rattle.casa_filing.specs.Text.{Text}
 use Rattle.casa_flight.specs.Good.{AreInOrder}
-use Rattle.casa_flight.specs.Listing.{Listing, cto_as, delay_in, eto_as, in_order, listing, put_by, stance_in, stance_of}
+use Rattle.casa_flight.specs.Listing.{Listing, cto_as, delay_in, eto_as, sorted_by, listing, insert_sorted, stance_in, stance_of}
 use Rattle.casa_flight.specs.Replies.{is_row_before, kind_of, list_reply, list_rows, row_in}
 use Rattle.casa_filing.specs.Subject.{regulation}
 use Rattle.casa_filing.proofs.Entries.{each_found}
@@ -36,13 +36,13 @@ sum_by-filter {X} f test (x ∷ xs) =
 
 -- to put a list in order leaves its sum
 sum_by-fold : {X : Type 0} (f : X → ℕ) (precedes : X → X → Bool) (ys xs : List X)
-    → sum_by f (fold (λ (ys : List X) (x : X). put_by precedes x ys) ys xs) ≡ sum_by f ys + sum_by f xs
+    → sum_by f (fold (λ (ys : List X) (x : X). insert_sorted precedes x ys) ys xs) ≡ sum_by f ys + sum_by f xs
 sum_by-fold f precedes ys [] = omega arith
 sum_by-fold f precedes ys (x ∷ xs) =
-    let put : sum_by f (put_by precedes x ys) ≡ sum_by f ys + f x = sum_by-insert f ys _ x in
-    omega (arith, put, sum_by-cons f x xs, sum_by-fold f precedes (put_by precedes x ys) xs)
+    let put : sum_by f (insert_sorted precedes x ys) ≡ sum_by f ys + f x = sum_by-insert f ys _ x in
+    omega (arith, put, sum_by-cons f x xs, sum_by-fold f precedes (insert_sorted precedes x ys) xs)
 
-sum_by-in_order : {X : Type 0} (f : X → ℕ) (precedes : X → X → Bool) (xs : List X) → sum_by f (in_order precedes xs) ≡ sum_by f xs
+sum_by-in_order : {X : Type 0} (f : X → ℕ) (precedes : X → X → Bool) (xs : List X) → sum_by f (sorted_by precedes xs) ≡ sum_by f xs
 sum_by-in_order f precedes xs = sum_by-fold f precedes [] xs ∙ zero-add (sum_by f xs)
 
 -- the delays of some flights of a list, as rows and as the flights have them
@@ -78,11 +78,11 @@ shown_delays m l ((key, Forced eto) ∷ es) h = shown_delays m l es h.1
 
 -- so the delays that a list tells are those of the flights that its regulation governs
 pub list_delays : (m : State) (l : Listing) → AreInOrder l.flights → sum_by delay (filter is_governed (list_rows m l)) ≡ delays_in l
-list_delays m l in_order =
+list_delays m l sorted_by =
     let rows : List ListRow = map (λ (e : Text × Stance). row_in m l e.0 e.1) l.flights in
     let or_none : ListRow → ℕ = λ row. cond (is_governed row) (delay row) 0 in
     sum_by-filter delay is_governed (list_rows m l) ∙ sum_by-in_order or_none is_row_before rows ∙ sym (sum_by-filter delay is_governed rows)
-    ∙ shown_delays m l l.flights (each_found l.flights in_order)
+    ∙ shown_delays m l l.flights (each_found l.flights sorted_by)
 
 -- and those that all lists tell are those of the flights of each
 pub told_delays : (m : State) → AreInOrder m.rows → total_delay (lists_told m) ≡ sum_by delays_in (map (λ (e : Text × Measure). listing m.rows e.0 e.1) m.regs)

@@ -64,9 +64,9 @@ impl Load {
         let count = step_count(profile, secs);
         let mut steps = Vec::with_capacity(alloc, count + 1)?;
         'steps: for k in 0..count {
-            steps.push(counted(&begins, rows, span_at(profile, secs, k)))?;
+            steps.push(count_step(&begins, rows, span_at(profile, secs, k)))?;
         }
-        steps.push(counted(&begins, rows, span_after(profile)))?;
+        steps.push(count_step(&begins, rows, span_after(profile)))?;
         Ok(Load {
             steps,
             flights: rows.len(),
@@ -142,7 +142,7 @@ fn moment(secs: usize) -> Moment
 }
 
 /// The step at some time.
-fn counted(begins: &[Moment], rows: &[ListRow], span: Span) -> Step
+fn count_step(begins: &[Moment], rows: &[ListRow], span: Span) -> Step
     ensures { result ≡ step begins.now rows.now span }
 {
     Step {

@@ -16,11 +16,11 @@ use Rattle.casa_filing.specs.Text.{Text, same_text, at_name, put, without}
 use Rattle.casa_filing.specs.FlightPlan.{FlightPlan}
 use Rattle.casa_filing.specs.Subject.{subject, is_there, covered}
 use Rattle.casa_flight.specs.Good.{AreInOrder}
-use Rattle.casa_flight.specs.Listing.{kept}
+use Rattle.casa_flight.specs.Listing.{filter_map_values}
 use Rattle.casa_laws.proofs.Kept.{at-kept, sorted-kept}
 use Rattle.casa_filing.proofs.Entries.{text_cmp, same_name, named, at-put, at-without_other, each_found}
 use Rattle.casa_filing.proofs.Entries.{filter_map-map}
-use Rattle.casa_item.specs.Gathered.{noted, is_named, HasGathered, HasNoted}
+use Rattle.casa_item.specs.Gathered.{put_if_some, is_named, HasGathered, HasNoted}
 use Rattle.casa_footprint.specs.Finding.{crossed}
 use Rattle.casa_footprint.specs.Finding.{by_id}
 use Rattle.casa_item.specs.Crossed.{AreListed, HasPlaces, IsCatalogue, is_over, at_place, along, place_with}
@@ -61,7 +61,7 @@ AreOpen all rs = AllByRecursion (λ (r : Regulation). at_name (by_id all) r.id �
 -- the regulations of these to which a plan is subject, noted one by one
 abbrev pub noted_each : FlightPlan → List (Text × ℕ) → List Regulation → List (Text × ℕ)
 noted_each plan found [] = found
-noted_each plan found (r ∷ rs) = noted_each plan (noted found r.id (subject plan r)) rs
+noted_each plan found (r ∷ rs) = noted_each plan (put_if_some found r.id (subject plan r)) rs
 
 pub crossed-append : (plan : FlightPlan) (rs cs : List Regulation)
     → crossed plan (rs ++ cs) ≡ crossed plan rs ++ crossed plan cs
@@ -72,7 +72,7 @@ pub each_noted : (plan : FlightPlan) (rs : List Regulation) (before : List (Text
     → HasNoted (crossed plan rs) before (noted_each plan before rs)
 each_noted plan [] before = none_noted before
 each_noted plan (r ∷ rs) before =
-    let one = noted before r.id (subject plan r) in
+    let one = put_if_some before r.id (subject plan r) in
     subst (λ (es : List (Text × ℕ)). HasNoted es before (noted_each plan one rs))
     (sym (crossed-append plan (r ∷ []) rs))
     (noted_both (crossed plan (r ∷ [])) (crossed plan rs) before one (noted_each plan one rs)
@@ -211,7 +211,7 @@ none_left_out plan rs place has q t None found h = cc
 none_left_out plan rs place has q t (Some r) found h = subject_named q r rs place has found plan.via t h
 
 -- what a plan crosses, as kept entries of the regulations by their identifiers
-pub crossed_kept : (plan : FlightPlan) (rs : List Regulation) → kept (subject plan) (by_id rs) ≡ crossed plan rs
+pub crossed_kept : (plan : FlightPlan) (rs : List Regulation) → filter_map_values (subject plan) (by_id rs) ≡ crossed plan rs
 crossed_kept plan rs =
     filter_map-map (λ (e : Text × Regulation). option_map (λ (y : ℕ). (e.0, y)) (subject plan e.1))
     (λ (r : Regulation). (r.id, r)) rs

@@ -7,18 +7,18 @@ use Rattle.std.specs.List.Sorted.{IsStrictlySortedBy}
 use Rattle.std.proofs.lemmas.List.Folds.{list_any-append}
 use Rattle.casa_filing.specs.Text.{Text, at_name}
 use Rattle.casa_flight.specs.Good.{AreInOrder}
-use Rattle.casa_flight.specs.Listing.{kept}
+use Rattle.casa_flight.specs.Listing.{filter_map_values}
 use Rattle.casa_filing.proofs.Entries.{text_cmp, same_name, at-put, sorted-put}
 use Rattle.casa_laws.proofs.Kept.{at-kept, same_entries, sorted-kept}
-use Rattle.casa_item.specs.Gathered.{noted, is_named, HasGathered}
+use Rattle.casa_item.specs.Gathered.{put_if_some, is_named, HasGathered}
 
 -- what f gives of the values under these names, noted one by one
 abbrev pub gathered : {X Y : Type 0} → (X → Option Y) → List (Text × X) → List (Text × Y) → List Text → List (Text × Y)
 gathered f es found [] = found
-gathered f es found (k ∷ ks) = gathered f es (noted found k (option_and_then f (at_name es k))) ks
+gathered f es found (k ∷ ks) = gathered f es (put_if_some found k (option_and_then f (at_name es k))) ks
 
 pub at-noted : {Y : Type 0} (found : List (Text × Y)) (k : Text) (o : Option Y) (q : Text)
-    → at_name (noted found k o) q ≡ option_or (if is_eq (text_cmp q k) then o else None) (at_name found q)
+    → at_name (put_if_some found k o) q ≡ option_or (if is_eq (text_cmp q k) then o else None) (at_name found q)
 at-noted {Y} found k None q = by (is_eq (text_cmp q k))
   where
     by : (b : Bool) → at_name found q ≡ option_or (if b then None else None) (at_name found q)
@@ -45,7 +45,7 @@ at-gathered : {X Y : Type 0} (f : X → Option Y) (es : List (Text × X)) (q : T
     ≡ option_or (if is_named ks q then option_and_then f (at_name es q) else None) (at_name found q)
 at-gathered f es q [] found = refl
 at-gathered {X} {Y} f es q (k ∷ ks) found =
-    at-gathered f es q ks (noted found k (option_and_then f (at_name es k)))
+    at-gathered f es q ks (put_if_some found k (option_and_then f (at_name es k)))
     ∙ ap (option_or (if is_named ks q then given else None))
     (at-noted found k (option_and_then f (at_name es k)) q ∙ same (is_eq (text_cmp q k)) refl)
     ∙ twice (is_named ks q) (is_eq (text_cmp q k)) given (at_name found q)
@@ -61,7 +61,7 @@ at-gathered {X} {Y} f es q (k ∷ ks) found =
     same false t = refl
 
 pub sorted-noted : {Y : Type 0} (found : List (Text × Y)) (k : Text) (o : Option Y) → AreInOrder found
-    → AreInOrder (noted found k o)
+    → AreInOrder (put_if_some found k o)
 sorted-noted found k None h = h
 sorted-noted found k (Some y) h = sorted-put k y found h
 
@@ -69,7 +69,7 @@ sorted-gathered : {X Y : Type 0} (f : X → Option Y) (es : List (Text × X)) (k
     → AreInOrder found → AreInOrder (gathered f es found ks)
 sorted-gathered f es [] found h = h
 sorted-gathered f es (k ∷ ks) found h =
-    sorted-gathered f es ks (noted found k (option_and_then f (at_name es k)))
+    sorted-gathered f es ks (put_if_some found k (option_and_then f (at_name es k)))
     (sorted-noted found k (option_and_then f (at_name es k)) h)
 
 -- what is noted one by one is gathered
@@ -116,9 +116,9 @@ all_or_none (Some y) true h = refl
 all_or_none {Y} (Some y) false h = let no : false ≡ true = h y refl in cc
 
 pub gathered_is : {X Y : Type 0} (f : X → Option Y) (es : List (Text × X)) (ks : List Text) (now : List (Text × Y))
-    → AreInOrder es → AreFound f es ks → HasGathered f es ks [] now → now ≡ kept f es
+    → AreInOrder es → AreFound f es ks → HasGathered f es ks [] now → now ≡ filter_map_values f es
 unfolding IsStrictlySortedBy
 gathered_is {X} {Y} f es ks now sorted found has =
-    same_entries now (kept f es) (has.in_order tt) (sorted-kept f es sorted)
+    same_entries now (filter_map_values f es) (has.in_order tt) (sorted-kept f es sorted)
     (λ q. has.found q ∙ all_or_none (option_and_then f (at_name es q)) (is_named ks q) (found q)
     ∙ sym (at-kept f q es sorted))

@@ -7,7 +7,7 @@ use Rattle.std.specs.List.{cons_option}
 use Rattle.std.proofs.lemmas.List.{reverse-append}
 use Rattle.casa_filing.specs.Text.{Text, at_name}
 use Rattle.casa_filing.proofs.Entries.{text_cmp}
-use Rattle.casa_item.specs.Gathered.{noted, HasNoted}
+use Rattle.casa_item.specs.Gathered.{put_if_some, HasNoted}
 use Rattle.casa_item.proofs.Gathered.{at-noted, sorted-noted}
 
 -- a look-up finds in the first entries, or else in the others
@@ -35,7 +35,7 @@ pub none_noted : {Y : Type 0} (now : List (Text × Y)) → HasNoted [] now now
 none_noted now = record { in_order = λ h. h; found = λ q. refl }
 
 pub one_noted : {Y : Type 0} (before : List (Text × Y)) (k : Text) (w : Option Y)
-    → HasNoted (cons_option (option_map (λ (y : Y). (k, y)) w) []) before (noted before k w)
+    → HasNoted (cons_option (option_map (λ (y : Y). (k, y)) w) []) before (put_if_some before k w)
 one_noted before k None = none_noted before
 one_noted before k (Some y) = record {
   in_order = sorted-noted before k (Some y);

@@ -14,5 +14,5 @@ is_same_copy a b = a.0 == b.0 && item.eq a.1 b.1
 pub same_copy : (m : ℕ × Item) → is_same_copy m m ≡ true
 same_copy m = both_true (eq-eqb m.0 m.0 refl) (item_laws.refl m.1)
 
-pub same_copy_number : (a b : ℕ × Item) → is_same_copy a b ≡ true → a.0 ≡ b.0
-same_copy_number a b h = eqb-true a.0 b.0 (and_parts _ _ h).0
+pub same_copy_stamp : (a b : ℕ × Item) → is_same_copy a b ≡ true → a.0 ≡ b.0
+same_copy_stamp a b h = eqb-true a.0 b.0 (and_parts _ _ h).0

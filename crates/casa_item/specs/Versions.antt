@@ -6,7 +6,7 @@ use Rattle.casa_filing.specs.declared.regulation.Measure.{Measure}
 use Rattle.casa_flight.specs.declared.row.Row.{Row}
 use Rattle.casa_flight.specs.declared.state.State.{State}
 use Rattle.casa_filing.specs.Text.{Text, at_name}
-use Rattle.casa_flight.specs.Listing.{Listing, kept}
+use Rattle.casa_flight.specs.Listing.{Listing, filter_map_values}
 use Rattle.casa_flight.specs.Good.{AreInOrder}
 use Rattle.casa_footprint.specs.Items.{ItemName, the_clock, the_catalogue, a_row, a_list, Content, moment, regulations}
 use Rattle.casa_footprint.specs.Items.{row_or_none, list_or_none}
@@ -87,7 +87,7 @@ measures all lists =
 
 -- the stamp of an item, by its version
 abbrev pub stamp_at : {V : Type 0} → (V → ℕ) → Versions V → ItemName → ℕ
-stamp_at number vs i = option_map_or number (version_at vs i) 0
+stamp_at stamp_of vs i = option_map_or stamp_of (version_at vs i) 0
 
 module _ {V : Type 0} (item_of : V → Item) where
   -- what an item contains, by its version
@@ -102,5 +102,5 @@ module _ {V : Type 0} (item_of : V → Item) where
   shown_state vs = record {
     clock = moment_of (item_of vs.clock);
     regs = measures (regulations_of (item_of vs.catalogue)) (list_at vs);
-    rows = kept (λ (v : V). row_of (item_of v)) vs.rows;
+    rows = filter_map_values (λ (v : V). row_of (item_of v)) vs.rows;
   }

@@ -3,7 +3,7 @@
 ghost use Rattle.std.specs.Prelude.{◌≡◌, ◌++◌, ◌∷◌, [], IfOk, OnOk};
 ghost use Rattle.std.specs.Option.{option_copied, option_map_or};
 ghost use Rattle.casa_filing.specs.Text.{Text, at_name, put, without};
-ghost use Rattle.casa_item.specs.Gathered.{noted, HasNoted};
+ghost use Rattle.casa_item.specs.Gathered.{put_if_some, HasNoted};
 ghost use Rattle.casa_footprint.specs.Finding.{crossed};
 ghost use Rattle.casa_footprint.specs.Finding.{by_id};
 ghost use Rattle.casa_item.specs.Crossed.{before, after, others, AreListed, HasPlaces};
@@ -284,7 +284,7 @@ fn note_each(
 
 /// Notes an entry, if there is one.
 fn note(found: &mut Crossings, id: RegId, time: Option<Moment>) -> Result<(), AllocError>
-    ensures { OnOk result (found.new ≡ noted found.old id time) }
+    ensures { OnOk result (found.new ≡ put_if_some found.old id time) }
 {
     if let Some(time) = time {
         found.put(id, time)?;

@@ -1,14 +1,14 @@
 ghost use Rattle.std.specs.Prelude.{◌≡◌, IfOk};
 
 use crate::item::{Item, same_item};
-use crate::version::{Kept, Version};
+use crate::version::{Store, Version};
 use std::alloc::AllocError;
 use std::marker::Model;
 use std::sync::Arc;
 
 /// A version in memory: its stamp with the item, which copies of the version share.
 pub struct Copied {
-    number: usize,
+    stamp: usize,
     item: Arc<Item>,
 }
 
@@ -19,21 +19,21 @@ impl Model for Copied {
 
     ghost Value = { ℕ × Item };
 
-    ghost view = { λ c. (c.number, arc_value c.item) };
+    ghost view = { λ c. (c.stamp, arc_value c.item) };
 }
 
 impl Drop for Copied {
     fn drop(self) {
-        let Copied { number: _, item: _ } = self;
+        let Copied { stamp: _, item: _ } = self;
     }
 }
 
 impl Version for Copied {
-    ghost use Rattle.casa_item.specs.Copies.{is_same_copy, same_copy, same_copy_number};
+    ghost use Rattle.casa_item.specs.Copies.{is_same_copy, same_copy, same_copy_stamp};
 
     ghost item_of = { λ c. c.1 };
 
-    ghost number = { λ c. c.0 };
+    ghost stamp_of = { λ c. c.0 };
 
     ghost is_same = { is_same_copy };
 
@@ -42,19 +42,19 @@ impl Version for Copied {
     }
 
     fn same(&self, other: &Copied) -> bool {
-        self.number == other.number && same_item(&self.item, &other.item)
+        self.stamp == other.stamp && same_item(&self.item, &other.item)
     }
 
     fn try_clone(&self) -> Result<Copied, AllocError> {
         Ok(Copied {
-            number: self.number,
+            stamp: self.stamp,
             item: Arc::try_clone(&self.item)?,
         })
     }
 
     ghost same_itself = { same_copy };
 
-    ghost same_number = { same_copy_number };
+    ghost same_stamp = { same_copy_stamp };
 }
 
 /// The store that keeps each version in memory, as long as anyone has it.
@@ -68,10 +68,13 @@ impl Copies {
     }
 }
 
-impl Kept for Copies {
+impl Store for Copies {
     type Version = Copied;
 
-    fn put(&mut self, number: usize, item: Arc<Item>) -> Result<Copied, AllocError> {
-        Ok(Copied { number, item })
+    fn put(&mut self, position: usize, item: Arc<Item>) -> Result<Copied, AllocError> {
+        Ok(Copied {
+            stamp: position,
+            item,
+        })
     }
 }

@@ -9,4 +9,4 @@ mod version;
 pub use catalogue::{Catalogue, Crossings};
 pub use copies::{Copied, Copies};
 pub use item::{Item, row_in};
-pub use version::{Kept, Version};
+pub use version::{Store, Version};

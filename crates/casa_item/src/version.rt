@@ -11,8 +11,8 @@ pub trait Version: Drop {
     /// The item as it stands in this version.
     ghost item_of: { Self → Item };
 
-    /// The stamp: the number of the entry that wrote the version, 0 for what the empty board has.
-    ghost number: { Self → ℕ };
+    /// The stamp: the position of the entry that wrote the version, 0 for what the empty board has.
+    ghost stamp_of: { Self → ℕ };
 
     /// The versions are equal.
     ghost is_same: { Self → Self → Bool };
@@ -34,16 +34,16 @@ pub trait Version: Drop {
     ghost same_itself: { (v : Self) → is_same v v ≡ true };
 
     /// Equal versions have the same stamp.
-    ghost same_number: { (v w : Self) → is_same v w ≡ true → number v ≡ number w };
+    ghost same_stamp: { (v w : Self) → is_same v w ≡ true → stamp_of v ≡ stamp_of w };
 }
 
 /// A store that keeps versions of items.
-pub trait Kept: Drop {
+pub trait Store: Drop {
     type Version: Version;
 
-    /// Keeps an item as the entry with this number writes it, and gives the version. `AllocError` where there is no
+    /// Keeps an item as the entry at this position writes it, and gives the version. `AllocError` where there is no
     /// memory for it.
-    fn put(&mut self, number: usize, item: Arc<Item>) -> Result<Self::Version, AllocError>
+    fn put(&mut self, position: usize, item: Arc<Item>) -> Result<Self::Version, AllocError>
         ensures item { IfOk result (λ version. Self.Version.item_of version ≡ arc_value item) }
-        ensures number { IfOk result (λ version. Self.Version.number version ≡ number) };
+        ensures number { IfOk result (λ version. Self.Version.stamp_of version ≡ position) };
 }

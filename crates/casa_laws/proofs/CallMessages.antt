@@ -19,11 +19,11 @@ use Rattle.casa_filing.specs.FlightPlan.{FlightPlan}
 use Rattle.casa_filing.specs.Subject.{regulation, subject, is_due, is_gone}
 use Rattle.casa_flight.specs.State.{row_of, with_row, is_exempt, ungoverned}
 use Rattle.casa_flight.specs.Listing.{ctot_of}
-use Rattle.casa_flight.specs.Entry.{Offer, situation, choice, entered}
+use Rattle.casa_flight.specs.Entry.{Offer, situation, choice, row_after_entry}
 use Rattle.casa_flight.specs.Steps.{Step, refused, leads, new_row, file, amend, cancel, is_revised, state_if, revise, exempt, exempt_if, show, list, step, after, next}
 use Rattle.casa_flight.specs.Replies.{messages, is_issued, ctot_before, reply, reply_of}
 use Rattle.casa_flight.specs.Good.{AreInOrder, IsOutside, IsGood, IsGoverned}
-use Rattle.casa_flight.specs.Messages.{messages_in, flight_of, CanCome, Tells}
+use Rattle.casa_flight.specs.Messages.{messages_in, flight_of, CanCome, TellsChange}
 use Rattle.casa_filing.proofs.Entries.{text_cmp, same_name, all_at, at-without_other}
 use Rattle.casa_laws.proofs.Kept.{at-without_same}
 use Rattle.casa_laws.proofs.Choice.{choice-offer, choice-none}
@@ -32,16 +32,16 @@ use Rattle.casa_laws.proofs.ChangeMessages.{message_cases, message_tells, each_m
 use Rattle.casa_laws.proofs.EnterAll.{IsIssuedNow, issued_now, issues}
 
 -- what holds of the messages of a call, whatever the call
-nothing_tells : (m : State) (x : Message) → Tells m m x → ⊥
+nothing_tells : (m : State) (x : Message) → TellsChange m m x → ⊥
 nothing_tells m (Sam key ctot reg) t = both_ways (is_issued (row_of m key)) t.0 (ap is_issued t.1.is_filed ∙ t.1.issued)
 nothing_tells m (Srm key ctot reg) t = t.1 (sym (ap (λ (w : Option Row). option_map_or (ctot_of m key) w 0) t.2.is_filed ∙ t.2.leaves))
 nothing_tells m (Slc key) t = both_ways (is_issued (row_of m key)) t.2 t.0
 
-step_tells : (m : State) (call : Call) (s : Step) → AreInOrder (after m s).rows → All (Tells m (after m s)) (messages_in (reply_of m call s))
-step_tells m call (refused r) sorted = All-nil (Tells m m)
-step_tells m call (leads n) sorted = each_message (Tells m n) m n sorted (λ key row x. message_tells m n key row x)
+step_tells : (m : State) (call : Call) (s : Step) → AreInOrder (after m s).rows → All (TellsChange m (after m s)) (messages_in (reply_of m call s))
+step_tells m call (refused r) sorted = All-nil (TellsChange m m)
+step_tells m call (leads n) sorted = each_message (TellsChange m n) m n sorted (λ key row x. message_tells m n key row x)
 
-step_comes : (m : State) (call : Call) (s : Step) (x : Message) → Tells m (after m s) x → Contains (messages_in (reply_of m call s)) x
+step_comes : (m : State) (call : Call) (s : Step) (x : Message) → TellsChange m (after m s) x → Contains (messages_in (reply_of m call s)) x
 step_comes m call (refused r) x t = absurd (nothing_tells m x t)
 step_comes m call (leads n) x t = tells_comes m n x t
 
@@ -50,10 +50,10 @@ unfolding IsStrictlySortedBy
 step_sorted m call (refused r) sorted = tt
 step_sorted m call (leads n) sorted = messages_sorted m n sorted
 
-pub call_tells : (m : State) (call : Call) → IsGood m → All (Tells m (next m call)) (messages_in (reply m call))
+pub call_tells : (m : State) (call : Call) → IsGood m → All (TellsChange m (next m call)) (messages_in (reply m call))
 call_tells m call good = step_tells m call (step m call) (next-good m call good).rows_in_order
 
-pub call_comes : (m : State) (call : Call) (x : Message) → IsGood m → Tells m (next m call) x → Contains (messages_in (reply m call)) x
+pub call_comes : (m : State) (call : Call) (x : Message) → IsGood m → TellsChange m (next m call) x → Contains (messages_in (reply m call)) x
 call_comes m call x good t = step_comes m call (step m call) x t
 
 pub call_sorted : (m : State) (call : Call) → IsGood m → IsStrictlySortedBy text_cmp (map flight_of (messages_in (reply m call)))
@@ -86,7 +86,7 @@ pub file_comes : (m : State) (plan : FlightPlan) (o : Option Row) (late : Bool) 
 file_comes m plan (Some row) late good found = All-nil (CanCome m (File plan))
 file_comes m plan None true good found = All-nil (CanCome m (File plan))
 file_comes m plan None false good found =
-    one_message (CanCome m (File plan)) m plan.key (entered (situation m) plan.key (new_row plan)) good
+    one_message (CanCome m (File plan)) m plan.key (row_after_entry (situation m) plan.key (new_row plan)) good
     (λ _ _ _ _. refl)
     (λ _ _ was _ _. both_ways _ (not_issued_there m plan.key found) was)
     (λ was _. both_ways _ (not_issued_there m plan.key found) was)
@@ -95,7 +95,7 @@ pub amend_comes : (m : State) (plan : FlightPlan) (o : Option Row) (late : Bool)
 amend_comes m plan None late good = All-nil (CanCome m (Amend plan))
 amend_comes m plan (Some row) true good = All-nil (CanCome m (Amend plan))
 amend_comes m plan (Some row) false good =
-    one_message (CanCome m (Amend plan)) m plan.key (entered (situation m) plan.key (record (ungoverned row) { plan = plan })) good
+    one_message (CanCome m (Amend plan)) m plan.key (row_after_entry (situation m) plan.key (record (ungoverned row) { plan = plan })) good
     (λ _ _ _ _. refl) (λ _ _ _ _ _. refl) (λ _ _. refl)
 
 -- what is left after a flight was removed was there before
@@ -143,7 +143,7 @@ pub was_due : (clock : ℕ) (regs : List (Text × Measure)) (row : Row) (id : Te
 was_due clock regs row id g h = sym (issued_if_due clock regs row id g) ∙ h
 
 -- a flight that waits for its slot still waits when it enters anew
-still_waits : (m : State) (key : Text) (row : Row) → IsGood m → row_of m key ≡ Some row → is_some row.issued ≡ false → is_some (entered (situation m) key (ungoverned row)).issued ≡ true → ⊥
+still_waits : (m : State) (key : Text) (row : Row) → IsGood m → row_of m key ≡ Some row → is_some row.issued ≡ false → is_some (row_after_entry (situation m) key (ungoverned row)).issued ≡ true → ⊥
 still_waits m key row good found waits issued = by row.governing refl
   where
     now : IsIssuedNow (situation m) key (ungoverned row)
@@ -156,14 +156,14 @@ still_waits m key row good found waits issued = by row.governing refl
     by (Some id) e = both_ways _ (not_due m.clock m.regs row id (governed_by m key row id good found e) waits) now.due
 
 -- an issued flight that is not gone is issued again when it enters anew
-issued_again : (m : State) (key : Text) (row : Row) → IsGood m → row_of m key ≡ Some row → is_some row.issued ≡ true → is_gone m.clock row.plan ≡ false → is_some (entered (situation m) key (ungoverned row)).issued ≡ true
+issued_again : (m : State) (key : Text) (row : Row) → IsGood m → row_of m key ≡ Some row → is_some row.issued ≡ true → is_gone m.clock row.plan ≡ false → is_some (row_after_entry (situation m) key (ungoverned row)).issued ≡ true
 issued_again m key row good found issued here = by row.governing refl
   where
-    by : (w : Option Text) → row.governing ≡ w → is_some (entered (situation m) key (ungoverned row)).issued ≡ true
+    by : (w : Option Text) → row.governing ≡ w → is_some (row_after_entry (situation m) key (ungoverned row)).issued ≡ true
     by None e = absurd (both_ways _ (ap is_some (free_of m key row good found e).not_issued) issued)
     by (Some id) e =
         let g = governed_by m key row id good found e in
-        elim (choice (situation m) key row.plan) as (λ (o : Option Offer). choice (situation m) key row.plan ≡ o → is_some (entered (situation m) key (ungoverned row)).issued ≡ true) [
+        elim (choice (situation m) key row.plan) as (λ (o : Option Offer). choice (situation m) key row.plan ≡ o → is_some (row_after_entry (situation m) key (ungoverned row)).issued ≡ true) [
           | None ↦ λ c. absurd (not_outside m.regs row.plan id g.measure g.eto (choice-none m key row.plan good.regs_in_order c) g.is_open g.is_subject)
           | Some o ↦ λ c. issues (situation m) key (ungoverned row) o g.not_exempt here (was_due m.clock m.regs row id g issued) c
         ] refl
@@ -174,11 +174,11 @@ revised_parts true false false h is = cc
 revised_parts true true l h is = cc
 revised_parts false g l h is = cc
 
-revise_if_comes : (m : State) (key : Text) (row : Row) (b : Bool) → IsGood m → row_of m key ≡ Some row → let new : Row = entered (situation m) key (ungoverned row) in
+revise_if_comes : (m : State) (key : Text) (row : Row) (b : Bool) → IsGood m → row_of m key ≡ Some row → let new : Row = row_after_entry (situation m) key (ungoverned row) in
     is_revised m key row new ≡ b → Comes m (Revise key) (leads (state_if b (with_row m key new) m))
 revise_if_comes m key row false good found is = unchanged (CanCome m (Revise key)) m good
 revise_if_comes m key row true good found is =
-    let new : Row = entered (situation m) key (ungoverned row) in
+    let new : Row = row_after_entry (situation m) key (ungoverned row) in
     let parts : is_some row.issued ≡ true → (is_gone m.clock row.plan ≡ false) × (nat_lt (ctot_of (with_row m key new) key new) (ctot_of m key row) ≡ true) =
     revised_parts (is_some row.issued) (is_gone m.clock row.plan) (nat_lt (ctot_of (with_row m key new) key new) (ctot_of m key row)) is in
     let as_row : is_issued (row_of m key) ≡ is_some row.issued = ap is_issued found in
@@ -190,7 +190,7 @@ revise_if_comes m key row true good found is =
 
 pub revise_comes : (m : State) (key : Text) (o : Option Row) → IsGood m → row_of m key ≡ o → Comes m (Revise key) (revise m key o)
 revise_comes m key None good found = All-nil (CanCome m (Revise key))
-revise_comes m key (Some row) good found = revise_if_comes m key row (is_revised m key row (entered (situation m) key (ungoverned row))) good found refl
+revise_comes m key (Some row) good found = revise_if_comes m key row (is_revised m key row (row_after_entry (situation m) key (ungoverned row))) good found refl
 
 pub show_comes : (m : State) (key : Text) (o : Option Row) → IsGood m → Comes m (Show key) (show m o)
 show_comes m key None good = All-nil (CanCome m (Show key))

@@ -23,7 +23,7 @@ use Rattle.casa_flight.specs.State.{row_of, measure_of, with_row}
 use Rattle.casa_flight.specs.Listing.{listing, place_of, ctot_of, delay_of}
 use Rattle.casa_flight.specs.Replies.{message_of, message, messages, is_issued, ctot_before}
 use Rattle.casa_flight.specs.Good.{AreInOrder, IsGood, IsFree, IsGoverned}
-use Rattle.casa_flight.specs.Messages.{flight_of, Tells}
+use Rattle.casa_flight.specs.Messages.{flight_of, TellsChange}
 use Rattle.casa_filing.proofs.Entries.{text_cmp, other_way, named, all-each, all-filter_map, each_found, sorted-put, at-put_same, at-put_other}
 use Rattle.casa_laws.proofs.Kept.{filter_map-one, contains-given}
 use Rattle.casa_laws.proofs.InOrder.{names_rise, names_sorted}
@@ -54,8 +54,8 @@ message_key m n key row = message_cases (λ x. flight_of x ≡ key) key row.gove
     (λ _ _ _ _. refl) (λ _ _ _ _ _. refl) (λ _ _. refl)
 
 -- what the message of a flight that is there tells
-pub message_tells : (m n : State) (key : Text) (row : Row) (x : Message) → row_of n key ≡ Some row → message m n key row ≡ Some x → Tells m n x
-message_tells m n key row x found = message_cases (Tells m n) key row.governing (is_issued (row_of m key)) (is_some row.issued) (ctot_before m key) (ctot_of n key row)
+pub message_tells : (m n : State) (key : Text) (row : Row) (x : Message) → row_of n key ≡ Some row → message m n key row ≡ Some x → TellsChange m n x
+message_tells m n key row x found = message_cases (TellsChange m n) key row.governing (is_issued (row_of m key)) (is_some row.issued) (ctot_before m key) (ctot_of n key row)
     (λ reg governs was now. (was, record { row = row; is_filed = found; governs = governs; issued = now; leaves = refl }))
     (λ reg governs was now other. (was, other, record { row = row; is_filed = found; governs = governs; issued = now; leaves = refl }))
     (λ was now. (was, ap is_some found, ap is_issued found ∙ now)) x
@@ -76,7 +76,7 @@ revised_message key reg old new other =
       | false ↦ λ t. refl
     ] refl
 
-pub tells_message : (m n : State) (x : Message) → Tells m n x → (row : Row) × IsMessageOf m n x row
+pub tells_message : (m n : State) (x : Message) → TellsChange m n x → (row : Row) × IsMessageOf m n x row
 tells_message m n (Sam key ctot reg) t =
     let s = t.1 in
     (s.row, (s.is_filed, λ i. message_of key (s.governs i) (t.0 i) (s.issued i) (ctot_before m key) (s.leaves i)))
@@ -93,7 +93,7 @@ each_message P m n sorted f =
     All-from_recursion P (messages m n)
     (all-filter_map (λ (e : Text × Row). row_of n e.0 ≡ Some e.1) P (λ (e : Text × Row). message m n e.0 e.1) (λ e x found h. f e.0 e.1 x found h) n.rows (each_found n.rows sorted))
 
-pub tells_comes : (m n : State) (x : Message) → Tells m n x → Contains (messages m n) x
+pub tells_comes : (m n : State) (x : Message) → TellsChange m n x → Contains (messages m n) x
 tells_comes m n x t =
     let w = tells_message m n x t in
     contains-given (λ (e : Text × Row). message m n e.0 e.1) (flight_of x) w.0 x n.rows w.1.0 w.1.1

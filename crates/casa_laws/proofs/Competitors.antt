@@ -13,7 +13,7 @@ use Rattle.casa_flight.specs.declared.comp.Comp.{Comp}
 use Rattle.casa_flight.specs.declared.row.Stance.{Stance}
 use Rattle.casa_flight.specs.declared.row.Stance.TheVariants.{Competing, Issued, Forced}
 use Rattle.casa_filing.specs.Text.{Text, same_text, at_name, put, without}
-use Rattle.casa_flight.specs.Listing.{Listing, put_by, is_before, competitor, competitors, stance_of}
+use Rattle.casa_flight.specs.Listing.{Listing, insert_sorted, is_before, competitor, competitors, stance_of}
 use Rattle.casa_flight.specs.Good.{AreInOrder}
 use Rattle.casa_filing.proofs.Entries.{text_cmp, same_name, itself, after_all}
 use Rattle.casa_laws.proofs.Kept.{Above, at_above, without_absent}
@@ -90,31 +90,31 @@ before_total a b other =
 
 -- which of two elements is put in first does not matter
 commute_step : {X : Type 0} (comp : X → Comp) (x y : X) → is_before (comp x) (comp y) ≡ true → (zs : List X) →
-    put_by (λ a b. is_before (comp a) (comp b)) x (put_by (λ a b. is_before (comp a) (comp b)) y zs) ≡ put_by (λ a b. is_before (comp a) (comp b)) y (put_by (λ a b. is_before (comp a) (comp b)) x zs)
+    insert_sorted (λ a b. is_before (comp a) (comp b)) x (insert_sorted (λ a b. is_before (comp a) (comp b)) y zs) ≡ insert_sorted (λ a b. is_before (comp a) (comp b)) y (insert_sorted (λ a b. is_before (comp a) (comp b)) x zs)
 commute_step {X} comp x y h [] =
     let before : X → X → Bool = λ a b. is_before (comp a) (comp b) in
     put_first before x y [] (before_one_way (comp x) (comp y) h) ∙ sym (put_later before y x [] h)
 commute_step {X} comp x y h (z ∷ zs) =
     let before : X → X → Bool = λ a b. is_before (comp a) (comp b) in
     let y_first : is_before (comp y) (comp x) ≡ false = before_one_way (comp x) (comp y) h in
-    elim (before z x) as (λ b. before z x ≡ b → put_by before x (put_by before y (z ∷ zs)) ≡ put_by before y (put_by before x (z ∷ zs))) [
+    elim (before z x) as (λ b. before z x ≡ b → insert_sorted before x (insert_sorted before y (z ∷ zs)) ≡ insert_sorted before y (insert_sorted before x (z ∷ zs))) [
       | true ↦ λ zx.
           let zy : before z y ≡ true = before_on (comp z) (comp x) (comp y) zx h in
-          ap (put_by before x) (put_later before y z zs zy)
-          ∙ put_later before x z (put_by before y zs) zx
+          ap (insert_sorted before x) (put_later before y z zs zy)
+          ∙ put_later before x z (insert_sorted before y zs) zx
           ∙ ap (λ ws. z ∷ ws) (commute_step comp x y h zs)
-          ∙ sym (put_later before y z (put_by before x zs) zy)
-          ∙ sym (ap (put_by before y) (put_later before x z zs zx))
+          ∙ sym (put_later before y z (insert_sorted before x zs) zy)
+          ∙ sym (ap (insert_sorted before y) (put_later before x z zs zx))
       | false ↦ λ zx.
-          let right : put_by before y (put_by before x (z ∷ zs)) ≡ x ∷ put_by before y (z ∷ zs) = ap (put_by before y) (put_first before x z zs zx) ∙ put_later before y x (z ∷ zs) h in
-          let left : put_by before x (put_by before y (z ∷ zs)) ≡ x ∷ put_by before y (z ∷ zs) =
-          elim (before z y) as (λ b. before z y ≡ b → put_by before x (put_by before y (z ∷ zs)) ≡ x ∷ put_by before y (z ∷ zs)) [
+          let right : insert_sorted before y (insert_sorted before x (z ∷ zs)) ≡ x ∷ insert_sorted before y (z ∷ zs) = ap (insert_sorted before y) (put_first before x z zs zx) ∙ put_later before y x (z ∷ zs) h in
+          let left : insert_sorted before x (insert_sorted before y (z ∷ zs)) ≡ x ∷ insert_sorted before y (z ∷ zs) =
+          elim (before z y) as (λ b. before z y ≡ b → insert_sorted before x (insert_sorted before y (z ∷ zs)) ≡ x ∷ insert_sorted before y (z ∷ zs)) [
             | true ↦ λ zy.
-                ap (put_by before x) (put_later before y z zs zy)
-                ∙ put_first before x z (put_by before y zs) zx
+                ap (insert_sorted before x) (put_later before y z zs zy)
+                ∙ put_first before x z (insert_sorted before y zs) zx
                 ∙ ap (λ ws. x ∷ ws) (sym (put_later before y z zs zy))
             | false ↦ λ zy.
-                ap (put_by before x) (put_first before y z zs zy)
+                ap (insert_sorted before x) (put_first before y z zs zy)
                 ∙ put_first before x y (z ∷ zs) y_first
                 ∙ ap (λ ws. x ∷ ws) (sym (put_first before y z zs zy))
           ] refl in
@@ -122,7 +122,7 @@ commute_step {X} comp x y h (z ∷ zs) =
     ] refl
 
 pub put-commutes : {X : Type 0} (comp : X → Comp) (x y : X) → Ordered (comp x) (comp y) → (zs : List X) →
-    put_by (λ a b. is_before (comp a) (comp b)) x (put_by (λ a b. is_before (comp a) (comp b)) y zs) ≡ put_by (λ a b. is_before (comp a) (comp b)) y (put_by (λ a b. is_before (comp a) (comp b)) x zs)
+    insert_sorted (λ a b. is_before (comp a) (comp b)) x (insert_sorted (λ a b. is_before (comp a) (comp b)) y zs) ≡ insert_sorted (λ a b. is_before (comp a) (comp b)) y (insert_sorted (λ a b. is_before (comp a) (comp b)) x zs)
 put-commutes comp x y (inl h) zs = commute_step comp x y h zs
 put-commutes comp x y (inr h) zs = sym (commute_step comp y x h zs)
 
@@ -133,15 +133,15 @@ filter-all test (x ∷ xs) h = ap (λ b. cond b (x ∷ filter test xs) (filter t
 -- the competitors with this one, or with none
 abbrev pub with_one : Option Comp → List Comp → List Comp
 with_one None cs = cs
-with_one (Some c) cs = put_by is_before c cs
+with_one (Some c) cs = insert_sorted is_before c cs
 
 -- the flights' competitors, put in one by one behind these
 abbrev ranked : List Comp → List (Text × Stance) → List Comp
-ranked cs fs = fold (λ ys x. put_by is_before x ys) cs (filter_map (λ (e : Text × Stance). competitor e.0 e.1) fs)
+ranked cs fs = fold (λ ys x. insert_sorted is_before x ys) cs (filter_map (λ (e : Text × Stance). competitor e.0 e.1) fs)
 
 ranked-next : (cs : List Comp) (e : Text × Stance) (fs : List (Text × Stance)) → ranked cs (e ∷ fs) ≡ ranked (with_one (competitor e.0 e.1) cs) fs
 ranked-next cs e fs =
-    elim (competitor e.0 e.1) as (λ (o : Option Comp). fold (λ ys x. put_by is_before x ys) cs (cons_option o (filter_map (λ (e : Text × Stance). competitor e.0 e.1) fs)) ≡ ranked (with_one o cs) fs) [
+    elim (competitor e.0 e.1) as (λ (o : Option Comp). fold (λ ys x. insert_sorted is_before x ys) cs (cons_option o (filter_map (λ (e : Text × Stance). competitor e.0 e.1) fs)) ≡ ranked (with_one o cs) fs) [
       | None ↦ refl
       | Some c ↦ refl
     ]
@@ -210,7 +210,7 @@ competitors-stance l key s sorted found =
     ap (λ fs. competitors (record l { flights = fs })) (sym (put_there key s l.flights sorted found)) ∙ competitors-put l key s sorted
 
 -- without a competitor they are what they were before it was put in
-pub competitors_left : (l : Listing) (key : Text) (eto : ℕ) → AreInOrder l.flights → stance_of l key ≡ Some (Competing eto) → competitors l ≡ put_by is_before (record { eto = eto; key = key }) (competitors (record l { flights = without l.flights key }))
+pub competitors_left : (l : Listing) (key : Text) (eto : ℕ) → AreInOrder l.flights → stance_of l key ≡ Some (Competing eto) → competitors l ≡ insert_sorted is_before (record { eto = eto; key = key }) (competitors (record l { flights = without l.flights key }))
 competitors_left l key eto sorted found = competitors-stance l key (Competing eto) sorted found
 
 -- and a flight that is issued or forced competes no more
@@ -244,7 +244,7 @@ others-without k (e ∷ es) sorted =
 
 ranked_others : (k : Text) (fs : List (Text × Stance)) (cs : List Comp) → AreOther k fs → AllByRecursion (λ (c : Comp). is_other k c ≡ true) cs → AllByRecursion (λ (c : Comp). is_other k c ≡ true) (ranked cs fs)
 ranked_others k [] cs h g = g
-ranked_others k ((q, Competing eto) ∷ es) cs h g = ranked_others k es (put_by is_before (record { eto = eto; key = q }) cs) h.1 (all-put_by (λ (c : Comp). is_other k c ≡ true) is_before (record { eto = eto; key = q }) h.0 cs g)
+ranked_others k ((q, Competing eto) ∷ es) cs h g = ranked_others k es (insert_sorted is_before (record { eto = eto; key = q }) cs) h.1 (all-put_by (λ (c : Comp). is_other k c ≡ true) is_before (record { eto = eto; key = q }) h.0 cs g)
 ranked_others k ((q, Issued eto t) ∷ es) cs h g = ranked_others k es cs h.1 g
 ranked_others k ((q, Forced eto) ∷ es) cs h g = ranked_others k es cs h.1 g
 

@@ -13,21 +13,21 @@ use Rattle.casa_filing.specs.FlightPlan.{FlightPlan}
 use Rattle.casa_filing.specs.Subject.{subject, is_due, is_gone}
 use Rattle.casa_flight.specs.State.{row_of, is_exempt, ungoverned}
 use Rattle.casa_flight.specs.Listing.{is_before}
-use Rattle.casa_flight.specs.Entry.{Offer, Situation, situation, choice, governed, entered, enter_all, reenter}
+use Rattle.casa_flight.specs.Entry.{Offer, Situation, situation, choice, governed, row_after_entry, enter_all, reenter}
 use Rattle.casa_flight.specs.Steps.{flights_over}
 use Rattle.casa_flight.specs.Good.{IsGood}
 use Rattle.casa_flight.proofs.PutBy.{all-fold}
 use Rattle.casa_filing.proofs.Entries.{text_cmp, same_name, named, apart, all-each, all-filter_map, each_found, at-put, at-put_other}
 
 -- a flight that enters keeps all but what governs it and its issue: its plan and its mark
-entered_rest : (s : Situation) (key : Text) (row : Row) → ungoverned (entered s key row) ≡ ungoverned row
+entered_rest : (s : Situation) (key : Text) (row : Row) → ungoverned (row_after_entry s key row) ≡ ungoverned row
 entered_rest s key row =
     elim (is_exempt row || is_gone s.clock row.plan) as (λ b. ungoverned (cond b row (option_map_or (governed s.clock row) (choice s key row.plan) row)) ≡ ungoverned row) [
       | true ↦ refl
       | false ↦ elim (choice s key row.plan) as (λ (o : Option Offer). ungoverned (option_map_or (governed s.clock row) o row) ≡ ungoverned row) [ None ↦ refl | Some o ↦ refl ]
     ]
 
-pub entered_plan : (s : Situation) (key : Text) (row : Row) → (entered s key row).plan ≡ row.plan
+pub entered_plan : (s : Situation) (key : Text) (row : Row) → (row_after_entry s key row).plan ≡ row.plan
 entered_plan s key row = ap (λ (r : Row). r.plan) (entered_rest s key row)
 
 -- one that is issued when it enters is neither exempt nor gone, it is due, and a regulation was chosen
@@ -38,7 +38,7 @@ pub record IsIssuedNow (s : Situation) (key : Text) (row : Row) : Type 0 where
   pub offer : Offer
   pub chosen : choice s key row.plan ≡ Some offer
 
-pub issued_now : (s : Situation) (key : Text) (row : Row) → row.issued ≡ None → is_some (entered s key row).issued ≡ true → IsIssuedNow s key row
+pub issued_now : (s : Situation) (key : Text) (row : Row) → row.issued ≡ None → is_some (row_after_entry s key row).issued ≡ true → IsIssuedNow s key row
 issued_now s key row waiting h =
     elim (is_exempt row || is_gone s.clock row.plan) as (λ b. (is_exempt row || is_gone s.clock row.plan) ≡ b → is_some (cond b row (option_map_or (governed s.clock row) (choice s key row.plan) row)).issued ≡ true → IsIssuedNow s key row) [
       | true ↦ λ t f. absurd (none_there f)
@@ -58,13 +58,13 @@ issued_now s key row waiting h =
     none_there f = both_ways (is_some row.issued) (ap is_some waiting) f
 
 -- and one that is due, neither exempt nor gone, and has a choice, is issued
-pub issues : (s : Situation) (key : Text) (row : Row) (o : Offer) → is_exempt row ≡ false → is_gone s.clock row.plan ≡ false → is_due s.clock row.plan ≡ true → choice s key row.plan ≡ Some o → is_some (entered s key row).issued ≡ true
+pub issues : (s : Situation) (key : Text) (row : Row) (o : Offer) → is_exempt row ≡ false → is_gone s.clock row.plan ≡ false → is_due s.clock row.plan ≡ true → choice s key row.plan ≡ Some o → is_some (row_after_entry s key row).issued ≡ true
 issues s key row o plain here due chosen = rw (plain, here, chosen, due)
 
 -- one by one: a flight that is none of them keeps its row, and each keeps its plan
 row-reenter : (s : State) (key other : Text) (w : Option Row) → same_text key other ≡ false → row_of (reenter s key w) other ≡ row_of s other
 row-reenter s key other None h = refl
-row-reenter s key other (Some row) h = at-put_other other key (entered (situation s) key (ungoverned row)) s.rows (apart key other h)
+row-reenter s key other (Some row) h = at-put_other other key (row_after_entry (situation s) key (ungoverned row)) s.rows (apart key other h)
 
 pub row-enter_all : (s : State) (other : Text) (cs : List Comp) → AllByRecursion (λ (c : Comp). same_text c.key other ≡ false) cs → row_of (enter_all s cs) other ≡ row_of s other
 row-enter_all s other [] h = refl
@@ -76,7 +76,7 @@ rest_at s key = option_map ungoverned (row_of s key)
 rest-reenter : (s : State) (key other : Text) (w : Option Row) → row_of s key ≡ w → rest_at (reenter s key w) other ≡ rest_at s other
 rest-reenter s key other None found = refl
 rest-reenter s key other (Some row) found =
-    let new : Row = entered (situation s) key (ungoverned row) in
+    let new : Row = row_after_entry (situation s) key (ungoverned row) in
     ap (option_map ungoverned) (at-put other key new s.rows)
     ∙ (elim (is_eq (text_cmp other key)) as (λ b. is_eq (text_cmp other key) ≡ b → option_map ungoverned (cond b (Some new) (row_of s other)) ≡ rest_at s other) [
       | true ↦ λ t. ap (λ (r : Row). Some r) (entered_rest (situation s) key (ungoverned row)) ∙ sym (ap (option_map ungoverned) (ap (row_of s) (same_name other key t) ∙ found))

@@ -15,7 +15,7 @@ use Rattle.casa_filing.specs.Text.{Text}
 use Rattle.casa_filing.specs.FlightPlan.{FlightPlan}
 use Rattle.casa_filing.specs.Subject.{is_due, is_gone}
 use Rattle.casa_flight.specs.State.{empty, row_of, with_row, is_exempt, ungoverned}
-use Rattle.casa_flight.specs.Entry.{Offer, situation, choice, governed, entered, enter}
+use Rattle.casa_flight.specs.Entry.{Offer, situation, choice, governed, row_after_entry, enter}
 use Rattle.casa_flight.specs.Steps.{Step, new_row, file, amend, cancel, exempt, exempt_if, revise, is_revised, state_if, show, list, after}
 use Rattle.casa_flight.specs.Good.{IsOutside, IsGood, IsGoodRow, IsFree, IsGoverned}
 use Rattle.casa_filing.proofs.Entries.{text_cmp, all-put-but, all-remove, all_at, all-each, sorted-put, sorted-remove}
@@ -127,7 +127,7 @@ excused false true h p q = cc
 excused false false h p q = cc
 
 -- an ungoverned flight that enters is a good row
-entered_row : (m : State) (key : Text) (row : Row) → IsStrictlySortedBy text_cmp (keys_of m.regs) → row.plan.key ≡ key → row.governing ≡ None → row.issued ≡ None → IsRowBut false m.clock m.regs key (entered (situation m) key row)
+entered_row : (m : State) (key : Text) (row : Row) → IsStrictlySortedBy text_cmp (keys_of m.regs) → row.plan.key ≡ key → row.governing ≡ None → row.issued ≡ None → IsRowBut false m.clock m.regs key (row_after_entry (situation m) key row)
 entered_row m key row sorted keyed free not_issued =
     let chosen : Row = option_map_or (governed m.clock row) (choice (situation m) key row.plan) row in
     elim (is_exempt row || is_gone m.clock row.plan) as (λ b. (is_exempt row || is_gone m.clock row.plan) ≡ b → IsRowBut false m.clock m.regs key (cond b row chosen)) [
@@ -137,7 +137,7 @@ entered_row m key row sorted keyed free not_issued =
 
 pub enter-good : (v w : Text → Bool) (m : State) (key : Text) (row : Row) → IsLess v key w → IsGoodBut v m → row.plan.key ≡ key → row.governing ≡ None → row.issued ≡ None → IsGoodBut w (enter m key row)
 enter-good v w m key row less good keyed free not_issued =
-    put-good v w m key (entered (situation m) key row) less good (entered_row m key row good.regs_in_order keyed free not_issued)
+    put-good v w m key (row_after_entry (situation m) key row) less good (entered_row m key row good.regs_in_order keyed free not_issued)
 
 enter-from_good : (m : State) (key : Text) (row : Row) → IsGood m → row.plan.key ≡ key → row.governing ≡ None → row.issued ≡ None → IsGood (enter m key row)
 enter-from_good m key row good keyed free not_issued =
@@ -186,7 +186,7 @@ state_if-good false m n g h = h
 pub revise-good : (m : State) (key : Text) (o : Option Row) → IsGood m → row_of m key ≡ o → KeepsGood m (revise m key o)
 revise-good m key None good found = good
 revise-good m key (Some row) good found =
-    let new : Row = entered (situation m) key (ungoverned row) in
+    let new : Row = row_after_entry (situation m) key (ungoverned row) in
     state_if-good (is_revised m key row new) (with_row m key new) m
     (enter-from_good m key (ungoverned row) good (good_row m key row good found).keyed refl refl) good
 

@@ -21,9 +21,9 @@ use Rattle.casa_filing.specs.Text.{Text, same_text, at_name, put, without}
 use Rattle.casa_filing.specs.FlightPlan.{FlightPlan}
 use Rattle.casa_filing.specs.Subject.{regulation, subject}
 use Rattle.casa_flight.specs.State.{row_of, measure_of, is_governed_by, ungoverned}
-use Rattle.casa_flight.specs.Listing.{put_by, in_order, is_before}
+use Rattle.casa_flight.specs.Listing.{insert_sorted, sorted_by, is_before}
 use Rattle.casa_flight.specs.Entry.{enter_all, reenter}
-use Rattle.casa_flight.specs.Steps.{most_regulations, flights_over, may_compete, take_in, open_regulation, freed, closed, close_regulation, keeps_span, ends_later, rates, rates_if, next}
+use Rattle.casa_flight.specs.Steps.{most_regulations, flights_over, may_compete, take_in, open_regulation, ungoverned_if, state_without_regulation, close_regulation, keeps_span, ends_later, rates, rates_if, next}
 use Rattle.casa_flight.specs.Good.{IsGood, IsGoodRow, IsGoverned}
 use Rattle.casa_filing.proofs.Entries.{text_cmp, all-put, all-remove, all_at, all-each, all-both, all-map, keys-map, sorted-put, sorted-remove, same_name, apart, itself, at-put_other, at-without_other, none_at}
 use Rattle.casa_laws.proofs.Good.{IsRowBut, IsGoodBut, none_waits, KeepsGood, enter-good, from_but, row-looser, file-good, amend-good, cancel-good, exempt-good, revise-good, show-good, list-good}
@@ -74,16 +74,16 @@ any-insert {X} p x i xs =
     list_any-append p (take i xs) (x ∷ drop i xs) ∙ regroup (list_any p (take i xs)) (p x) (list_any p (drop i xs))
     ∙ ap (λ b. p x || b) (sym (list_any-append p (take i xs) (drop i xs)) ∙ ap (λ (ys : List X). list_any p ys) (take-append-drop i xs))
 
-pub any-put_by : {X : Type 0} (precedes : X → X → Bool) (p : X → Bool) (x : X) (xs : List X) → list_any p (put_by precedes x xs) ≡ (p x || list_any p xs)
+pub any-put_by : {X : Type 0} (precedes : X → X → Bool) (p : X → Bool) (x : X) (xs : List X) → list_any p (insert_sorted precedes x xs) ≡ (p x || list_any p xs)
 any-put_by precedes p x xs = any-insert p x (unwrap_or (position (λ y. not (precedes y x)) xs) (length xs)) xs
 
-pub any-fold : {X : Type 0} (precedes : X → X → Bool) (p : X → Bool) (xs ys : List X) → list_any p (fold (λ ys x. put_by precedes x ys) ys xs) ≡ (list_any p xs || list_any p ys)
+pub any-fold : {X : Type 0} (precedes : X → X → Bool) (p : X → Bool) (xs ys : List X) → list_any p (fold (λ ys x. insert_sorted precedes x ys) ys xs) ≡ (list_any p xs || list_any p ys)
 any-fold precedes p [] ys = refl
 any-fold precedes p (x ∷ xs) ys =
-    any-fold precedes p xs (put_by precedes x ys) ∙ ap (λ b. list_any p xs || b) (any-put_by precedes p x ys)
+    any-fold precedes p xs (insert_sorted precedes x ys) ∙ ap (λ b. list_any p xs || b) (any-put_by precedes p x ys)
     ∙ regroup (list_any p xs) (p x) (list_any p ys) ∙ or_assoc (p x) (list_any p xs) (list_any p ys)
 
-pub any-in_order : {X : Type 0} (precedes : X → X → Bool) (p : X → Bool) (xs : List X) → list_any p (in_order precedes xs) ≡ list_any p xs
+pub any-in_order : {X : Type 0} (precedes : X → X → Bool) (p : X → Bool) (xs : List X) → list_any p (sorted_by precedes xs) ≡ list_any p xs
 any-in_order precedes p xs = any-fold precedes p xs [] ∙ or_none (list_any p xs)
 
 -- a flight over a regulation, by whether it passes a test and its time over there
@@ -176,7 +176,7 @@ some_comp (Some n) eto key p h = cc
 close_row : (clock : ℕ) (regs : List (Text × Measure)) (id : Text) (measure : Measure) (w : Bool) (key : Text) (plan : FlightPlan) (marked : Bool) (g : Option Text) (i : Option ℕ) → at_name regs id ≡ Some measure
     → IsGoodRow clock regs key (record { plan = plan; marked = marked; governing = g; issued = i })
     → (w ≡ false → comp_if (is_governed_by id (record { plan = plan; marked = marked; governing = g; issued = i })) (subject plan (regulation id measure)) key ≡ None)
-    → IsRowBut w clock (without regs id) key (freed (is_governed_by id (record { plan = plan; marked = marked; governing = g; issued = i })) (record { plan = plan; marked = marked; governing = g; issued = i }))
+    → IsRowBut w clock (without regs id) key (ungoverned_if (is_governed_by id (record { plan = plan; marked = marked; governing = g; issued = i })) (record { plan = plan; marked = marked; governing = g; issued = i }))
 close_row clock regs id measure w key plan marked None i found good waiting = record {
   keyed = good.keyed;
   standing = (good.standing.not_issued, λ h p q. all-remove (λ (e : Text × Measure). subject plan (regulation e.0 e.1) ≡ None) (is_at (text_cmp id)) regs (good.standing.left p q));
@@ -184,7 +184,7 @@ close_row clock regs id measure w key plan marked None i found good waiting = re
 close_row clock regs id measure w key plan marked (Some by) i found good waiting =
     let s = good.standing in
     let row : Row = record { plan = plan; marked = marked; governing = Some by; issued = i } in
-    elim (same_text id by) as (λ b. same_text id by ≡ b → (w ≡ false → comp_if b (subject plan (regulation id measure)) key ≡ None) → IsRowBut w clock (without regs id) key (freed b row)) [
+    elim (same_text id by) as (λ b. same_text id by ≡ b → (w ≡ false → comp_if b (subject plan (regulation id measure)) key ≡ None) → IsRowBut w clock (without regs id) key (ungoverned_if b row)) [
       | true ↦ λ t wt.
           let here : id ≡ by = text_is id by (sym t) in
           let measures : Some measure ≡ Some s.measure = sym found ∙ ap (λ (q : Text). at_name regs q) here ∙ s.is_open in
@@ -200,8 +200,8 @@ close_row clock regs id measure w key plan marked (Some by) i found good waiting
 close_regulation-good : (m : State) (id : Text) (o : Option Measure) → measure_of m id ≡ o → IsGood m → KeepsGood m (close_regulation m id o)
 close_regulation-good m id None found good = good
 close_regulation-good m id (Some measure) found good =
-    let f : Text × Row → Row = λ e. freed (is_governed_by id e.1) e.1 in
-    let n : State = closed m id in
+    let f : Text × Row → Row = λ e. ungoverned_if (is_governed_by id e.1) e.1 in
+    let n : State = state_without_regulation m id in
     let cs : List Comp = flights_over (is_governed_by id) (regulation id measure) m.rows in
     from_but (enter_all n cs) (enter_all-good cs n (record {
       rows_in_order = subst (IsStrictlySortedBy text_cmp) (sym (keys-map f m.rows)) good.rows_in_order;

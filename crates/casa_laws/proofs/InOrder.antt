@@ -8,7 +8,7 @@ use Rattle.std.proofs.lemmas.List.Elements.{All-contains, All-from_recursion}
 use Rattle.std.proofs.lemmas.List.Kept.{AllPairs-cons}
 use Rattle.casa_flight.specs.declared.comp.Comp.{Comp}
 use Rattle.casa_filing.specs.Text.{Text, at_name}
-use Rattle.casa_flight.specs.Listing.{put_by, in_order, is_before}
+use Rattle.casa_flight.specs.Listing.{insert_sorted, sorted_by, is_before}
 use Rattle.casa_flight.specs.Good.{AreInOrder}
 use Rattle.casa_filing.proofs.Entries.{text_cmp, all-each, all-both, all-filter_map, each_found}
 use Rattle.casa_flight.proofs.PutBy.{put_first, put_later, all-put_by, all-fold, PairsByRecursion, each_itself}
@@ -25,30 +25,30 @@ pairs-each R S f [] h = tt
 pairs-each R S f (x ∷ xs) h = (all-each (R x) (S x) (f x) xs h.0, pairs-each R S f xs h.1)
 
 -- what is in order has the elements that were put in order
-each_put : {X : Type 0} (P : X → Type 0) (precedes : X → X → Bool) (x : X) (ys : List X) → AllByRecursion P (put_by precedes x ys) → P x × AllByRecursion P ys
+each_put : {X : Type 0} (P : X → Type 0) (precedes : X → X → Bool) (x : X) (ys : List X) → AllByRecursion P (insert_sorted precedes x ys) → P x × AllByRecursion P ys
 each_put P precedes x [] h = h
 each_put {X} P precedes x (y ∷ ys) h =
     elim (precedes y x) as (λ b. precedes y x ≡ b → P x × AllByRecursion P (y ∷ ys)) [
       | true ↦ λ p.
-          let all : AllByRecursion P (y ∷ put_by precedes x ys) = subst (AllByRecursion P) (put_later precedes x y ys p) h in
+          let all : AllByRecursion P (y ∷ insert_sorted precedes x ys) = subst (AllByRecursion P) (put_later precedes x y ys p) h in
           let rest : P x × AllByRecursion P ys = each_put P precedes x ys all.1 in
           (rest.0, (all.0, rest.1))
       | false ↦ λ p. subst (AllByRecursion P) (put_first precedes x y ys p) h
     ] refl
 
-each_fold : {X : Type 0} (P : X → Type 0) (precedes : X → X → Bool) (xs ys : List X) → AllByRecursion P (fold (λ (zs : List X) (x : X). put_by precedes x zs) ys xs) → AllByRecursion P ys × AllByRecursion P xs
+each_fold : {X : Type 0} (P : X → Type 0) (precedes : X → X → Bool) (xs ys : List X) → AllByRecursion P (fold (λ (zs : List X) (x : X). insert_sorted precedes x zs) ys xs) → AllByRecursion P ys × AllByRecursion P xs
 each_fold P precedes [] ys h = (h, tt)
 each_fold P precedes (x ∷ xs) ys h =
-    let later : AllByRecursion P (put_by precedes x ys) × AllByRecursion P xs = each_fold P precedes xs (put_by precedes x ys) h in
+    let later : AllByRecursion P (insert_sorted precedes x ys) × AllByRecursion P xs = each_fold P precedes xs (insert_sorted precedes x ys) h in
     let here : P x × AllByRecursion P ys = each_put P precedes x ys later.0 in
     (here.1, (here.0, later.1))
 
 all_contained : {X : Type 0} (P : X → Type 0) (xs : List X) (x : X) → AllByRecursion P xs → Contains xs x → P x
 all_contained P xs x h = All-contains P xs x (All-from_recursion P xs h)
 
-pub contains-in_order : {X : Type 0} (precedes : X → X → Bool) (xs : List X) (x : X) → Contains (in_order precedes xs) x ↔ Contains xs x
+pub contains-in_order : {X : Type 0} (precedes : X → X → Bool) (xs : List X) (x : X) → Contains (sorted_by precedes xs) x ↔ Contains xs x
 contains-in_order {X} precedes xs x =
-    let ys : List X = in_order precedes xs in (
+    let ys : List X = sorted_by precedes xs in (
       all_contained (Contains xs) ys x (all-fold (Contains xs) precedes xs [] (each_itself xs) tt),
       all_contained (Contains ys) xs x (each_fold (Contains ys) precedes xs [] (each_itself ys)).1,
     )
@@ -67,10 +67,10 @@ GoesOn {X} precedes = (x y z : X) → precedes x y ≡ true → precedes y z ≡
 abbrev InTurn : {X : Type 0} → (X → X → Bool) → List X → Type 0
 InTurn {X} precedes xs = PairsByRecursion (λ (x y : X). precedes x y ≡ true) xs
 
-turn-put : {X : Type 0} (precedes : X → X → Bool) → GoesOn precedes → (x : X) (ys : List X) → AllByRecursion (Comparable precedes x) ys → InTurn precedes ys → InTurn precedes (put_by precedes x ys)
+turn-put : {X : Type 0} (precedes : X → X → Bool) → GoesOn precedes → (x : X) (ys : List X) → AllByRecursion (Comparable precedes x) ys → InTurn precedes ys → InTurn precedes (insert_sorted precedes x ys)
 turn-put precedes on x [] c h = (tt, tt)
 turn-put {X} precedes on x (y ∷ ys) c h =
-    elim (precedes y x) as (λ b. precedes y x ≡ b → InTurn precedes (put_by precedes x (y ∷ ys))) [
+    elim (precedes y x) as (λ b. precedes y x ≡ b → InTurn precedes (insert_sorted precedes x (y ∷ ys))) [
       | true ↦ λ p. subst (InTurn precedes) (sym (put_later precedes x y ys p)) (all-put_by (λ (z : X). precedes y z ≡ true) precedes x p ys h.0, turn-put precedes on x ys c.1 h.1)
       | false ↦ λ p.
           let less : precedes x y ≡ true = elim c.0 [ inl q ↦ q | inr q ↦ absurd (both_ways _ p q) ] in
@@ -87,38 +87,38 @@ IsTwoWay {X} R = (x y : X) → R x y → R y x
 
 -- what stays so with each element that is put in, where R holds of it and those that are there, is so of what is in order
 put-keeps : {X : Type 0} (precedes : X → X → Bool) (R : X → X → Type 0) → IsTwoWay R → (Keeps : List X → Type 0)
-    → ((x : X) (ys : List X) → AllByRecursion (R x) ys → Keeps ys → Keeps (put_by precedes x ys))
+    → ((x : X) (ys : List X) → AllByRecursion (R x) ys → Keeps ys → Keeps (insert_sorted precedes x ys))
     → (xs ys : List X) → PairsByRecursion R xs → AllByRecursion (λ (x : X). AllByRecursion (R x) ys) xs → Keeps ys
-    → Keeps (fold (λ (zs : List X) (x : X). put_by precedes x zs) ys xs)
+    → Keeps (fold (λ (zs : List X) (x : X). insert_sorted precedes x zs) ys xs)
 put-keeps precedes R flip Keeps put [] ys pairs each h = h
 put-keeps {X} precedes R flip Keeps put (x ∷ xs) ys pairs each h =
-    let more : AllByRecursion (λ (z : X). AllByRecursion (R z) (put_by precedes x ys)) xs =
-    all-each (λ (z : X). R x z × AllByRecursion (R z) ys) (λ (z : X). AllByRecursion (R z) (put_by precedes x ys))
+    let more : AllByRecursion (λ (z : X). AllByRecursion (R z) (insert_sorted precedes x ys)) xs =
+    all-each (λ (z : X). R x z × AllByRecursion (R z) ys) (λ (z : X). AllByRecursion (R z) (insert_sorted precedes x ys))
     (λ z q. all-put_by (R z) precedes x (flip x z q.0) ys q.1) xs
     (all-both (R x) (λ (z : X). AllByRecursion (R z) ys) xs pairs.0 each.1) in
-    put-keeps precedes R flip Keeps put xs (put_by precedes x ys) pairs.1 more (put x ys each.0 h)
+    put-keeps precedes R flip Keeps put xs (insert_sorted precedes x ys) pairs.1 more (put x ys each.0 h)
 
 order-keeps : {X : Type 0} (precedes : X → X → Bool) (R : X → X → Type 0) → IsTwoWay R → (Keeps : List X → Type 0)
-    → ((x : X) (ys : List X) → AllByRecursion (R x) ys → Keeps ys → Keeps (put_by precedes x ys))
-    → Keeps [] → (xs : List X) → PairsByRecursion R xs → Keeps (in_order precedes xs)
+    → ((x : X) (ys : List X) → AllByRecursion (R x) ys → Keeps ys → Keeps (insert_sorted precedes x ys))
+    → Keeps [] → (xs : List X) → PairsByRecursion R xs → Keeps (sorted_by precedes xs)
 order-keeps {X} precedes R flip Keeps put none xs pairs =
     put-keeps precedes R flip Keeps put xs [] pairs (all-always (λ (x : X). AllByRecursion (R x) []) (λ x. tt) xs) none
 
 -- each comes before all later ones
-turn-in_order : {X : Type 0} (precedes : X → X → Bool) → GoesOn precedes → (xs : List X) → PairsByRecursion (Comparable precedes) xs → InTurn precedes (in_order precedes xs)
+turn-in_order : {X : Type 0} (precedes : X → X → Bool) → GoesOn precedes → (xs : List X) → PairsByRecursion (Comparable precedes) xs → InTurn precedes (sorted_by precedes xs)
 turn-in_order {X} precedes on xs c =
     order-keeps precedes (Comparable precedes) (flipped precedes) (InTurn precedes) (turn-put precedes on) tt xs c
 
 -- and what holds of any two both ways holds of any two that are in order
-pairs-put : {X : Type 0} (precedes : X → X → Bool) (R : X → X → Type 0) → IsTwoWay R → (x : X) (ys : List X) → AllByRecursion (R x) ys → PairsByRecursion R ys → PairsByRecursion R (put_by precedes x ys)
+pairs-put : {X : Type 0} (precedes : X → X → Bool) (R : X → X → Type 0) → IsTwoWay R → (x : X) (ys : List X) → AllByRecursion (R x) ys → PairsByRecursion R ys → PairsByRecursion R (insert_sorted precedes x ys)
 pairs-put precedes R flip x [] c h = (tt, tt)
 pairs-put {X} precedes R flip x (y ∷ ys) c h =
-    elim (precedes y x) as (λ b. precedes y x ≡ b → PairsByRecursion R (put_by precedes x (y ∷ ys))) [
+    elim (precedes y x) as (λ b. precedes y x ≡ b → PairsByRecursion R (insert_sorted precedes x (y ∷ ys))) [
       | true ↦ λ p. subst (PairsByRecursion R) (sym (put_later precedes x y ys p)) (all-put_by (R y) precedes x (flip x y c.0) ys h.0, pairs-put precedes R flip x ys c.1 h.1)
       | false ↦ λ p. subst (PairsByRecursion R) (sym (put_first precedes x y ys p)) (c, h)
     ] refl
 
-pairs-in_order : {X : Type 0} (precedes : X → X → Bool) (R : X → X → Type 0) → IsTwoWay R → (xs : List X) → PairsByRecursion R xs → PairsByRecursion R (in_order precedes xs)
+pairs-in_order : {X : Type 0} (precedes : X → X → Bool) (R : X → X → Type 0) → IsTwoWay R → (xs : List X) → PairsByRecursion R xs → PairsByRecursion R (sorted_by precedes xs)
 pairs-in_order {X} precedes R flip xs h = order-keeps precedes R flip (PairsByRecursion R) (pairs-put precedes R flip) tt xs h
 
 -- what is kept of the entries of a map has the names of its entries
@@ -170,14 +170,14 @@ contains-kept name kind whose es sorted x = (
 
 -- kept entries put in the order in which flights are planned: who is there, and that each comes before all later ones
 pub contains-planned : {X S : Type 0} (comp : X → Comp) (kind : Text × S → Option X) → HasName (λ (x : X). (comp x).key) kind → (es : List (Text × S)) → AreInOrder es → (x : X)
-    → Contains (in_order (λ (a b : X). is_before (comp a) (comp b)) (filter_map kind es)) x ↔ IsKeptOf (λ (x : X). (comp x).key) kind es x
+    → Contains (sorted_by (λ (a b : X). is_before (comp a) (comp b)) (filter_map kind es)) x ↔ IsKeptOf (λ (x : X). (comp x).key) kind es x
 contains-planned {X} comp kind whose es sorted x =
     let there = contains-in_order (λ (a b : X). is_before (comp a) (comp b)) (filter_map kind es) x in
     let is = contains-kept (λ (x : X). (comp x).key) kind whose es sorted x in
     (λ h. is.0 (there.0 h), λ k. there.1 (is.1 k))
 
 pub turn-planned : {X S : Type 0} (comp : X → Comp) (kind : Text × S → Option X) → HasName (λ (x : X). (comp x).key) kind → (es : List (Text × S)) → AreInOrder es
-    → PairsByRecursion (λ (a b : X). is_before (comp a) (comp b) ≡ true) (in_order (λ (a b : X). is_before (comp a) (comp b)) (filter_map kind es))
+    → PairsByRecursion (λ (a b : X). is_before (comp a) (comp b) ≡ true) (sorted_by (λ (a b : X). is_before (comp a) (comp b)) (filter_map kind es))
 turn-planned {X} comp kind whose es sorted =
     turn-in_order (λ (a b : X). is_before (comp a) (comp b)) (λ x y z. before_on (comp x) (comp y) (comp z)) (filter_map kind es)
     (pairs-each (λ (x y : X). text_cmp (comp x).key (comp y).key ≡ Less) (Comparable (λ (a b : X). is_before (comp a) (comp b)))
@@ -188,7 +188,7 @@ abbrev pub AreApart : {X : Type 0} → (X → Comp) → X → X → Type 0
 AreApart {X} comp x y = (comp x).key ≡ (comp y).key → ⊥
 
 pub apart-planned : {X S : Type 0} (comp : X → Comp) (kind : Text × S → Option X) → HasName (λ (x : X). (comp x).key) kind → (es : List (Text × S)) → AreInOrder es
-    → PairsByRecursion (AreApart comp) (in_order (λ (a b : X). is_before (comp a) (comp b)) (filter_map kind es))
+    → PairsByRecursion (AreApart comp) (sorted_by (λ (a b : X). is_before (comp a) (comp b)) (filter_map kind es))
 apart-planned {X} comp kind whose es sorted =
     pairs-in_order (λ (a b : X). is_before (comp a) (comp b)) (AreApart comp) (λ x y other same. other (sym same)) (filter_map kind es)
     (pairs-each (λ (x y : X). text_cmp (comp x).key (comp y).key ≡ Less) (AreApart comp)

@@ -17,8 +17,8 @@ use Rattle.casa_filing.specs.FlightPlan.{FlightPlan}
 use Rattle.casa_filing.specs.Subject.{regulation, is_due, is_gone}
 use Rattle.casa_flight.specs.State.{row_of, measure_of, with_row, is_exempt, is_governed_by, ungoverned}
 use Rattle.casa_flight.specs.Listing.{Listing, listing, place_of, cto_of, governing_list}
-use Rattle.casa_flight.specs.Entry.{situation, entered, is_to_issue, issued_in, issue_if, issue_due}
-use Rattle.casa_flight.specs.Steps.{Step, refused, step, most_regulations, new_row, file, amend, cancel, is_revised, state_if, revise, exempt, exempt_if, flights_over, may_compete, take_in, open_regulation, close_regulation, keeps_span, ends_later, extends, rates, rates_if, tick, show, list, reissued, after, next}
+use Rattle.casa_flight.specs.Entry.{situation, row_after_entry, is_to_issue, issued_in, issue_if, issue_due}
+use Rattle.casa_flight.specs.Steps.{Step, refused, step, most_regulations, new_row, file, amend, cancel, is_revised, state_if, revise, exempt, exempt_if, flights_over, may_compete, take_in, open_regulation, close_regulation, keeps_span, ends_later, extends, rates, rates_if, tick, show, list, with_issued_time, after, next}
 use Rattle.casa_flight.specs.Good.{IsGood, IsFree, IsGoverned}
 use Rattle.casa_flight.specs.IssuedTimes.{may_free, may_serve, IsTakenIn, BecomesIssued}
 use Rattle.casa_filing.proofs.Entries.{named, apart, at-put_other, at-without_other, at-map}
@@ -44,14 +44,14 @@ file_stays : (m : State) (plan : FlightPlan) (key : Text) (row : Row) (o : Optio
 file_stays m plan key row (Some old) late there found = found
 file_stays m plan key row None true there found = found
 file_stays m plan key row None false there found =
-    put_stays m plan.key key (entered (situation m) plan.key (new_row plan)) row
+    put_stays m plan.key key (row_after_entry (situation m) plan.key (new_row plan)) row
     (false_from_ne_true _ (λ same. let none : None ≡ Some row = sym there ∙ ap (row_of m) (named plan.key key same) ∙ found in cc)) found
 
 amend_stays : (m : State) (plan : FlightPlan) (key : Text) (row : Row) (o : Option Row) (late : Bool) → same_text plan.key key ≡ false → row_of m key ≡ Some row → Stays m (amend m plan o late) key row
 amend_stays m plan key row None late other found = found
 amend_stays m plan key row (Some old) true other found = found
 amend_stays m plan key row (Some old) false other found =
-    put_stays m plan.key key (entered (situation m) plan.key (record (ungoverned old) { plan = plan })) row other found
+    put_stays m plan.key key (row_after_entry (situation m) plan.key (record (ungoverned old) { plan = plan })) row other found
 
 cancel_stays : (m : State) (name key : Text) (row : Row) (o : Option Row) → same_text name key ≡ false → row_of m key ≡ Some row → Stays m (cancel m name o) key row
 cancel_stays m name key row None other found = found
@@ -64,7 +64,7 @@ either_stays false m n key row here there = there
 revise_stays : (m : State) (name key : Text) (row : Row) (o : Option Row) → same_text name key ≡ false → row_of m key ≡ Some row → Stays m (revise m name o) key row
 revise_stays m name key row None other found = found
 revise_stays m name key row (Some old) other found =
-    let new : Row = entered (situation m) name (ungoverned old) in
+    let new : Row = row_after_entry (situation m) name (ungoverned old) in
     either_stays (is_revised m name old new) (with_row m name new) m key row (put_stays m name key new row other found) found
 
 exempt_if_stays : (m : State) (name key : Text) (old row : Row) (b : Bool) → same_text name key ≡ false → row_of m key ≡ Some row → Stays m (exempt_if m name old b) key row
@@ -104,7 +104,7 @@ swap_stays m one other key row free found =
     let apart = or_parts (same_text one key) (same_text other key) free in
     swap_cases m one other (λ s. Stays m s key row) found found found found
     (λ old mate cto time can.
-    put_stays (with_row m one (reissued old time)) other key (reissued mate cto) row apart.1 (put_stays m one key (reissued old time) row apart.0 found))
+    put_stays (with_row m one (with_issued_time old time)) other key (with_issued_time mate cto) row apart.1 (put_stays m one key (with_issued_time old time) row apart.0 found))
 
 pub others_stay : (m : State) (call : Call) (key : Text) (row : Row) → IsGood m → row_of m key ≡ Some row → may_free call key row ≡ false → may_serve m call ≡ false → row_of (next m call) key ≡ Some row
 others_stay m (File plan) key row good found free serves = file_stays m plan key row (row_of m plan.key) (nat_lt plan.eobt m.clock) refl found

@@ -9,7 +9,7 @@ use Rattle.std.specs.List.Sorted.{IsStrictlySortedBy}
 use Rattle.std.specs.Map.{keys_of}
 use Rattle.casa_filing.specs.Text.{Text, at_name, put, without}
 use Rattle.casa_flight.specs.Good.{AreInOrder}
-use Rattle.casa_flight.specs.Listing.{kept}
+use Rattle.casa_flight.specs.Listing.{filter_map_values}
 use Rattle.std.proofs.lemmas.Cmp.{nat_list_cmp_total, tied_itself}
 use Rattle.std.proofs.lemmas.List.Elements.{Contains-append_right}
 use Rattle.casa_filing.proofs.Entries.{text_cmp, same_name, itself, after_all, at-put, sorted-put, sorted-remove, at-without_other}
@@ -31,7 +31,7 @@ above-behind : {X : Type 0} (k q : Text) (w : Option X) (es : List (Text × X)) 
 above-behind k q None es less h = h
 above-behind k q (Some x) es less h = (less, h)
 
--- the values that f gives of the entries and their names; `kept` is so, with an f that does not look at names
+-- the values that f gives of the entries and their names; `filter_map_values` is so, with an f that does not look at names
 abbrev pub kept_by : {X Y : Type 0} → (Text → X → Option Y) → List (Text × X) → List (Text × Y)
 kept_by {X} {Y} f es = filter_map (λ (e : Text × X). option_map (λ (y : Y). (e.0, y)) (f e.0 e.1)) es
 
@@ -39,7 +39,7 @@ pub above-kept_by : {X Y : Type 0} (f : Text → X → Option Y) (k : Text) (es 
 above-kept_by f k [] h = tt
 above-kept_by f k (e ∷ es) h = above-behind k e.0 (f e.0 e.1) (kept_by f es) h.0 (above-kept_by f k es h.1)
 
-pub above-kept : {X Y : Type 0} (f : X → Option Y) (k : Text) (es : List (Text × X)) → Above k es → Above k (kept f es)
+pub above-kept : {X Y : Type 0} (f : X → Option Y) (k : Text) (es : List (Text × X)) → Above k es → Above k (filter_map_values f es)
 above-kept {X} f k es h = above-kept_by (λ (q : Text) (x : X). f x) k es h
 
 sorted-behind : {X : Type 0} (k : Text) (w : Option X) (es : List (Text × X)) → Above k es → AreInOrder es → AreInOrder (behind k w es)
@@ -62,7 +62,7 @@ unfolding IsStrictlySortedBy
 sorted-kept_by f [] h = tt
 sorted-kept_by f (e ∷ es) h = sorted-behind e.0 (f e.0 e.1) (kept_by f es) (above-kept_by f e.0 es h.0) (sorted-kept_by f es h.1)
 
-pub sorted-kept : {X Y : Type 0} (f : X → Option Y) (es : List (Text × X)) → AreInOrder es → AreInOrder (kept f es)
+pub sorted-kept : {X Y : Type 0} (f : X → Option Y) (es : List (Text × X)) → AreInOrder es → AreInOrder (filter_map_values f es)
 sorted-kept {X} f es h = sorted-kept_by (λ (q : Text) (x : X). f x) es h
 
 -- before all names, an entry is put in front, and none is removed
@@ -100,24 +100,24 @@ set_past k q p v None es = without_past k q (ap is_eq p) v es
 set_past k q p v (Some w) es = put_past k q p v w es
 
 -- what is kept once an entry is written
-pub kept-put : {X Y : Type 0} (f : X → Option Y) (k : Text) (x : X) (es : List (Text × X)) → AreInOrder es → kept f (put es k x) ≡ set_at (kept f es) k (f x)
+pub kept-put : {X Y : Type 0} (f : X → Option Y) (k : Text) (x : X) (es : List (Text × X)) → AreInOrder es → filter_map_values f (put es k x) ≡ set_at (filter_map_values f es) k (f x)
 unfolding IsStrictlySortedBy
 kept-put f k x [] h = sym (set_above k (f x) [] tt)
 kept-put f k x (e ∷ es) h =
-    elim (text_cmp k e.0) as (λ r. text_cmp k e.0 ≡ r → kept f (match_ordering r ((k, x) ∷ e ∷ es) ((e.0, x) ∷ es) (e ∷ put es k x)) ≡ set_at (kept f (e ∷ es)) k (f x)) [
-      | Less ↦ λ p. sym (set_above k (f x) (kept f (e ∷ es)) (above-kept f k (e ∷ es) (p, after_all k e.0 p (keys_of es) h.0)))
-      | Equal ↦ λ p. sym (set_same k e.0 (same_name k e.0 (ap is_eq p)) (f e.1) (f x) (kept f es) (above-kept f e.0 es h.0))
-      | Greater ↦ λ p. ap (behind e.0 (f e.1)) (kept-put f k x es h.1) ∙ sym (set_past k e.0 p (f e.1) (f x) (kept f es))
+    elim (text_cmp k e.0) as (λ r. text_cmp k e.0 ≡ r → filter_map_values f (match_ordering r ((k, x) ∷ e ∷ es) ((e.0, x) ∷ es) (e ∷ put es k x)) ≡ set_at (filter_map_values f (e ∷ es)) k (f x)) [
+      | Less ↦ λ p. sym (set_above k (f x) (filter_map_values f (e ∷ es)) (above-kept f k (e ∷ es) (p, after_all k e.0 p (keys_of es) h.0)))
+      | Equal ↦ λ p. sym (set_same k e.0 (same_name k e.0 (ap is_eq p)) (f e.1) (f x) (filter_map_values f es) (above-kept f e.0 es h.0))
+      | Greater ↦ λ p. ap (behind e.0 (f e.1)) (kept-put f k x es h.1) ∙ sym (set_past k e.0 p (f e.1) (f x) (filter_map_values f es))
     ] refl
 
 -- what is kept once an entry is removed
-pub kept-without : {X Y : Type 0} (f : X → Option Y) (k : Text) (es : List (Text × X)) → AreInOrder es → kept f (without es k) ≡ without (kept f es) k
+pub kept-without : {X Y : Type 0} (f : X → Option Y) (k : Text) (es : List (Text × X)) → AreInOrder es → filter_map_values f (without es k) ≡ without (filter_map_values f es) k
 unfolding IsStrictlySortedBy
 kept-without f k [] h = refl
 kept-without f k (e ∷ es) h =
-    elim (is_eq (text_cmp k e.0)) as (λ b. is_eq (text_cmp k e.0) ≡ b → kept f (cond b es (e ∷ without es k)) ≡ without (kept f (e ∷ es)) k) [
-      | true ↦ λ p. sym (set_same k e.0 (same_name k e.0 p) (f e.1) None (kept f es) (above-kept f e.0 es h.0))
-      | false ↦ λ p. ap (behind e.0 (f e.1)) (kept-without f k es h.1) ∙ sym (without_past k e.0 p (f e.1) (kept f es))
+    elim (is_eq (text_cmp k e.0)) as (λ b. is_eq (text_cmp k e.0) ≡ b → filter_map_values f (cond b es (e ∷ without es k)) ≡ without (filter_map_values f (e ∷ es)) k) [
+      | true ↦ λ p. sym (set_same k e.0 (same_name k e.0 p) (f e.1) None (filter_map_values f es) (above-kept f e.0 es h.0))
+      | false ↦ λ p. ap (behind e.0 (f e.1)) (kept-without f k es h.1) ∙ sym (without_past k e.0 p (f e.1) (filter_map_values f es))
     ] refl
 
 at_same : {X : Type 0} (k q : Text) → k ≡ q → (v : Option X) (es : List (Text × X)) → Above q es → at_name (behind q v es) k ≡ v
@@ -139,7 +139,7 @@ at-kept_by f k (e ∷ es) h =
       | false ↦ λ p. at_past k e.0 p (f e.0 e.1) (kept_by f es) ∙ at-kept_by f k es h.1
     ] refl
 
-pub at-kept : {X Y : Type 0} (f : X → Option Y) (k : Text) (es : List (Text × X)) → AreInOrder es → at_name (kept f es) k ≡ option_and_then f (at_name es k)
+pub at-kept : {X Y : Type 0} (f : X → Option Y) (k : Text) (es : List (Text × X)) → AreInOrder es → at_name (filter_map_values f es) k ≡ option_and_then f (at_name es k)
 at-kept {X} f k es h = at-kept_by (λ (q : Text) (x : X). f x) k es h
 
 -- a name that is not there cannot be removed

@@ -20,7 +20,7 @@ use Rattle.casa_flight.specs.declared.row.Stance.{Stance}
 use Rattle.casa_flight.specs.declared.row.Stance.TheVariants.{Competing, Issued}
 use Rattle.casa_filing.specs.Text.{Text, same_text, at_name, put, without}
 use Rattle.casa_flight.specs.Assignment.{IsServed, IsRight, assignment}
-use Rattle.casa_flight.specs.Listing.{Listing, put_by, is_before, competitors, issued_cto, occupancy, places, place_of, stance_of, cto_as, cto_of}
+use Rattle.casa_flight.specs.Listing.{Listing, insert_sorted, is_before, competitors, issued_cto, occupancy, places, place_of, stance_of, cto_as, cto_of}
 use Rattle.casa_flight.specs.Good.{AreInOrder}
 use Rattle.casa_filing.proofs.Entries.{text_cmp, after_all}
 use Rattle.casa_laws.proofs.Kept.{at_above}
@@ -54,10 +54,10 @@ any-issued test key eto t (e ∷ es) sorted found =
 abbrev IsCutAt : Comp → List Comp → List Comp → Type 0
 IsCutAt c whole rest = (before : List Comp) × ((after : List Comp) × ((whole ≡ before ++ c ∷ after) × (rest ≡ before ++ after)))
 
-cut-put_by : (c : Comp) (cs : List Comp) → IsCutAt c (put_by is_before c cs) cs
+cut-put_by : (c : Comp) (cs : List Comp) → IsCutAt c (insert_sorted is_before c cs) cs
 cut-put_by c [] = ([], ([], (refl, refl)))
 cut-put_by c (d ∷ cs) =
-    elim (is_before d c) as (λ b. is_before d c ≡ b → IsCutAt c (put_by is_before c (d ∷ cs)) (d ∷ cs)) [
+    elim (is_before d c) as (λ b. is_before d c ≡ b → IsCutAt c (insert_sorted is_before c (d ∷ cs)) (d ∷ cs)) [
       | true ↦ λ p.
           let cut = cut-put_by c cs in
           (d ∷ cut.0, (cut.1.0, (put_later is_before c d cs p ∙ ap (λ ds. d ∷ ds) cut.1.1.0, ap (λ ds. d ∷ ds) cut.1.1.1)))

@@ -13,7 +13,7 @@ use Rattle.casa_flight.specs.declared.state.State.{State}
 use Rattle.casa_filing.specs.Text.{Text, at_name}
 use Rattle.casa_filing.specs.Subject.{subject}
 use Rattle.casa_flight.specs.State.{measure_of}
-use Rattle.casa_flight.specs.Listing.{Listing, stance_in, listing, list_of, in_order, is_before, competitor, competitors, stance_of}
+use Rattle.casa_flight.specs.Listing.{Listing, stance_in, listing, list_of, sorted_by, is_before, competitor, competitors, stance_of}
 use Rattle.casa_flight.specs.Replies.{row_in, is_row_before, list_rows}
 use Rattle.casa_flight.specs.Steps.{flights_over}
 use Rattle.casa_flight.specs.Good.{AreInOrder}
@@ -99,8 +99,8 @@ shown_key m l e row h = sym (ap (λ (w : Option ListRow). option_map_or (λ (x :
 abbrev at_cto : ListRow → Comp
 at_cto row = record { eto = row.cto; key = row.key }
 
-rows_are : (m : State) (l : Listing) → list_rows m l ≡ in_order is_row_before (filter_map (shown m l) l.flights)
-rows_are m l = ap (in_order is_row_before) (map-kept (λ (e : Text × Stance). row_in m l e.0 e.1) l.flights)
+rows_are : (m : State) (l : Listing) → list_rows m l ≡ sorted_by is_row_before (filter_map (shown m l) l.flights)
+rows_are m l = ap (sorted_by is_row_before) (map-kept (λ (e : Text × Stance). row_in m l e.0 e.1) l.flights)
 
 given : {S X : Type 0} (f : S → X) (o : Option S) (x : X) → option_map f o ≡ Some x → (s : S) × (o ≡ Some s) × (Some (f s) ≡ Some x)
 given f None x h = cc

@@ -27,7 +27,7 @@ use Rattle.casa_filing.specs.Subject.{regulation, subject, is_due, is_gone}
 use Rattle.casa_flight.specs.State.{row_of, measure_of, is_exempt, is_governed_by}
 use Rattle.casa_flight.specs.Listing.{Listing, listing, list_of, place_of, cto_as, cto_of, ctot_of, delay_of}
 use Rattle.casa_flight.specs.Entry.{enter_all, is_to_issue, issued_in, issue_if, issue_due}
-use Rattle.casa_flight.specs.Steps.{refused, most_regulations, flights_over, may_compete, take_in, open_regulation, freed, closed, close_regulation, keeps_span, ends_later, extends, rates, rates_if, tick, step, after}
+use Rattle.casa_flight.specs.Steps.{refused, most_regulations, flights_over, may_compete, take_in, open_regulation, ungoverned_if, state_without_regulation, close_regulation, keeps_span, ends_later, extends, rates, rates_if, tick, step, after}
 use Rattle.casa_flight.specs.Replies.{message, is_issued, ctot_before, reply, reply_of}
 use Rattle.casa_flight.specs.Good.{AreInOrder, IsOutside, IsGood, IsFree, IsGoverned}
 use Rattle.casa_flight.specs.Messages.{messages_in, Passes, CanCome, is_silent}
@@ -264,31 +264,31 @@ rates_comes m id profile None good next found = All-nil (CanCome m (Rates id pro
 rates_comes m id profile (Some measure) good next found = rates_if_comes m id measure profile (keeps_span profile measure.profile) (ends_later profile measure.profile) found refl refl good next
 
 -- what a closed regulation did not govern keeps its row, and its regulation
-freed_row : (id : Text) (w : Option Row) → option_map_or (is_governed_by id) w false ≡ false → option_map (λ (r : Row). freed (is_governed_by id r) r) w ≡ w
+freed_row : (id : Text) (w : Option Row) → option_map_or (is_governed_by id) w false ≡ false → option_map (λ (r : Row). ungoverned_if (is_governed_by id r) r) w ≡ w
 freed_row id None h = refl
-freed_row id (Some row) h = ap (λ b. Some (freed b row)) h
+freed_row id (Some row) h = ap (λ b. Some (ungoverned_if b row)) h
 
 pub row-closed : (m : State) (id : Text) (measure : Measure) (key : Text) → IsGood m → option_map_or (is_governed_by id) (row_of m key) false ≡ false
-    → row_of (enter_all (closed m id) (flights_over (is_governed_by id) (regulation id measure) m.rows)) key ≡ row_of m key
+    → row_of (enter_all (state_without_regulation m id) (flights_over (is_governed_by id) (regulation id measure) m.rows)) key ≡ row_of m key
 row-closed m id measure key good t =
-    row-enter_all (closed m id) key (flights_over (is_governed_by id) (regulation id measure) m.rows) (not_taken m key (is_governed_by id) (regulation id measure) good t)
-    ∙ at-map (λ k r. freed (is_governed_by id r) r) key m.rows ∙ freed_row id (row_of m key) t
+    row-enter_all (state_without_regulation m id) key (flights_over (is_governed_by id) (regulation id measure) m.rows) (not_taken m key (is_governed_by id) (regulation id measure) good t)
+    ∙ at-map (λ k r. ungoverned_if (is_governed_by id r) r) key m.rows ∙ freed_row id (row_of m key) t
 
 close_stays : (m n : State) (id : Text) (row : Row) → n.regs ≡ without m.regs id → is_governed_by id row ≡ false → (by : Text) → row.governing ≡ Some by → StaysOpen m n by
 close_stays m n id row regs not_its by governs a opened =
     let unlike : same_text id by ≡ false = ap (λ (w : Option Text). option_map_or (same_text id) w false) (sym governs) ∙ not_its in
     (a, ap (λ (es : List (Text × Measure)). at_name es by) regs ∙ at-without_other by id m.regs (apart id by unlike) ∙ opened, λ plan eto h. h)
 
-pub freed_plan : (b : Bool) (row : Row) → (freed b row).plan ≡ row.plan
+pub freed_plan : (b : Bool) (row : Row) → (ungoverned_if b row).plan ≡ row.plan
 freed_plan true row = refl
 freed_plan false row = refl
 
-close_message : (m : State) (id : Text) (measure : Measure) (key : Text) (row : Row) (x : Message) → let cs : List Comp = flights_over (is_governed_by id) (regulation id measure) m.rows in let n : State = enter_all (closed m id) cs in
+close_message : (m : State) (id : Text) (measure : Measure) (key : Text) (row : Row) (x : Message) → let cs : List Comp = flights_over (is_governed_by id) (regulation id measure) m.rows in let n : State = enter_all (state_without_regulation m id) cs in
     IsGood m → IsGood n → row_of n key ≡ Some row → message m n key row ≡ Some x → CanCome m (CloseReg id) x
 close_message m id measure key row x good later found h = by (option_map_or test (row_of m key) false) refl
   where
     s : State
-    s = closed m id
+    s = state_without_regulation m id
 
     test : Row → Bool
     test = is_governed_by id
@@ -303,7 +303,7 @@ close_message m id measure key row x good later found h = by (option_map_or test
     Q = CanCome m (CloseReg id)
 
     free : Row → Row
-    free r = freed (is_governed_by id r) r
+    free r = ungoverned_if (is_governed_by id r) r
 
     closed_row : row_of s key ≡ option_map free (row_of m key)
     closed_row = at-map (λ k r. free r) key m.rows
@@ -336,7 +336,7 @@ close_comes : (m : State) (id : Text) (o : Option Measure) → IsGood m → IsGo
 close_comes m id None good later = All-nil (CanCome m (CloseReg id))
 close_comes m id (Some measure) good later =
     each_message (CanCome m (CloseReg id)) m
-    (enter_all (closed m id) (flights_over (is_governed_by id) (regulation id measure) m.rows)) later.rows_in_order
+    (enter_all (state_without_regulation m id) (flights_over (is_governed_by id) (regulation id measure) m.rows)) later.rows_in_order
     (λ key row x there h. close_message m id measure key row x good later there h)
 
 -- the messages of every call are of those that can come of it

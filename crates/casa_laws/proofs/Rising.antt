@@ -12,7 +12,7 @@ use Rattle.casa_flight.specs.declared.comp.Assigned.{Assigned}
 use Rattle.casa_flight.specs.declared.row.Stance.{Stance}
 use Rattle.casa_filing.specs.Text.{Text}
 use Rattle.casa_flight.specs.Assignment.{Occupancy, is_from, is_blocked, is_open, is_slot, is_taken, IsServed, Precedes}
-use Rattle.casa_flight.specs.Listing.{Listing, put_by, is_before, competitor, competitors, occupancy, places}
+use Rattle.casa_flight.specs.Listing.{Listing, insert_sorted, is_before, competitor, competitors, occupancy, places}
 use Rattle.casa_filing.proofs.Entries.{all-each}
 use Rattle.casa_flight.proofs.PutBy.{put_first, put_later, all-put_by}
 use Rattle.casa_laws.proofs.Assignment.{open_listed, comps_of, comps-assignment, assignment_right}
@@ -39,10 +39,10 @@ not_before_le c d h =
       | inr le ↦ le
     ]
 
-rising-put : (c : Comp) (cs : List Comp) → AreRising cs → AreRising (put_by is_before c cs)
+rising-put : (c : Comp) (cs : List Comp) → AreRising cs → AreRising (insert_sorted is_before c cs)
 rising-put c [] h = (tt, tt)
 rising-put c (d ∷ cs) h =
-    elim (is_before d c) as (λ b. is_before d c ≡ b → AreRising (put_by is_before c (d ∷ cs))) [
+    elim (is_before d c) as (λ b. is_before d c ≡ b → AreRising (insert_sorted is_before c (d ∷ cs))) [
       | true ↦ λ p. subst AreRising (sym (put_later is_before c d cs p)) (all-put_by (λ (x : Comp). d.eto ≤ x.eto) is_before c (before_le d c p) cs h.0, rising-put c cs h.1)
       | false ↦ λ p.
           let le : c.eto ≤ d.eto = not_before_le d c p in
@@ -50,9 +50,9 @@ rising-put c (d ∷ cs) h =
           subst AreRising (sym (put_first is_before c d cs p)) ((le, rest), h)
     ] refl
 
-rising-fold : (cs ds : List Comp) → AreRising ds → AreRising (fold (λ ys x. put_by is_before x ys) ds cs)
+rising-fold : (cs ds : List Comp) → AreRising ds → AreRising (fold (λ ys x. insert_sorted is_before x ys) ds cs)
 rising-fold [] ds h = h
-rising-fold (c ∷ cs) ds h = rising-fold cs (put_by is_before c ds) (rising-put c ds h)
+rising-fold (c ∷ cs) ds h = rising-fold cs (insert_sorted is_before c ds) (rising-put c ds h)
 
 pub rising-competitors : (l : Listing) → AreRising (competitors l)
 rising-competitors l = rising-fold (filter_map (λ (e : Text × Stance). competitor e.0 e.1) l.flights) [] tt

@@ -16,7 +16,7 @@ use Rattle.casa_filing.specs.Text.{Text, same_text, put}
 use Rattle.casa_filing.specs.Subject.{regulation, subject, is_due}
 use Rattle.casa_flight.specs.State.{row_of, measure_of, with_row, is_governed_by}
 use Rattle.casa_flight.specs.Listing.{Listing, listing, list_of, governing_list, stance, stance_in, stance_of, eto_as}
-use Rattle.casa_flight.specs.Steps.{Step, refused, leads, step, eto_in, is_too_early, are_too_early, reissued, Exchange, exchanged, is_shared, swap, swap_issued, swap_if}
+use Rattle.casa_flight.specs.Steps.{Step, refused, leads, step, eto_in, is_too_early, are_too_early, with_issued_time, Exchange, with_exchange, is_shared, swap, swap_issued, swap_if}
 use Rattle.casa_flight.specs.Good.{AreInOrder, IsGood, IsGoodRow, IsFree, IsGoverned}
 use Rattle.casa_filing.proofs.Entries.{text_cmp, all-put, sorted-put, same_name, at-put, at-put_other}
 use Rattle.casa_laws.proofs.Kept.{sorted-kept}
@@ -35,7 +35,7 @@ pub record CanExchange (m : State) (x : Exchange) : Type 0 where
 
 -- a swap is refused, or such flights exchange their times
 pub swap_cases : (m : State) (key other : Text) (P : Step → Type 0) → P (refused NoFlight) → P (refused NotIssued) → P (refused OtherRegulation) → P (refused TooEarly)
-    → ((row mate : Row) (cto time : ℕ) → let x : Exchange = record { key = key; row = row; cto = cto; other = other; mate = mate; time = time } in CanExchange m x → P (leads (exchanged m x)))
+    → ((row mate : Row) (cto time : ℕ) → let x : Exchange = record { key = key; row = row; cto = cto; other = other; mate = mate; time = time } in CanExchange m x → P (leads (with_exchange m x)))
     → P (step m (Swap key other))
 swap_cases m key other P a b c d e = by (row_of m key) refl (row_of m other) refl
   where
@@ -107,10 +107,10 @@ issued_bounds : (clock : ℕ) (row : Row) (low high t : ℕ) → row.issued ≡ 
 issued_bounds clock row low high t issued h = subst (λ (w : Option ℕ). MatchOption w (is_due clock row.plan ≡ false) (λ cto. (is_due clock row.plan ≡ true) × (low ≤ cto) × (cto ≤ high))) issued h
 
 -- it is a good flight at another such time
-reissued_good : (m : State) (key id : Text) (row : Row) (t : ℕ) → row.plan.key ≡ key → row.governing ≡ Some id → (g : IsGoverned m.clock m.regs row id) → is_due m.clock row.plan ≡ true → g.eto ≤ t → t ≤ end_of g.measure.profile → IsGoodRow m.clock m.regs key (reissued row t)
+reissued_good : (m : State) (key id : Text) (row : Row) (t : ℕ) → row.plan.key ≡ key → row.governing ≡ Some id → (g : IsGoverned m.clock m.regs row id) → is_due m.clock row.plan ≡ true → g.eto ≤ t → t ≤ end_of g.measure.profile → IsGoodRow m.clock m.regs key (with_issued_time row t)
 reissued_good m key id row t keyed governs g due low high = record {
   keyed = keyed;
-  standing = subst (λ (w : Option Text). MatchOption w (IsFree m.clock m.regs (reissued row t)) (IsGoverned m.clock m.regs (reissued row t))) (sym governs)
+  standing = subst (λ (w : Option Text). MatchOption w (IsFree m.clock m.regs (with_issued_time row t)) (IsGoverned m.clock m.regs (with_issued_time row t))) (sym governs)
       (record { measure = g.measure; is_open = g.is_open; eto = g.eto; is_subject = g.is_subject; not_exempt = g.not_exempt; issued = (due, low, high) });
 }
 
@@ -127,7 +127,7 @@ put_row-good m key row good new = record {
 
 -- one of the two flights at the other's time
 half_good : (m : State) (key other id : Text) (row mate : Row) (cto time : ℕ) → IsGood m → row_of m key ≡ Some row → row.governing ≡ Some id → row.issued ≡ Some cto → mate.issued ≡ Some time
-    → (g : IsGoverned m.clock m.regs row id) → (h : IsGoverned m.clock m.regs mate id) → is_too_early m.clock (governing_list m row) key row time ≡ false → IsGoodRow m.clock m.regs key (reissued row time)
+    → (g : IsGoverned m.clock m.regs row id) → (h : IsGoverned m.clock m.regs mate id) → is_too_early m.clock (governing_list m row) key row time ≡ false → IsGoodRow m.clock m.regs key (with_issued_time row time)
 half_good m key other id row mate cto time good found governs issued mate_issued g h fits =
     let own = issued_bounds m.clock row g.eto (end_of g.measure.profile) cto issued g.issued in
     let its = issued_bounds m.clock mate h.eto (end_of h.measure.profile) time mate_issued h.issued in
@@ -137,13 +137,13 @@ half_good m key other id row mate cto time good found governs issued mate_issued
     (subst (λ e. e ≤ time) (eto_is m key id row good found governs g) low)
     (subst (λ (y : Measure). time ≤ end_of y.profile) (sym (same_measure m row mate id g h)) its.2)
 
-pub exchange-good : (m : State) (x : Exchange) → IsGood m → CanExchange m x → IsGood (exchanged m x)
+pub exchange-good : (m : State) (x : Exchange) → IsGood m → CanExchange m x → IsGood (with_exchange m x)
 exchange-good m x good can =
     let s = shared_by m x good can in
     let fits =
     or_parts (is_too_early m.clock (governing_list m x.row) x.key x.row x.time) (is_too_early m.clock (governing_list m x.mate) x.other x.mate x.cto) can.late_enough in
-    put_row-good (with_row m x.key (reissued x.row x.time)) x.other (reissued x.mate x.cto)
-    (put_row-good m x.key (reissued x.row x.time) good (half_good m x.key x.other s.id x.row x.mate x.cto x.time good can.here s.governs can.issued can.mate_issued s.first s.second fits.0))
+    put_row-good (with_row m x.key (with_issued_time x.row x.time)) x.other (with_issued_time x.mate x.cto)
+    (put_row-good m x.key (with_issued_time x.row x.time) good (half_good m x.key x.other s.id x.row x.mate x.cto x.time good can.here s.governs can.issued can.mate_issued s.first s.second fits.0))
     (half_good m x.other x.key s.id x.mate x.row x.time x.cto good can.there s.governs_mate can.mate_issued can.issued s.second s.first fits.1)
 
 pub swap-good : (m : State) (key other : Text) → IsGood m → KeepsGood m (step m (Swap key other))
@@ -152,36 +152,36 @@ swap-good m key other good =
     (λ row mate cto time can. exchange-good m (record { key = key; row = row; cto = cto; other = other; mate = mate; time = time }) good can)
 
 -- the row of any flight after an exchange
-pub row_exchanged : (m : State) (x : Exchange) (q : Text) → row_of (exchanged m x) q ≡ cond (is_eq (text_cmp q x.other)) (Some (reissued x.mate x.cto)) (cond (is_eq (text_cmp q x.key)) (Some (reissued x.row x.time)) (row_of m q))
+pub row_exchanged : (m : State) (x : Exchange) (q : Text) → row_of (with_exchange m x) q ≡ cond (is_eq (text_cmp q x.other)) (Some (with_issued_time x.mate x.cto)) (cond (is_eq (text_cmp q x.key)) (Some (with_issued_time x.row x.time)) (row_of m q))
 row_exchanged m x q =
-    at-put q x.other (reissued x.mate x.cto) (with_row m x.key (reissued x.row x.time)).rows
-    ∙ ap (λ (w : Option Row). cond (is_eq (text_cmp q x.other)) (Some (reissued x.mate x.cto)) w) (at-put q x.key (reissued x.row x.time) m.rows)
+    at-put q x.other (with_issued_time x.mate x.cto) (with_row m x.key (with_issued_time x.row x.time)).rows
+    ∙ ap (λ (w : Option Row). cond (is_eq (text_cmp q x.other)) (Some (with_issued_time x.mate x.cto)) w) (at-put q x.key (with_issued_time x.row x.time) m.rows)
 
 -- it is one of the two, or as it was
 abbrev pub RowAfter : State → Exchange → Text → Type 0
 RowAfter m x q =
-    ((q ≡ x.other) × (row_of (exchanged m x) q ≡ Some (reissued x.mate x.cto)))
-    ⊎ (((q ≡ x.key) × (row_of (exchanged m x) q ≡ Some (reissued x.row x.time)))
-    ⊎ ((is_eq (text_cmp q x.other) ≡ false) × (is_eq (text_cmp q x.key) ≡ false) × (row_of (exchanged m x) q ≡ row_of m q)))
+    ((q ≡ x.other) × (row_of (with_exchange m x) q ≡ Some (with_issued_time x.mate x.cto)))
+    ⊎ (((q ≡ x.key) × (row_of (with_exchange m x) q ≡ Some (with_issued_time x.row x.time)))
+    ⊎ ((is_eq (text_cmp q x.other) ≡ false) × (is_eq (text_cmp q x.key) ≡ false) × (row_of (with_exchange m x) q ≡ row_of m q)))
 
 pub exchanged_row : (m : State) (x : Exchange) (q : Text) → RowAfter m x q
 exchanged_row m x q = by (is_eq (text_cmp q x.other)) refl (is_eq (text_cmp q x.key)) refl
   where
     by : (a : Bool) → is_eq (text_cmp q x.other) ≡ a → (b : Bool) → is_eq (text_cmp q x.key) ≡ b → RowAfter m x q
-    by true s b t = inl (same_name q x.other s, row_exchanged m x q ∙ ap (λ c. cond c (Some (reissued x.mate x.cto)) (cond (is_eq (text_cmp q x.key)) (Some (reissued x.row x.time)) (row_of m q))) s)
-    by false s true t = inr (inl (same_name q x.key t, row_exchanged m x q ∙ (λ i. cond (s i) (Some (reissued x.mate x.cto)) (cond (t i) (Some (reissued x.row x.time)) (row_of m q)))))
-    by false s false t = inr (inr (s, t, row_exchanged m x q ∙ (λ i. cond (s i) (Some (reissued x.mate x.cto)) (cond (t i) (Some (reissued x.row x.time)) (row_of m q)))))
+    by true s b t = inl (same_name q x.other s, row_exchanged m x q ∙ ap (λ c. cond c (Some (with_issued_time x.mate x.cto)) (cond (is_eq (text_cmp q x.key)) (Some (with_issued_time x.row x.time)) (row_of m q))) s)
+    by false s true t = inr (inl (same_name q x.key t, row_exchanged m x q ∙ (λ i. cond (s i) (Some (with_issued_time x.mate x.cto)) (cond (t i) (Some (with_issued_time x.row x.time)) (row_of m q)))))
+    by false s false t = inr (inr (s, t, row_exchanged m x q ∙ (λ i. cond (s i) (Some (with_issued_time x.mate x.cto)) (cond (t i) (Some (with_issued_time x.row x.time)) (row_of m q)))))
 
 -- the list of both flights after an exchange
 pub exchanged_list : (m : State) (x : Exchange) (l : Listing) → IsGood m → (s : SharedBy m x) → list_of m s.id ≡ Some l
-    → list_of (exchanged m x) s.id ≡ Some (record l { flights = put (put l.flights x.key (Issued s.first.eto x.time)) x.other (Issued s.second.eto x.cto) })
+    → list_of (with_exchange m x) s.id ≡ Some (record l { flights = put (put l.flights x.key (Issued s.first.eto x.time)) x.other (Issued s.second.eto x.cto) })
 exchanged_list m x l good s is =
-    let one : State = with_row m x.key (reissued x.row x.time) in
+    let one : State = with_row m x.key (with_issued_time x.row x.time) in
     let half : Listing = record l { flights = put l.flights x.key (Issued s.first.eto x.time) } in
-    list_puts one x.other s.id (reissued x.mate x.cto) s.second.measure half (Issued s.second.eto x.cto) (sorted-put x.key (reissued x.row x.time) m.rows good.rows_in_order) s.second.is_open
-    (list_puts m x.key s.id (reissued x.row x.time) s.first.measure l (Issued s.first.eto x.time) good.rows_in_order s.first.is_open is
-    (governed_stance s.id s.first.measure (reissued x.row x.time) s.first.eto s.governs s.first.is_subject))
-    (governed_stance s.id s.second.measure (reissued x.mate x.cto) s.second.eto s.governs_mate s.second.is_subject)
+    list_puts one x.other s.id (with_issued_time x.mate x.cto) s.second.measure half (Issued s.second.eto x.cto) (sorted-put x.key (with_issued_time x.row x.time) m.rows good.rows_in_order) s.second.is_open
+    (list_puts m x.key s.id (with_issued_time x.row x.time) s.first.measure l (Issued s.first.eto x.time) good.rows_in_order s.first.is_open is
+    (governed_stance s.id s.first.measure (with_issued_time x.row x.time) s.first.eto s.governs s.first.is_subject))
+    (governed_stance s.id s.second.measure (with_issued_time x.mate x.cto) s.second.eto s.governs_mate s.second.is_subject)
 
 -- a flight that another regulation governs is forced, whatever its issue
 forced_stance : (id : Text) (measure : Measure) (row : Row) → is_governed_by id row ≡ false → stance_in id measure row ≡ option_map (λ (eto : ℕ). Forced eto) (subject row.plan (regulation id measure))
@@ -202,26 +202,26 @@ list_stays m key id old new sorted found same = by (measure_of m id) refl
         ∙ sym is
 
 -- a flight with another issue, in the lists that do not govern it
-unmoved : (id : Text) (row : Row) (t : ℕ) → is_governed_by id row ≡ false → (measure : Measure) → stance_in id measure (reissued row t) ≡ stance_in id measure row
-unmoved id row t h measure = forced_stance id measure (reissued row t) h ∙ sym (forced_stance id measure row h)
+unmoved : (id : Text) (row : Row) (t : ℕ) → is_governed_by id row ≡ false → (measure : Measure) → stance_in id measure (with_issued_time row t) ≡ stance_in id measure row
+unmoved id row t h measure = forced_stance id measure (with_issued_time row t) h ∙ sym (forced_stance id measure row h)
 
 not_governed : (id by : Text) (row : Row) → row.governing ≡ Some by → same_text id by ≡ false → is_governed_by id row ≡ false
 not_governed id by row governs other = ap (λ (w : Option Text). option_map_or (same_text id) w false) governs ∙ other
 
 -- the other lists stay at an exchange
-pub other_list : (m : State) (x : Exchange) (id : Text) → IsGood m → CanExchange m x → is_governed_by id x.row ≡ false → list_of (exchanged m x) id ≡ list_of m id
+pub other_list : (m : State) (x : Exchange) (id : Text) → IsGood m → CanExchange m x → is_governed_by id x.row ≡ false → list_of (with_exchange m x) id ≡ list_of m id
 other_list m x id good can off =
     list_second (is_eq (text_cmp x.other x.key)) refl
-    ∙ list_stays m x.key id x.row (reissued x.row x.time) good.rows_in_order can.here (unmoved id x.row x.time off)
+    ∙ list_stays m x.key id x.row (with_issued_time x.row x.time) good.rows_in_order can.here (unmoved id x.row x.time off)
   where
     s : SharedBy m x
     s = shared_by m x good can
 
     one : State
-    one = with_row m x.key (reissued x.row x.time)
+    one = with_row m x.key (with_issued_time x.row x.time)
 
     sorted : AreInOrder one.rows
-    sorted = sorted-put x.key (reissued x.row x.time) m.rows good.rows_in_order
+    sorted = sorted-put x.key (with_issued_time x.row x.time) m.rows good.rows_in_order
 
     apart_id : same_text id s.id ≡ false
     apart_id = sym (ap (λ (w : Option Text). option_map_or (same_text id) w false) s.governs) ∙ off
@@ -229,15 +229,15 @@ other_list m x id good can off =
     off_mate : is_governed_by id x.mate ≡ false
     off_mate = not_governed id s.id x.mate s.governs_mate apart_id
 
-    list_second : (b : Bool) → is_eq (text_cmp x.other x.key) ≡ b → list_of (exchanged m x) id ≡ list_of one id
+    list_second : (b : Bool) → is_eq (text_cmp x.other x.key) ≡ b → list_of (with_exchange m x) id ≡ list_of one id
     list_second true e =
         let same : x.other ≡ x.key = same_name x.other x.key e in
         let both : Some x.mate ≡ Some x.row = sym can.there ∙ ap (row_of m) same ∙ can.here in
         let rows : x.mate ≡ x.row = cc in
-        let there : row_of one x.other ≡ Some (reissued x.row x.time) = at-put x.other x.key (reissued x.row x.time) m.rows ∙ ap (λ b. cond b (Some (reissued x.row x.time)) (row_of m x.other)) e in
-        list_stays one x.other id (reissued x.row x.time) (reissued x.mate x.cto) sorted there
-        (λ measure. forced_stance id measure (reissued x.mate x.cto) off_mate ∙ ap (λ (r : Row). option_map (λ (eto : ℕ). Forced eto) (subject r.plan (regulation id measure))) rows
-        ∙ sym (forced_stance id measure (reissued x.row x.time) off))
+        let there : row_of one x.other ≡ Some (with_issued_time x.row x.time) = at-put x.other x.key (with_issued_time x.row x.time) m.rows ∙ ap (λ b. cond b (Some (with_issued_time x.row x.time)) (row_of m x.other)) e in
+        list_stays one x.other id (with_issued_time x.row x.time) (with_issued_time x.mate x.cto) sorted there
+        (λ measure. forced_stance id measure (with_issued_time x.mate x.cto) off_mate ∙ ap (λ (r : Row). option_map (λ (eto : ℕ). Forced eto) (subject r.plan (regulation id measure))) rows
+        ∙ sym (forced_stance id measure (with_issued_time x.row x.time) off))
     list_second false e =
-        let there : row_of one x.other ≡ Some x.mate = at-put_other x.other x.key (reissued x.row x.time) m.rows e ∙ can.there in
-        list_stays one x.other id x.mate (reissued x.mate x.cto) sorted there (unmoved id x.mate x.cto off_mate)
+        let there : row_of one x.other ≡ Some x.mate = at-put_other x.other x.key (with_issued_time x.row x.time) m.rows e ∙ can.there in
+        list_stays one x.other id x.mate (with_issued_time x.mate x.cto) sorted there (unmoved id x.mate x.cto off_mate)

@@ -17,8 +17,8 @@ use Rattle.casa_flight.specs.declared.state.State.{State}
 use Rattle.casa_filing.specs.Text.{Text, at_name, put, without}
 use Rattle.casa_flight.specs.State.{is_governed_by}
 use Rattle.casa_flight.specs.Assignment.{is_blocked, is_from, is_taken, place_after, place_from, assigned_after, assignment}
-use Rattle.casa_flight.specs.Listing.{Listing, listing, list_of, stance, stance_in, in_order, is_before, competitor, competitors, issued_cto, occupancy, places, stance_of}
-use Rattle.casa_flight.specs.Steps.{Exchange, exchanged, after, next}
+use Rattle.casa_flight.specs.Listing.{Listing, listing, list_of, stance, stance_in, sorted_by, is_before, competitor, competitors, issued_cto, occupancy, places, stance_of}
+use Rattle.casa_flight.specs.Steps.{Exchange, with_exchange, after, next}
 use Rattle.casa_flight.specs.Good.{AreInOrder, IsGood}
 use Rattle.casa_filing.proofs.Entries.{text_cmp, same_name, at-put_same, at-put_other, at-without_other, sorted-put, sorted-remove, other_way}
 use Rattle.casa_laws.proofs.Kept.{kept_by, sorted-kept, sorted-kept_by, at-kept_by, at-without_same, same_entries, values_kept}
@@ -158,7 +158,7 @@ places_exchanged l a b e f c d sorted here there =
 
     comps : competitors (record l { flights = es }) ≡ competitors l
     comps =
-        ap (in_order is_before)
+        ap (sorted_by is_before)
         (values_kept competitor es
         ∙ ap (λ (fs : List (Text × Comp)). map (λ (z : Text × Comp). z.1) fs)
         (same_entries (kept_by competitor es) (kept_by competitor l.flights) (sorted-kept_by competitor es ordered) (sorted-kept_by competitor l.flights sorted)
@@ -166,7 +166,7 @@ places_exchanged l a b e f c d sorted here there =
         ∙ sym (values_kept competitor l.flights))
 
 -- nor does a state's exchange move anybody, in any list
-exchange_places : (m : State) (x : Exchange) (id : Text) → IsGood m → CanExchange m x → option_map places (list_of (exchanged m x) id) ≡ option_map places (list_of m id)
+exchange_places : (m : State) (x : Exchange) (id : Text) → IsGood m → CanExchange m x → option_map places (list_of (with_exchange m x) id) ≡ option_map places (list_of m id)
 exchange_places m x id good can = by (is_governed_by id x.row) refl
   where
     s : SharedBy m x
@@ -186,19 +186,19 @@ exchange_places m x id good can = by (is_governed_by id x.row) refl
         ap (λ (y : Measure). stance_of (listing m.rows s.id y) x.other) (same_measure m x.row x.mate s.id s.first s.second)
         ∙ governed_stands m x.other s.id x.mate good can.there s.governs_mate s.second ∙ ap (λ (w : Option ℕ). Some (stance true w s.second.eto)) can.mate_issued
 
-    own : option_map places (list_of (exchanged m x) s.id) ≡ option_map places (list_of m s.id)
+    own : option_map places (list_of (with_exchange m x) s.id) ≡ option_map places (list_of m s.id)
     own =
         ap (option_map places) (exchanged_list m x l good s is)
         ∙ ap (λ (ps : List Assigned). Some ps)
         (places_exchanged l x.key x.other s.first.eto s.second.eto x.cto x.time (sorted-kept (stance_in s.id s.first.measure) m.rows good.rows_in_order) here there)
         ∙ sym (ap (option_map places) is)
 
-    by : (b : Bool) → is_governed_by id x.row ≡ b → option_map places (list_of (exchanged m x) id) ≡ option_map places (list_of m id)
+    by : (b : Bool) → is_governed_by id x.row ≡ b → option_map places (list_of (with_exchange m x) id) ≡ option_map places (list_of m id)
     by false off = ap (option_map places) (other_list m x id good can off)
     by true its =
         let both : Some s.id ≡ Some id = sym s.governs ∙ governed_name id x.row.governing its in
         let same : s.id ≡ id = cc in
-        subst (λ (q : Text). option_map places (list_of (exchanged m x) q) ≡ option_map places (list_of m q)) same own
+        subst (λ (q : Text). option_map places (list_of (with_exchange m x) q) ≡ option_map places (list_of m q)) same own
 
 -- nor does a call for an exchange
 pub swap_places : (m : State) (key other id : Text) → IsGood m → option_map places (list_of (next m (Swap key other)) id) ≡ option_map places (list_of m id)

@@ -32,7 +32,7 @@ ghost use Rattle.casa_flight.specs.Steps.{refused, step, next, flights_over};
 ghost use Rattle.casa_flight.specs.Replies.{reply, row_in, is_row_before, list_rows};
 ghost use Rattle.casa_filing.specs.declared.regulation.Regulation.{Regulation};
 ghost use Rattle.casa_flight.specs.declared.reply.ListRow.{ListRow};
-ghost use Rattle.casa_flight.specs.Messages.{messages_in, flight_of, CanCome, is_silent, Tells};
+ghost use Rattle.casa_flight.specs.Messages.{messages_in, flight_of, CanCome, is_silent, TellsChange};
 ghost use Rattle.casa_flight.specs.Messages.{Passes};
 ghost use Rattle.casa_flight.specs.IssuedTimes.{may_free, may_serve, IsTakenIn, BecomesIssued, issue_in_turn};
 ghost use Rattle.casa_filing.specs.PlanFaults.{plan_fault};
@@ -217,9 +217,9 @@ pub fn messages_of_calls()
     ensures kinds { (m : State) (call : Call) → IsGood m →
         All (CanCome m call) (messages_in (reply m call)) }
     ensures tells { (m : State) (call : Call) → IsGood m →
-        All (Tells m (next m call)) (messages_in (reply m call)) }
+        All (TellsChange m (next m call)) (messages_in (reply m call)) }
     ensures comes { (m : State) (call : Call) (message : Message) → IsGood m →
-        Tells m (next m call) message → Contains (messages_in (reply m call)) message }
+        TellsChange m (next m call) message → Contains (messages_in (reply m call)) message }
     ensures order { (m : State) (call : Call) → IsGood m →
         IsStrictlySortedBy (slice_cmp nat_cmp) (map flight_of (messages_in (reply m call))) }
 {}

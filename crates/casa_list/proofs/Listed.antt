@@ -11,7 +11,7 @@ use Rattle.casa_flight.specs.declared.comp.Comp.{Comp}
 use Rattle.casa_flight.specs.declared.row.Stance.{Stance}
 use Rattle.casa_flight.specs.declared.row.Stance.TheVariants.{Competing, Issued, Forced}
 use Rattle.casa_filing.specs.Text.{Text, put}
-use Rattle.casa_flight.specs.Listing.{Listing, put_by, issued_cto, occupancy}
+use Rattle.casa_flight.specs.Listing.{Listing, insert_sorted, issued_cto, occupancy}
 use Rattle.casa_flight.proofs.PutBy.{put_first, put_later}
 use Rattle.casa_filing.proofs.Entries.{text_cmp}
 use Rattle.casa_slots.specs.Blocked.{counts, issued_counts, time_of, times_in}
@@ -44,13 +44,13 @@ counts-put [] kind k v t is es h = refl
 counts-put (w ∷ ws) kind k v t is es h = λ i. count_by-put (λ u. is_within u w) kind k v t is es h i ∷ counts-put ws kind k v t is es h i
 
 -- the issued flights in another order count the same
-count_by-put_by : (p : ℕ → Bool) (f : Comp × Standing) (gs : List (Comp × Standing)) → count_by p (times_in (put_by is_flight_before f gs)) ≡ count_by p (times_in (f ∷ gs))
+count_by-put_by : (p : ℕ → Bool) (f : Comp × Standing) (gs : List (Comp × Standing)) → count_by p (times_in (insert_sorted is_flight_before f gs)) ≡ count_by p (times_in (f ∷ gs))
 count_by-put_by p f [] = refl
 count_by-put_by p f (g ∷ gs) =
-    elim (is_flight_before g f) as (λ b. is_flight_before g f ≡ b → count_by p (times_in (put_by is_flight_before f (g ∷ gs))) ≡ count_by p (times_in (f ∷ g ∷ gs))) [
+    elim (is_flight_before g f) as (λ b. is_flight_before g f ≡ b → count_by p (times_in (insert_sorted is_flight_before f (g ∷ gs))) ≡ count_by p (times_in (f ∷ g ∷ gs))) [
       | true ↦ λ e.
           ap (λ (hs : List (Comp × Standing)). count_by p (times_in hs)) (put_later is_flight_before f g gs e)
-          ∙ front (time_of g.1) (times_in (put_by is_flight_before f gs)) (times_in (f ∷ gs)) (count_by-put_by p f gs)
+          ∙ front (time_of g.1) (times_in (insert_sorted is_flight_before f gs)) (times_in (f ∷ gs)) (count_by-put_by p f gs)
           ∙ swap_options (time_of g.1) (time_of f.1) (times_in gs)
       | false ↦ λ e. ap (λ (hs : List (Comp × Standing)). count_by p (times_in hs)) (put_first is_flight_before f g gs e)
     ] refl
@@ -75,8 +75,8 @@ count_by-both p ts us vs e =
 count_by-put_all : (p : ℕ → Bool) (gs fs : List (Comp × Standing)) → count_by p (times_in (put_all (λ (f : Comp × Standing). f.0) gs fs)) ≡ count_by p (times_in gs ++ times_in fs)
 count_by-put_all p gs [] = ap (count_by p) (sym (append-nil (times_in gs)))
 count_by-put_all p gs (f ∷ fs) =
-    count_by-put_all p (put_by is_flight_before f gs) fs
-    ∙ count_by-both p (times_in (put_by is_flight_before f gs)) (times_in (f ∷ gs)) (times_in fs) (count_by-put_by p f gs)
+    count_by-put_all p (insert_sorted is_flight_before f gs) fs
+    ∙ count_by-both p (times_in (insert_sorted is_flight_before f gs)) (times_in (f ∷ gs)) (times_in fs) (count_by-put_by p f gs)
     ∙ moved (time_of f.1)
   where
     moved : (o : Option ℕ) → count_by p (cons_option o (times_in gs) ++ times_in fs) ≡ count_by p (times_in gs ++ cons_option o (times_in fs))

@@ -4,7 +4,7 @@ use Rattle.std.specs.List.{All, fold, insert, remove, position, position_or_len}
 use Rattle.std.specs.List.Sorted.{IsSortedBy}
 use Rattle.std.proofs.lemmas.List.{length-map, get_or-map}
 use Rattle.std.proofs.lemmas.List.Elements.{All-nil, All-head, All-tail}
-use Rattle.casa_flight.specs.Listing.{in_order, put_by}
+use Rattle.casa_flight.specs.Listing.{sorted_by, insert_sorted}
 use Rattle.casa_slots.proofs.Found.{index_is}
 use Rattle.casa_list.proofs.Seated.{All-insert}
 
@@ -27,29 +27,29 @@ remove-map f (y ∷ xs) (suc i) = ap (λ ys. f y ∷ ys) (remove-map f xs i)
 pub first-map : {X Y : Type 0} (f : X → Y) (p : Y → Bool) (xs : List X) → unwrap_or (position p (map f xs)) (length (map f xs)) ≡ unwrap_or (position (λ x. p (f x)) xs) (length xs)
 first-map f p xs = index_is p (map f xs) ∙ position-map f p xs ∙ sym (index_is (λ x. p (f x)) xs)
 
-pub put_by-map : {X Y : Type 0} (f : X → Y) (before : Y → Y → Bool) (x : X) (xs : List X) → put_by before (f x) (map f xs) ≡ map f (put_by (λ a b. before (f a) (f b)) x xs)
+pub put_by-map : {X Y : Type 0} (f : X → Y) (before : Y → Y → Bool) (x : X) (xs : List X) → insert_sorted before (f x) (map f xs) ≡ map f (insert_sorted (λ a b. before (f a) (f b)) x xs)
 put_by-map f before x xs =
     ap (λ n. insert (map f xs) n (f x)) (first-map f (λ y. not (before y (f x))) xs)
     ∙ insert-map f xs (unwrap_or (position (λ y. not (before (f y) (f x))) xs) (length xs)) x
 
 put_all-map : {X Y : Type 0} (f : X → Y) (before : Y → Y → Bool) (zs xs : List X) →
-    fold (λ ys y. put_by before y ys) (map f zs) (map f xs) ≡ map f (fold (λ ys x. put_by (λ a b. before (f a) (f b)) x ys) zs xs)
+    fold (λ ys y. insert_sorted before y ys) (map f zs) (map f xs) ≡ map f (fold (λ ys x. insert_sorted (λ a b. before (f a) (f b)) x ys) zs xs)
 put_all-map f before zs [] = refl
 put_all-map {X} {Y} f before zs (x ∷ xs) =
-    ap (λ ws. fold (λ (ys : List Y) (y : Y). put_by before y ys) ws (map f xs)) (put_by-map f before x zs)
-    ∙ put_all-map f before (put_by (λ a b. before (f a) (f b)) x zs) xs
+    ap (λ ws. fold (λ (ys : List Y) (y : Y). insert_sorted before y ys) ws (map f xs)) (put_by-map f before x zs)
+    ∙ put_all-map f before (insert_sorted (λ a b. before (f a) (f b)) x zs) xs
 
-pub in_order-map : {X Y : Type 0} (f : X → Y) (before : Y → Y → Bool) (xs : List X) → in_order before (map f xs) ≡ map f (in_order (λ a b. before (f a) (f b)) xs)
+pub in_order-map : {X Y : Type 0} (f : X → Y) (before : Y → Y → Bool) (xs : List X) → sorted_by before (map f xs) ≡ map f (sorted_by (λ a b. before (f a) (f b)) xs)
 in_order-map f before xs = put_all-map f before [] xs
 
 -- what holds of each holds of each in order
-all_put : {X : Type 0} (P : X → Type 0) (before : X → X → Bool) (zs xs : List X) → All P zs → All P xs → All P (fold (λ ys x. put_by before x ys) zs xs)
+all_put : {X : Type 0} (P : X → Type 0) (before : X → X → Bool) (zs xs : List X) → All P zs → All P xs → All P (fold (λ ys x. insert_sorted before x ys) zs xs)
 all_put P before zs [] h each = h
 all_put {X} P before zs (x ∷ xs) h each =
-    all_put P before (put_by before x zs) xs
+    all_put P before (insert_sorted before x zs) xs
     (All-insert P zs (unwrap_or (position (λ (y : X). not (before y x)) zs) (length zs)) x (All-head P x xs each) h) (All-tail P x xs each)
 
-pub All-in_order : {X : Type 0} (P : X → Type 0) (before : X → X → Bool) (xs : List X) → All P xs → All P (in_order before xs)
+pub All-in_order : {X : Type 0} (P : X → Type 0) (before : X → X → Bool) (xs : List X) → All P xs → All P (sorted_by before xs)
 All-in_order P before xs each = all_put P before [] xs (All-nil P) each
 
 -- what is in order is so read in another way

@@ -5,7 +5,7 @@ use Rattle.std.proofs.lemmas.List.{length-map, length-take, take-append-drop}
 use Rattle.casa_grid.specs.declared.slot.Window.{Window}
 use Rattle.casa_flight.specs.declared.comp.Comp.{Comp}
 use Rattle.casa_flight.specs.declared.comp.Assigned.{Assigned}
-use Rattle.casa_flight.specs.Listing.{put_by}
+use Rattle.casa_flight.specs.Listing.{insert_sorted}
 use Rattle.casa_slots.specs.declared.standing.Standing.{Standing}
 use Rattle.casa_list.specs.Standings.{is_flight_before}
 use Rattle.casa_slots.specs.Walk.{place_low, low_after, low_behind, count_below, walked, followed, walked_from_slot, comps_in}
@@ -48,7 +48,7 @@ many_out ws bs i xs ys is =
     let size : length ys ≡ length (take i xs) + length (comps_in (drop (i + 1) xs)) = ap length is ∙ length-followed ws bs (take i xs) (comps_in (drop (i + 1) xs)) in
     omega (arith, size, length-comps (drop (i + 1) xs), parts i xs, length-drop (i + 1) xs, length-drop i xs)
 
-pub many_held : (f : Comp × Standing) (fs gs : List (Comp × Standing)) → fs ≡ put_by is_flight_before f gs → length fs ≡ length gs + 1
+pub many_held : (f : Comp × Standing) (fs gs : List (Comp × Standing)) → fs ≡ insert_sorted is_flight_before f gs → length fs ≡ length gs + 1
 many_held f fs gs is =
     let size : length fs ≡ suc (length gs) = ap length is ∙ length-put (λ (g : Comp × Standing). g.0) f gs in
     omega (arith, size)

@@ -8,14 +8,14 @@ ghost use Rattle.casa_flight.specs.declared.comp.Assigned.{Assigned};
 ghost use Rattle.casa_flight.specs.declared.row.Stance.{Stance};
 ghost use Rattle.casa_filing.specs.Text.{Text};
 ghost use Rattle.casa_flight.specs.Good.{AreInOrder};
-ghost use Rattle.casa_flight.specs.Listing.{in_order, is_before, put_by, competitor};
+ghost use Rattle.casa_flight.specs.Listing.{sorted_by, is_before, insert_sorted, competitor};
 ghost use Rattle.casa_slots.specs.declared.standing.Standing.{Standing};
 ghost use Rattle.casa_list.specs.Governing.{pre_in};
 ghost use Rattle.casa_slots.specs.Seat.{HoldsTime, issued_in};
 ghost use Rattle.casa_list.specs.Standings.{is_flight_before, issued_flight, index_in};
 ghost use Rattle.casa_slots.specs.Walk.{place_low, low_behind, walked, followed, comps_in, FollowFirst, PlacesRise, FollowFrom, walked_from_slot};
 
-use crate::fresh::{competitors_of, issued_of};
+use crate::build::{competitors_of, issued_of};
 use crate::order::index_of;
 use crate::stances::Stances;
 use crate::standing::Entry;
@@ -55,8 +55,8 @@ impl Governed {
     /// for them.
     pub fn of(alloc: Global, flights: &Stances) -> Result<Governed, AllocError>
         ensures competitors { IfOk result (λ governed. comps_in governed.competitors ≡
-            in_order is_before (filter_map (λ (e : Text × Stance). competitor e.0 e.1) flights.now)) }
-        ensures issued { IfOk result (λ governed. governed.issued ≡ in_order is_flight_before
+            sorted_by is_before (filter_map (λ (e : Text × Stance). competitor e.0 e.1) flights.now)) }
+        ensures issued { IfOk result (λ governed. governed.issued ≡ sorted_by is_flight_before
             (filter_map (λ (e : Text × Stance). issued_flight e.0 e.1) flights.now)) }
         ensures ordered { AreInOrder flights.now }
     {
@@ -211,7 +211,7 @@ impl Governed {
         requires room { length self.old.competitors + length self.old.issued < self.old.room }
         requires sorted { IsSortedBy is_flight_before self.old.issued }
         ensures competitors { self.new.competitors ≡ self.old.competitors }
-        ensures issued { self.new.issued ≡ put_by is_flight_before (comp, Standing.Issued cto) self.old.issued }
+        ensures issued { self.new.issued ≡ insert_sorted is_flight_before (comp, Standing.Issued cto) self.old.issued }
     {
         let at = index_of(self.issued(), &comp);
         self.seats
@@ -249,7 +249,7 @@ impl Governed {
         requires within { at < length self.old.competitors }
         requires sorted { IsSortedBy is_flight_before self.old.issued }
         ensures competitors { self.new.competitors ≡ remove self.old.competitors at }
-        ensures issued { self.new.issued ≡ put_by is_flight_before (comp, Standing.Issued cto) self.old.issued }
+        ensures issued { self.new.issued ≡ insert_sorted is_flight_before (comp, Standing.Issued cto) self.old.issued }
     {
         self.remove(at);
         self.put_issued(comp, cto);

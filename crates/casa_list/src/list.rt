@@ -11,9 +11,9 @@ ghost use Rattle.casa_flight.specs.Entry.{with_competitor};
 ghost use Rattle.casa_flight.specs.Good.{AreInOrder};
 ghost use Rattle.casa_slots.specs.Walk.{IsWithin};
 ghost use Rattle.casa_flight.specs.IssuedTimes.{with_issued};
-ghost use Rattle.casa_list.specs.Standings.{standings, count_governed, governed_place, governed_cto, issue_cto, is_forced, competing_eto, forced_eto, issued_times, can_exchange, exchanged};
+ghost use Rattle.casa_list.specs.Standings.{standings, count_governed, governed_place, governed_cto, issue_cto, is_forced, competing_eto, forced_eto, issued_times, can_exchange, with_exchange};
 
-use crate::fresh::forced_of;
+use crate::build::forced_of;
 use crate::governed::Governed;
 use crate::member::Member;
 use crate::order::{forced_entry, free_flight, index_of, put_forced, take_forced};
@@ -373,7 +373,7 @@ impl SlotList {
     /// Nobody else moves, and no memory is taken. A flight and itself exchange nothing, under the same conditions.
     pub fn swap(&mut self, key: &Key, other: &Key) -> bool
         ensures answer { result ≡ can_exchange self.old key.now other.now }
-        ensures exchanged { self.new ≡ (if result then exchanged self.old key.now other.now else self.old) }
+        ensures exchanged { self.new ≡ (if result then with_exchange self.old key.now other.now else self.old) }
         ensures nobody_moves { places self.new ≡ places self.old }
     {
         let Some(one) = self.issued_at(key) else {

@@ -3,7 +3,7 @@
 ghost use Rattle.std.specs.Prelude.{◌≡◌, ◌∷◌, [], MatchOption};
 ghost use Rattle.std.specs.Iterator.{YieldsFirstBy, item_count};
 ghost use Rattle.std.specs.Option.{option_copied};
-ghost use Rattle.casa_named.specs.Overlaid.{overlaid, present};
+ghost use Rattle.casa_named.specs.Overlaid.{overlay, some_values};
 
 use crate::entries::Entries;
 use crate::few::Few;
@@ -24,11 +24,11 @@ pub struct Overlaid<'a, Kind, V> {
 impl<'a, Kind, V> Model for Overlaid<'a, Kind, V> {
     ghost use Rattle.std.specs.Prelude.{List, Option};
     ghost use Rattle.casa_filing.specs.Text.{Text};
-    ghost use Rattle.casa_named.specs.Overlaid.{overlaid, present};
+    ghost use Rattle.casa_named.specs.Overlaid.{overlay, some_values};
 
     ghost Value = { List (Text × Option V) };
 
-    ghost view = { λ s. overlaid s.changes (present s.values) };
+    ghost view = { λ s. overlay s.changes (some_values s.values) };
 }
 
 impl<'a, Kind, V> Overlaid<'a, Kind, V> {
@@ -37,7 +37,7 @@ impl<'a, Kind, V> Overlaid<'a, Kind, V> {
         values: &'a BTreeMap<Name<Kind>, V>,
         changes: &'a BTreeMap<Name<Kind>, Option<V>>,
     ) -> Overlaid<'a, Kind, V>
-        ensures { result ≡ overlaid changes.now.entries (present values.now.entries) }
+        ensures { result ≡ overlay changes.now.entries (some_values values.now.entries) }
     {
         Overlaid {
             values: Entries::of(values),

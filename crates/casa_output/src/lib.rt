@@ -3,7 +3,7 @@
 
 ghost use Rattle.std.specs.Prelude.{◌≡◌, ℕ, ◌+◌, ◌<◌, length, take, IfOk, IfErr, OnOk};
 ghost use Rattle.std.specs.Io.KnownBytes.{Appends};
-ghost use Rattle.casa_output.specs.Sending.{counted};
+ghost use Rattle.casa_output.specs.Sending.{saturating_count};
 
 #[cfg(test)]
 mod tests;
@@ -24,10 +24,10 @@ pub struct Unsent {
 /// bytes are written.
 pub fn send<W: Write>(writer: &mut W, bytes: &[u8], written: u64) -> Result<u64, Unsent>
     ensures ok { OnOk result (Appends (W.contents writer.old) (W.contents writer.new) bytes.now) }
-    ensures count { IfOk result (λ n. n ≡ counted (written + length bytes.now)) }
+    ensures count { IfOk result (λ n. n ≡ saturating_count (written + length bytes.now)) }
     ensures err { IfErr result (λ e. (k : ℕ) × (k < length bytes.now) ×
         Appends (W.contents writer.old) (W.contents writer.new) (take k bytes.now) ×
-        (e.written ≡ counted (written + k))) }
+        (e.written ≡ saturating_count (written + k))) }
 {
     let mut at = 0;
     let mut count = written;

@@ -7,7 +7,7 @@ use Rattle.std.specs.List.Sorted.{IsStrictlySortedBy}
 use Rattle.std.specs.Map.{keys_of}
 use Rattle.std.proofs.lemmas.Cmp.{nat_list_cmp_total}
 use Rattle.casa_filing.specs.Text.{Text, put}
-use Rattle.casa_flight.specs.Listing.{kept}
+use Rattle.casa_flight.specs.Listing.{filter_map_values}
 use Rattle.casa_flight.specs.Good.{AreInOrder}
 use Rattle.casa_filing.proofs.Entries.{text_cmp}
 use Rattle.casa_laws.proofs.Kept.{put_all, sorted-kept}
@@ -40,8 +40,8 @@ put_all-append {X} es (e ∷ fs) h =
 pub put_all-none : {X : Type 0} (es : List (Text × X)) → AreInOrder es → put_all [] es ≡ es
 put_all-none es h = put_all-append [] es h
 
-pub put_all-kept : {X Y : Type 0} (f : X → Option Y) (es : List (Text × X)) → AreInOrder es → put_all [] (kept f es) ≡ kept f es
-put_all-kept f es h = put_all-none (kept f es) (sorted-kept f es h)
+pub put_all-kept : {X Y : Type 0} (f : X → Option Y) (es : List (Text × X)) → AreInOrder es → put_all [] (filter_map_values f es) ≡ filter_map_values f es
+put_all-kept f es h = put_all-none (filter_map_values f es) (sorted-kept f es h)
 
 keys_of-each : {X Y : Type 0} (g : Text × X → Y) (es : List (Text × X)) → keys_of (map (λ (e : Text × X). (e.0, g e)) es) ≡ keys_of es
 keys_of-each g [] = refl

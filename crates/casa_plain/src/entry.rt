@@ -6,7 +6,7 @@ ghost use Rattle.std.specs.List.{filter_map};
 ghost use Rattle.casa_flight.specs.State.{row_of};
 ghost use Rattle.casa_flight.specs.Listing.{listing, list_of, governing_list};
 ghost use Rattle.casa_flight.specs.Entry.{situation, offer_in, offer, offers, choice};
-ghost use Rattle.casa_flight.specs.Entry.{entered, enter, reenter, enter_all};
+ghost use Rattle.casa_flight.specs.Entry.{row_after_entry, enter, reenter, enter_all};
 
 use crate::plain::Plain;
 use crate::plain_list::PlainList;
@@ -126,8 +126,13 @@ impl Plain {
     }
 
     /// An ungoverned flight as it stands after it entered.
-    pub(crate) fn entered(&self, alloc: Global, key: Key, row: Row) -> Result<Row, AllocError>
-        ensures { IfOk result (λ new. new ≡ entered (situation self.now) key row) }
+    pub(crate) fn row_after_entry(
+        &self,
+        alloc: Global,
+        key: Key,
+        row: Row,
+    ) -> Result<Row, AllocError>
+        ensures { IfOk result (λ new. new ≡ row_after_entry (situation self.now) key row) }
     {
         if row.is_exempt() || row.plan.is_gone(self.clock()) {
             return Ok(row);
@@ -142,7 +147,7 @@ impl Plain {
     pub(crate) fn enter(&mut self, alloc: Global, key: Key, row: Row) -> Result<(), AllocError>
         ensures { OnOk result (self.new ≡ enter self.old key row) }
     {
-        let row = self.entered(alloc, key, row)?;
+        let row = self.row_after_entry(alloc, key, row)?;
         self.put_row(key, row)
     }
 

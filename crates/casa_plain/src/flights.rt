@@ -7,7 +7,7 @@ ghost use Rattle.casa_flight.specs.declared.row.Row.{Row};
 ghost use Rattle.casa_filing.specs.Text.{Text};
 ghost use Rattle.casa_filing.specs.Subject.{regulation};
 ghost use Rattle.casa_flight.specs.State.{is_governed_by};
-ghost use Rattle.casa_flight.specs.Steps.{flights_over, freed, may_compete};
+ghost use Rattle.casa_flight.specs.Steps.{flights_over, ungoverned_if, may_compete};
 ghost use Rattle.casa_plain.specs.Flights.{flight_if};
 
 use casa_flight::{Comp, Key, Measure, RegId, Regulation, Row, sort_comps, subject};
@@ -99,8 +99,8 @@ pub fn governed_flights(
 }
 
 /// The flight free of its regulation, if it is to be freed.
-fn freed(is_freed: bool, row: &Row) -> Result<Row, AllocError>
-    ensures { IfOk result (λ free. free ≡ freed is_freed row.now) }
+fn ungoverned_if(is_freed: bool, row: &Row) -> Result<Row, AllocError>
+    ensures { IfOk result (λ free. free ≡ ungoverned_if is_freed row.now) }
 {
     if is_freed {
         return row.ungoverned();
@@ -115,11 +115,11 @@ pub fn freed_rows(
     id: RegId,
 ) -> Result<BTreeMap<Key, Row>, AllocError>
     ensures { IfOk result (λ all. all.entries ≡
-        map (λ (e : Text × Row). (e.0, freed (is_governed_by id e.1) e.1)) rows.now.entries) }
+        map (λ (e : Text × Row). (e.0, ungoverned_if (is_governed_by id e.1) e.1)) rows.now.entries) }
 {
     let mut all = BTreeMap::new(alloc);
     for (key, row) in rows.iter() {
-        all.insert(*key, freed(row.is_governed_by(id), row)?)?;
+        all.insert(*key, ungoverned_if(row.is_governed_by(id), row)?)?;
     }
     Ok(all)
 }

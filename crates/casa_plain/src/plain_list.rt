@@ -7,7 +7,7 @@ ghost use Rattle.casa_time.specs.Moment.{last_moment};
 ghost use Rattle.casa_grid.specs.Slots.{slots, window_of};
 ghost use Rattle.casa_flight.specs.declared.row.Stance.{Stance};
 ghost use Rattle.casa_filing.specs.Text.{Text};
-ghost use Rattle.casa_flight.specs.Listing.{listing, kept, stance_in, competitor, issued_cto, in_order, is_before};
+ghost use Rattle.casa_flight.specs.Listing.{listing, filter_map_values, stance_in, competitor, issued_cto, sorted_by, is_before};
 ghost use Rattle.casa_flight.specs.Listing.{places, place_of, stance_of, cto_as, cto_of, eto_as, delay_in};
 ghost use Rattle.casa_flight.specs.Entry.{with_competitor};
 
@@ -43,7 +43,7 @@ fn stances(
     id: RegId,
     measure: &Measure,
 ) -> Result<BTreeMap<Key, Stance>, AllocError>
-    ensures { IfOk result (λ flights. flights.entries ≡ kept (stance_in id measure.now) rows.now.entries) }
+    ensures { IfOk result (λ flights. flights.entries ≡ filter_map_values (stance_in id measure.now) rows.now.entries) }
 {
     let mut flights = BTreeMap::new(alloc);
     for (key, row) in rows.iter() {
@@ -67,7 +67,7 @@ fn competing(alloc: Global, flights: &BTreeMap<Key, Stance>) -> Result<Vec<Comp>
 
 /// The competitors among these flights, in their order.
 fn competitors(alloc: Global, flights: &BTreeMap<Key, Stance>) -> Result<Vec<Comp>, AllocError>
-    ensures { IfOk result (λ comps. comps.items ≡ in_order is_before
+    ensures { IfOk result (λ comps. comps.items ≡ sorted_by is_before
         (filter_map (λ (e : Text × Stance). competitor e.0 e.1) flights.now.entries)) }
 {
     let mut comps = competing(alloc, flights)?;

@@ -5,7 +5,7 @@ ghost use Rattle.casa_flight.specs.State.{measure_of, row_of, with_row};
 ghost use Rattle.casa_flight.specs.Listing.{ctot_of};
 ghost use Rattle.casa_flight.specs.Steps.{amend, cancel, close_regulation, exempt, file, list};
 ghost use Rattle.casa_flight.specs.Steps.{most_regulations, open_regulation, rates, revise, revise_to};
-ghost use Rattle.casa_flight.specs.Steps.{is_revised, show, step, take_in, tick, closed};
+ghost use Rattle.casa_flight.specs.Steps.{is_revised, show, step, take_in, tick, state_without_regulation};
 ghost use Rattle.casa_plain.specs.Outcome.{step_of};
 
 use crate::flights::{freed_rows, governed_flights, newcomers};
@@ -114,7 +114,7 @@ impl Plain {
         let Some(row) = self.row(key) else {
             return Ok(Outcome::Refused(Refusal::NoFlight));
         };
-        let new = self.entered(alloc, key, row.ungoverned()?)?;
+        let new = self.row_after_entry(alloc, key, row.ungoverned()?)?;
         Ok(Outcome::Leads(self.revise_to(alloc, key, row, new)?))
     }
 
@@ -173,8 +173,8 @@ impl Plain {
     }
 
     /// The state without a regulation, and the flights that it governed free.
-    fn closed(&self, alloc: Global, id: RegId) -> Result<Plain, AllocError>
-        ensures { IfOk result (λ m. m ≡ closed self.now id) }
+    fn state_without_regulation(&self, alloc: Global, id: RegId) -> Result<Plain, AllocError>
+        ensures { IfOk result (λ m. m ≡ state_without_regulation self.now id) }
     {
         let rows = freed_rows(alloc, self.rows(), id)?;
         let mut new = self.copied()?;
@@ -191,7 +191,7 @@ impl Plain {
             return Ok(Outcome::Refused(Refusal::NoRegulation));
         };
         let comps = governed_flights(alloc, self.rows(), &Regulation::of(id, measure))?;
-        let mut new = self.closed(alloc, id)?;
+        let mut new = self.state_without_regulation(alloc, id)?;
         new.enter_all(alloc, comps.as_slice())?;
         Ok(Outcome::Leads(new))
     }

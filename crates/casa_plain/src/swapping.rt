@@ -4,7 +4,7 @@ ghost use Rattle.std.specs.Prelude.{◌≡◌, ◌≤◌, IfOk};
 ghost use Rattle.casa_time.specs.Moment.{last_moment};
 ghost use Rattle.casa_flight.specs.State.{row_of};
 ghost use Rattle.casa_flight.specs.Listing.{governing_list};
-ghost use Rattle.casa_flight.specs.Steps.{eto_in, is_shared, is_too_early, reissued, swap};
+ghost use Rattle.casa_flight.specs.Steps.{eto_in, is_shared, is_too_early, with_issued_time, swap};
 ghost use Rattle.casa_plain.specs.Outcome.{step_of};
 
 use crate::plain::Plain;
@@ -15,8 +15,8 @@ use casa_time::Moment;
 use std::alloc::{AllocError, Global};
 
 /// The issued flight with another time.
-fn reissued(row: &Row, time: Moment) -> Result<Row, AllocError>
-    ensures { IfOk result (λ new. new ≡ reissued row.now time) }
+fn with_issued_time(row: &Row, time: Moment) -> Result<Row, AllocError>
+    ensures { IfOk result (λ new. new ≡ with_issued_time row.now time) }
 {
     let mut new = row.clone()?;
     new.issued = Some(time);
@@ -85,8 +85,8 @@ impl Plain {
             return Ok(Outcome::Refused(Refusal::TooEarly));
         }
         let mut new = self.copied()?;
-        new.put_row(key, reissued(row, time)?)?;
-        new.put_row(other, reissued(mate, cto)?)?;
+        new.put_row(key, with_issued_time(row, time)?)?;
+        new.put_row(other, with_issued_time(mate, cto)?)?;
         Ok(Outcome::Leads(new))
     }
 }

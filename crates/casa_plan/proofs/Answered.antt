@@ -4,7 +4,7 @@ use Rattle.std.specs.Prelude.{Result, Ok, Err, IfOk}
 use Rattle.std.specs.declared.alloc.AllocError.{AllocError}
 use Rattle.casa_flight.specs.declared.call.Call.{Call}
 use Rattle.casa_flight.specs.declared.reply.Reply.{Reply}
-use Rattle.casa_answer.specs.Sight.{Sight, Written, IsPlanned}
+use Rattle.casa_plan_spec.specs.Sight.{Sight, Written, IsPlanned}
 
 pub answered : (v : Sight) (call said : Call) (p : Reply × Written) (r : Result (Reply × Written) AllocError)
     → call ≡ said → IfOk r (λ (q : Reply × Written). q ≡ p) → IsPlanned v said p → IfOk r (IsPlanned v call)

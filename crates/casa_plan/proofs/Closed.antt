@@ -5,11 +5,11 @@ use Rattle.casa_filing.specs.declared.regulation.Regulation.{Regulation}
 use Rattle.casa_filing.specs.Text.{Text, put, without}
 use Rattle.casa_flight.specs.Listing.{Listing}
 use Rattle.casa_footprint.specs.Finding.{by_id}
-use Rattle.casa_answer.specs.Sight.{Sight, nothing_written, clock_in, regulations_in}
-use Rattle.casa_answer.specs.Enter.{with_entries}
-use Rattle.casa_answer.specs.Closing.{without_regulation, governed_flights, closing, after_closing}
-use Rattle.casa_answer.proofs.Entries.{entries_catalogue}
-use Rattle.casa_answer.proofs.TakingIn.{values-by_id}
+use Rattle.casa_plan_spec.specs.Sight.{Sight, nothing_written, clock_in, regulations_in}
+use Rattle.casa_plan_spec.specs.Enter.{with_entries}
+use Rattle.casa_plan_spec.specs.Closing.{without_regulation, governed_flights, closing, after_closing}
+use Rattle.casa_plan_spec.proofs.Entries.{entries_catalogue}
+use Rattle.casa_plan_spec.proofs.TakingIn.{values-by_id}
 
 -- regulations are what is left under identifiers
 pub without_as : (all rs : List Regulation) (id : Text) → by_id all ≡ without (by_id rs) id → all ≡ without_regulation id rs

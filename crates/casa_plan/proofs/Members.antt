@@ -12,7 +12,7 @@ use Rattle.casa_flight.specs.declared.row.Stance.{Stance}
 use Rattle.casa_flight.specs.declared.row.Stance.TheVariants.{Competing, Issued, Forced}
 use Rattle.casa_filing.specs.Text.{Text, at_name}
 use Rattle.casa_flight.specs.Good.{AreInOrder}
-use Rattle.casa_flight.specs.Listing.{Listing, put_by, in_order, is_before, competitor, competitors, places}
+use Rattle.casa_flight.specs.Listing.{Listing, insert_sorted, sorted_by, is_before, competitor, competitors, places}
 use Rattle.casa_filing.proofs.Entries.{all-each, each_found}
 use Rattle.casa_flight.proofs.PutBy.{each_itself}
 use Rattle.casa_slots.specs.declared.standing.Standing.{Standing}
@@ -22,14 +22,14 @@ use Rattle.casa_list.proofs.Changes.{comps-places}
 use Rattle.casa_list.proofs.Once.{standings_who}
 
 -- a list put in order has the same elements
-fold_moved : {X : Type 0} (precedes : X → X → Bool) (xs ys : List X) → IsPermutation (xs ++ ys) (fold (λ (zs : List X) (x : X). put_by precedes x zs) ys xs)
+fold_moved : {X : Type 0} (precedes : X → X → Bool) (xs ys : List X) → IsPermutation (xs ++ ys) (fold (λ (zs : List X) (x : X). insert_sorted precedes x zs) ys xs)
 fold_moved precedes [] ys = IsPermutation-refl ys
 fold_moved precedes (x ∷ xs) ys =
     IsPermutation-trans _ _ _ (IsPermutation-sym _ _ (IsPermutation-middle xs x ys))
-    (IsPermutation-trans _ _ _ (IsPermutation-append_right xs (x ∷ ys) (put_by precedes x ys) (IsPermutation-insert ys _ x)) (fold_moved precedes xs (put_by precedes x ys)))
+    (IsPermutation-trans _ _ _ (IsPermutation-append_right xs (x ∷ ys) (insert_sorted precedes x ys) (IsPermutation-insert ys _ x)) (fold_moved precedes xs (insert_sorted precedes x ys)))
 
-pub in_order_moved : {X : Type 0} (precedes : X → X → Bool) (xs : List X) → IsPermutation xs (in_order precedes xs)
-in_order_moved {X} precedes xs = subst (λ (ys : List X). IsPermutation ys (in_order precedes xs)) (append-nil xs) (fold_moved precedes xs [])
+pub in_order_moved : {X : Type 0} (precedes : X → X → Bool) (xs : List X) → IsPermutation xs (sorted_by precedes xs)
+in_order_moved {X} precedes xs = subst (λ (ys : List X). IsPermutation ys (sorted_by precedes xs)) (append-nil xs) (fold_moved precedes xs [])
 
 -- the keys of a list's flights, by how these stand
 abbrev key_of : Comp × Standing → Text

@@ -18,8 +18,8 @@ use Rattle.casa_footprint.specs.Footprint.{writes}
 use Rattle.casa_footprint.specs.Stamps.{state_after, last_write, is_absent_row, stamp}
 use Rattle.casa_footprint.proofs.EachCall.{spares}
 use Rattle.casa_view.specs.Change.{is_absence}
-use Rattle.casa_view.specs.Standing.{Standing, StandsWell, opening, after, reply as replied}
-use Rattle.casa_plan.specs.Rooms.{IsSequential, StandsAfter}
+use Rattle.casa_view.specs.BoardState.{BoardState, IsGoodBoard, opening, after, reply as replied}
+use Rattle.casa_plan.specs.Rooms.{IsSequential, IsBoardAfter}
 
 abbrev Entries : Type 0
 Entries = List (Entry Call Reply)
@@ -27,7 +27,7 @@ Entries = List (Entry Call Reply)
 abbrev next_of : ℕ → State → Call → State
 next_of n m call = next m call
 
-state_from : (n : ℕ) (s : Standing) (es : Entries) → (replay_from after n s es).state ≡ replay_from next_of n s.state es
+state_from : (n : ℕ) (s : BoardState) (es : Entries) → (replay_from after n s es).state ≡ replay_from next_of n s.state es
 state_from n s [] = refl
 state_from n s (e ∷ es) = state_from (n + 1) (after n s e.call) es
 
@@ -65,7 +65,7 @@ stamped_next m call n last i good = by (writes m call i) (is_absent_row m i) ref
     by false true e f =
         ap (λ (b : Bool). stamped b (stamped true last)) (stays e ∙ f) ∙ sym (ap (λ (b : Bool). stamped b last) (stays e ∙ f))
 
-stamp_from : (i : ItemName) (count last : ℕ) (s : Standing) (es : Entries) → IsGood s.state
+stamp_from : (i : ItemName) (count last : ℕ) (s : BoardState) (es : Entries) → IsGood s.state
     → s.stamp i ≡ stamped (is_absent_row s.state i) last
     → (replay_from after (count + 1) s es).stamp i
     ≡ stamped (is_absent_row (replay_from next_of (count + 1) s.state es) i) (last_write s.state count last i es)
@@ -85,12 +85,12 @@ sequential es legal k e found =
     legal k e found ∙ ap (λ (m : State). reply m e.call) (state_replayed (take k es))
 
 -- a board that is the replay of a history and stands well stands as after that history
-pub stands : (es : Entries) (s : Standing) → s ≡ replay after opening es → StandsWell s → StandsAfter es s
+pub stands : (es : Entries) (s : BoardState) → s ≡ replay after opening es → IsGoodBoard s → IsBoardAfter es s
 stands es s is well = record {
-  state = ap (λ (x : Standing). x.state) is ∙ state_replayed es;
+  state = ap (λ (x : BoardState). x.state) is ∙ state_replayed es;
   good = well.good;
   catalogue_is = sym well.catalogue_is;
   lists = λ id. sym (well.list_is id);
   served = λ id l found. (assignment_right (occupancy l) (competitors l), comps-assignment (occupancy l) (competitors l));
-  stamps = λ i. ap (λ (x : Standing). x.stamp i) is ∙ stamp_replayed es i;
+  stamps = λ i. ap (λ (x : BoardState). x.stamp i) is ∙ stamp_replayed es i;
 }

@@ -12,7 +12,7 @@ use Rattle.casa_flight.specs.declared.row.Stance.{Stance}
 use Rattle.casa_flight.specs.declared.row.Stance.TheVariants.{Competing, Issued, Forced}
 use Rattle.casa_filing.specs.Text.{Text}
 use Rattle.casa_flight.specs.Good.{AreInOrder}
-use Rattle.casa_flight.specs.Listing.{Listing, in_order, stance_of}
+use Rattle.casa_flight.specs.Listing.{Listing, sorted_by, stance_of}
 use Rattle.casa_flight.specs.Replies.{is_row_before}
 use Rattle.casa_filing.proofs.Entries.{each_found}
 use Rattle.casa_flight.proofs.Planning.{rows_order, tied_comps}
@@ -20,8 +20,8 @@ use Rattle.casa_flight.proofs.Sorting.{ranked-in_order, sorted_of_same}
 use Rattle.casa_laws.proofs.InOrder.{pairs_from_recursion}
 use Rattle.casa_slots.specs.declared.standing.Standing.{Standing}
 use Rattle.casa_list.specs.Standings.{standings, standing_as}
-use Rattle.casa_answer.specs.Sight.{Sight}
-use Rattle.casa_answer.specs.Look.{row_shown, rows_shown}
+use Rattle.casa_plan_spec.specs.Sight.{Sight}
+use Rattle.casa_plan_spec.specs.Look.{row_shown, rows_shown}
 use Rattle.casa_plan.specs.Rows.{row_as}
 use Rattle.casa_plan.proofs.Members.{in_order_moved, standings_moved}
 
@@ -64,11 +64,11 @@ tied_rows v l x y own other p q =
     same_Some x y (sym own ∙ ap (λ (k : Text). option_map (row_shown v l k) (stance_of l k)) same ∙ other)
 
 -- and the rows in their order are those that the list shows, in whichever order they were made
-pub rows_alike : (v : Sight) (l : Listing) → AreInOrder l.flights → in_order is_row_before (map (row_of v l) (standings l)) ≡ rows_shown v l
+pub rows_alike : (v : Sight) (l : Listing) → AreInOrder l.flights → sorted_by is_row_before (map (row_of v l) (standings l)) ≡ rows_shown v l
 rows_alike v l sorted =
     let shown : List ListRow = map (λ (e : Text × Stance). row_shown v l e.0 e.1) l.flights in
     let told : List ListRow = map (row_of v l) (standings l) in
-    let rows : List ListRow = in_order is_row_before told in
+    let rows : List ListRow = sorted_by is_row_before told in
     let own : (row : ListRow) → Contains shown row → IsOwn v l row =
     λ row. All-contains (IsOwn v l) shown row (All-from_recursion (IsOwn v l) shown (rows_own v l l.flights (each_found l.flights sorted))) in
     let rise = pairs_from_recursion (λ (x y : ListRow). is_row_before y x ≡ false) rows (ranked-in_order is_row_before rows_order told) in

@@ -11,17 +11,17 @@ use Rattle.casa_footprint.specs.Footprint.{reads}
 use Rattle.casa_footprint.proofs.EachCall.{reads_same}
 use Rattle.casa_item.specs.declared.item.Item.{Item}
 use Rattle.casa_view.specs.declared.view.View.{View}
-use Rattle.casa_view.specs.View.{shown, Shows, IsViewOf, IsFor}
+use Rattle.casa_view.specs.View.{content_shown, Shows, IsViewOf, IsFor}
 use Rattle.casa_view.specs.Shown.{HasRowsInOrder}
 use Rattle.casa_view.proofs.Reading.{clock-is, catalogue-is, row-is, list-is}
 use Rattle.casa_view.proofs.ViewRows.{rows-ordered, rows-shown}
 use Rattle.casa_view.proofs.ViewLists.{lists-shown}
-use Rattle.casa_answer.specs.Sight.{IsSightOf}
+use Rattle.casa_plan_spec.specs.Sight.{IsSightOf}
 use Rattle.casa_plan.specs.Seen.{sight}
 
 module _ {V : Type 0} (item_of : V → Item) (v : View V) where
   held : (m : State) (call : Call) → IsViewOf item_of m call v → (i : ItemName) → reads m call i ≡ true
-      → shown item_of v i ≡ Some (contents m i)
+      → content_shown item_of v i ≡ Some (contents m i)
   held m call is i e = is i ∙ ap (λ (b : Bool). cond b (Some (contents m i)) None) e
 
   -- a view of one state is one of each good state that shows it

@@ -14,13 +14,13 @@ use Rattle.casa_flight.specs.Steps.{may_compete, flights_over}
 use Rattle.casa_flight.specs.Good.{AreInOrder}
 use Rattle.casa_filing.proofs.Entries.{each_found}
 use Rattle.casa_footprint.specs.Finding.{by_id}
-use Rattle.casa_answer.specs.Sight.{Sight, Written, nothing_written, clock_in, regulations_in, row_in}
-use Rattle.casa_answer.specs.Enter.{with_entries}
-use Rattle.casa_answer.specs.TakingIn.{with_regulation, list_over, stance_by, stances_by, taking_in}
-use Rattle.casa_answer.proofs.Entries.{entries_catalogue}
-use Rattle.casa_answer.proofs.ListOver.{each_over}
-use Rattle.casa_answer.proofs.Newcomers.{newcomers}
-use Rattle.casa_answer.proofs.TakingIn.{values-by_id}
+use Rattle.casa_plan_spec.specs.Sight.{Sight, Written, nothing_written, clock_in, regulations_in, row_in}
+use Rattle.casa_plan_spec.specs.Enter.{with_entries}
+use Rattle.casa_plan_spec.specs.TakingIn.{with_regulation, list_over, stance_by, stances_by, taking_in}
+use Rattle.casa_plan_spec.proofs.Entries.{entries_catalogue}
+use Rattle.casa_plan_spec.proofs.ListOver.{each_over}
+use Rattle.casa_plan_spec.proofs.Newcomers.{newcomers}
+use Rattle.casa_plan_spec.proofs.TakingIn.{values-by_id}
 use Rattle.casa_item.specs.declared.item.Item.{Item}
 use Rattle.casa_table.specs.Asking.{HaveRows}
 use Rattle.casa_item.specs.Versions.{row_of}

@@ -12,7 +12,7 @@ use Rattle.casa_flight.specs.Replies.{reply}
 use Rattle.casa_history.specs.declared.entry.Entry.{Entry}
 use Rattle.casa_footprint.specs.Items.{ItemName}
 use Rattle.casa_footprint.specs.Stamps.{state_after, stamp}
-use Rattle.casa_view.specs.Standing.{Standing}
+use Rattle.casa_view.specs.BoardState.{BoardState}
 
 -- a history of one thread: each reply is what the sequential allocator replies after the entries before it
 abbrev pub IsSequential : List (Entry Call Reply) → Type 0
@@ -21,7 +21,7 @@ IsSequential history =
 
 -- how a board stands after a history: its state is the one to which the history leads and is good, its catalogue and its
 -- lists are those of that state, the slots in each list are of first planned, first served, and each item has its stamp
-pub record StandsAfter (history : List (Entry Call Reply)) (s : Standing) : Type 0 where
+pub record IsBoardAfter (history : List (Entry Call Reply)) (s : BoardState) : Type 0 where
   pub state : s.state ≡ state_after history
   pub good : IsGood s.state
   pub catalogue_is : s.catalogue ≡ catalogue s.state

@@ -10,8 +10,8 @@ use Rattle.casa_flight.specs.Listing.{Listing}
 use Rattle.casa_flight.specs.Replies.{slot_number}
 use Rattle.casa_slots.specs.declared.standing.Standing.{Standing}
 use Rattle.casa_slots.specs.declared.standing.Standing.TheVariants.{Pre, Issued, Forced}
-use Rattle.casa_answer.specs.Sight.{Sight}
-use Rattle.casa_answer.specs.Look.{forced_shown}
+use Rattle.casa_plan_spec.specs.Sight.{Sight}
+use Rattle.casa_plan_spec.specs.Look.{forced_shown}
 
 -- a flight as its list shows it, by how it stands there
 abbrev pub row_as : Sight → Listing → Comp → Standing → ListRow

@@ -3,7 +3,7 @@ use Rattle.std.specs.Prelude.{[], Some, unwrap_or}
 use Rattle.casa_item.specs.declared.item.Item.{Item}
 use Rattle.casa_view.specs.declared.view.View.{View}
 use Rattle.casa_view.specs.Shown.{clock_shown, catalogue_shown, rows_shown, lists_shown}
-use Rattle.casa_answer.specs.Sight.{Sight}
+use Rattle.casa_plan_spec.specs.Sight.{Sight}
 
 -- what a view shows to a planner: of a clock or a catalogue that it does not hold midnight and no regulation
 abbrev pub sight : {V : Type 0} → (V → Item) → View V → Sight

@@ -5,7 +5,7 @@ use Rattle.std.specs.List.{fold}
 use Rattle.casa_flight.specs.declared.comp.Comp.{Comp}
 use Rattle.casa_flight.specs.declared.row.Stance.{Stance}
 use Rattle.casa_filing.specs.Text.{Text, put}
-use Rattle.casa_answer.specs.TakingIn.{stance_by}
+use Rattle.casa_plan_spec.specs.TakingIn.{stance_by}
 use Rattle.casa_item.specs.declared.item.Item.{Item}
 use Rattle.casa_item.specs.Versions.{row_of}
 

@@ -4,12 +4,12 @@ ghost use Rattle.std.specs.Prelude.{◌≡◌, [], List, IfOk, OnOk, option_copi
 ghost use Rattle.std.specs.List.{filter_map};
 ghost use Rattle.casa_flight.specs.declared.row.Stance.{Stance};
 ghost use Rattle.casa_filing.specs.Text.{Text};
-ghost use Rattle.casa_answer.specs.Sight.{regulations_in};
-ghost use Rattle.casa_answer.specs.Closing.{without_regulation, governed_comp, governed_flights};
-ghost use Rattle.casa_answer.specs.Closing.{after_closing, close_reg};
+ghost use Rattle.casa_plan_spec.specs.Sight.{regulations_in};
+ghost use Rattle.casa_plan_spec.specs.Closing.{without_regulation, governed_comp, governed_flights};
+ghost use Rattle.casa_plan_spec.specs.Closing.{after_closing, close_reg};
 
 use crate::entering::enter_all;
-use crate::replies::{done, refused};
+use crate::replies::{answer_done, refused};
 use crate::shown::Shown;
 use casa_flight::{Comp, Key, Refusal, RegId, Reply, Stance, sort_comps};
 use casa_list::SlotList;
@@ -86,5 +86,5 @@ pub(crate) fn close_reg<V: Version>(
         return Ok(refused(alloc, Refusal::NoRegulation));
     };
     let draft = after_closing(alloc, view, id, list)?;
-    done(alloc, view, draft)
+    answer_done(alloc, view, draft)
 }

@@ -1,10 +1,10 @@
 //! Flights that enter one by one, each after those before it have.
 
 ghost use Rattle.std.specs.Prelude.{◌≡◌, IfOk, OnOk, option_copied};
-ghost use Rattle.casa_flight.specs.Entry.{entered};
+ghost use Rattle.casa_flight.specs.Entry.{row_after_entry};
 ghost use Rattle.casa_footprint.specs.Finding.{crossed};
-ghost use Rattle.casa_answer.specs.Sight.{row_with, row_in};
-ghost use Rattle.casa_answer.specs.Enter.{situation_with, with_reentry, with_entries};
+ghost use Rattle.casa_plan_spec.specs.Sight.{row_with, row_in};
+ghost use Rattle.casa_plan_spec.specs.Enter.{situation_with, with_reentry, with_entries};
 
 use crate::offers::best_offer;
 use crate::shown::{Shown, row_with};
@@ -16,7 +16,7 @@ use std::alloc::{AllocError, Global};
 
 /// An ungoverned flight as it stands once it has entered, where these regulations are open. `AllocError` where there is no
 /// memory to work it out.
-fn entered<V: Version>(
+fn row_after_entry<V: Version>(
     view: &Shown<V>,
     draft: &Change,
     clock: Moment,
@@ -27,7 +27,7 @@ fn entered<V: Version>(
 ) -> Result<Row, AllocError>
     requires { over.now ≡ crossed row.plan _catalogue.now }
     ensures { IfOk result (λ new. new ≡
-        entered (situation_with clock _catalogue.now view.now draft.now) key row) }
+        row_after_entry (situation_with clock _catalogue.now view.now draft.now) key row) }
 {
     if row.is_exempt() || row.plan.is_gone(clock) {
         return Ok(row);
@@ -59,7 +59,7 @@ pub(crate) fn reenter<V: Version>(
     };
     let row = row.ungoverned()?;
     let over = catalogue.crossed(alloc, &row.plan)?;
-    let new = entered(view, draft, clock, catalogue, key, row, &over)?;
+    let new = row_after_entry(view, draft, clock, catalogue, key, row, &over)?;
     write_flight(alloc, view, draft, key, Some(new), &over, &over)
 }
 

@@ -2,8 +2,8 @@
 
 ghost use Rattle.std.specs.Prelude.{◌≡◌, OnOk, option_copied};
 ghost use Rattle.std.specs.Option.{option_and_then};
-ghost use Rattle.casa_answer.specs.Write.{with_stances};
-ghost use Rattle.casa_answer.specs.Issue.{governed_stance, governed_stances, with_issued_row};
+ghost use Rattle.casa_plan_spec.specs.Write.{with_stances};
+ghost use Rattle.casa_plan_spec.specs.Issue.{governed_stance, governed_stances, with_issued_row};
 
 use crate::shown::Shown;
 use crate::write::stand;

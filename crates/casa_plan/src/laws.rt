@@ -6,7 +6,7 @@ ghost use Rattle.casa_flight.specs.Good.{IsGood};
 ghost use Rattle.casa_view.specs.declared.view.View.{View};
 ghost use Rattle.casa_view.specs.View.{Shows, IsFor};
 ghost use Rattle.casa_view.specs.Shown.{HasRowsInOrder};
-ghost use Rattle.casa_answer.specs.Sight.{IsSightOf};
+ghost use Rattle.casa_plan_spec.specs.Sight.{IsSightOf};
 ghost use Rattle.casa_plan.specs.Seen.{sight};
 
 use casa_view::Version;

@@ -2,23 +2,23 @@
 //! the view.
 #![tactic(auto)]
 
-mod clock_moves;
 mod closing;
 mod entering;
+mod flight_reply;
 mod issuing;
 mod laws;
-mod new_rates;
+mod list_reply;
 mod offers;
 mod one_flight;
 mod opening;
 mod planning;
+mod rates;
 mod replies;
 mod rooms;
 mod shown;
-mod shown_list;
 mod swapping;
 mod taking_in;
-mod telling;
+mod tick;
 mod write;
 
 pub use laws::views_show_what_is_read;

@@ -4,8 +4,8 @@ ghost use Rattle.std.specs.Prelude.{◌≡◌, ◌≤◌, Some, IfOk};
 ghost use Rattle.casa_time.specs.Moment.{last_moment};
 ghost use Rattle.casa_flight.specs.Entry.{offer_in, most_penalising};
 ghost use Rattle.casa_footprint.specs.Finding.{crossed};
-ghost use Rattle.casa_answer.specs.Sight.{list_with, regulations_in};
-ghost use Rattle.casa_answer.specs.OneFlight.{offers_of, entry_offer, with_offer, offered_delay};
+ghost use Rattle.casa_plan_spec.specs.Sight.{list_with, regulations_in};
+ghost use Rattle.casa_plan_spec.specs.OneFlight.{offers_of, entry_offer, with_offer, offered_delay};
 
 use crate::shown::Shown;
 use casa_flight::{Comp, Key, Offer, RegId, Row, more_penalising};

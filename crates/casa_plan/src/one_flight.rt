@@ -3,14 +3,14 @@
 ghost use Rattle.std.specs.Prelude.{◌≡◌, ◌≤◌, ◌||◌, IfOk, false, is_some, nat_lt, not, option_copied};
 ghost use Rattle.casa_time.specs.Moment.{last_moment};
 ghost use Rattle.casa_footprint.specs.Finding.{crossed};
-ghost use Rattle.casa_answer.specs.Sight.{clock_in, regulations_in, list_in};
-ghost use Rattle.casa_answer.specs.Told.{delay_by};
-ghost use Rattle.casa_answer.specs.FlightCalls.{unchanged, rewritten, taking, entering, file, amend, cancel, is_taken, revise, exempted_if, exempt, show};
+ghost use Rattle.casa_plan_spec.specs.Sight.{clock_in, regulations_in, list_in};
+ghost use Rattle.casa_plan_spec.specs.Messages.{delay_by};
+ghost use Rattle.casa_plan_spec.specs.FlightCalls.{leave_unchanged, rewrite_flight, take_offer, enter_flight, file, amend, cancel, is_taken, revise, mark_exempt_if, exempt, show};
 
+use crate::flight_reply::{ctot_shown, delay_shown, reply_to_change};
 use crate::offers::{entry_offer, offered_delay, with_offer};
 use crate::replies::refused;
 use crate::shown::Shown;
-use crate::telling::{ctot_shown, delay_shown, told};
 use crate::write::flight_written;
 use casa_flight::{Answer, FlightReply, Key, Messages, Offer, Plan, Refusal, Reply, Row};
 use casa_named::Few;
@@ -18,13 +18,13 @@ use casa_view::{Change, Crossings, Version};
 use std::alloc::{AllocError, Global};
 
 /// The flight as it is shown.
-fn unchanged<V: Version>(
+fn leave_unchanged<V: Version>(
     alloc: Global,
     view: &Shown<V>,
     key: Key,
     row: &Row,
 ) -> Result<(Reply, Change), AllocError>
-    ensures { IfOk result (λ p. p ≡ unchanged view.now key row.now) }
+    ensures { IfOk result (λ p. p ≡ leave_unchanged view.now key row.now) }
 {
     let flight = FlightReply::of(key, row, delay_shown(view, key, row));
     let messages = Messages::from_vec(Vec::new(alloc))?;
@@ -33,7 +33,7 @@ fn unchanged<V: Version>(
 }
 
 /// A flight that stood so now stands so, with this delay in seconds, subject to these regulations.
-fn rewritten<V: Version>(
+fn rewrite_flight<V: Version>(
     alloc: Global,
     view: &Shown<V>,
     key: Key,
@@ -44,15 +44,15 @@ fn rewritten<V: Version>(
 ) -> Result<(Reply, Change), AllocError>
     requires in_range { delay ≤ last_moment }
     requires subject { has.now ≡ crossed row.plan (regulations_in view.now) }
-    ensures { IfOk result (λ p. p ≡ rewritten view.now key (option_copied was.entry) row delay) }
+    ensures { IfOk result (λ p. p ≡ rewrite_flight view.now key (option_copied was.entry) row delay) }
 {
-    let reply = told(alloc, view, key, was, &row, delay)?;
+    let reply = reply_to_change(alloc, view, key, was, &row, delay)?;
     let draft = flight_written(alloc, view, key, was, Some(row), has)?;
     Ok((reply, draft))
 }
 
 /// An ungoverned flight, subject to these regulations, takes an offer, in place of how it stood.
-fn taking<V: Version>(
+fn take_offer<V: Version>(
     alloc: Global,
     view: &Shown<V>,
     key: Key,
@@ -62,25 +62,25 @@ fn taking<V: Version>(
     has: &Crossings,
 ) -> Result<(Reply, Change), AllocError>
     requires { has.now ≡ crossed row.plan (regulations_in view.now) }
-    ensures { IfOk result (λ p. p ≡ taking view.now key (option_copied was.entry) row offer.now) }
+    ensures { IfOk result (λ p. p ≡ take_offer view.now key (option_copied was.entry) row offer.now) }
 {
     let row = with_offer(view.clock(), row, offer);
-    rewritten(alloc, view, key, was, row, offered_delay(offer), has)
+    rewrite_flight(alloc, view, key, was, row, offered_delay(offer), has)
 }
 
 /// An ungoverned flight enters, in place of how it stood.
-fn entering<V: Version>(
+fn enter_flight<V: Version>(
     alloc: Global,
     view: &Shown<V>,
     key: Key,
     was: Option<&Row>,
     row: Row,
 ) -> Result<(Reply, Change), AllocError>
-    ensures { IfOk result (λ p. p ≡ entering view.now key (option_copied was.entry) row) }
+    ensures { IfOk result (λ p. p ≡ enter_flight view.now key (option_copied was.entry) row) }
 {
     let has = view.crossed(alloc, &row.plan)?;
     let offer = entry_offer(alloc, view, key, &row, &has)?;
-    taking(alloc, view, key, was, row, &offer, &has)
+    take_offer(alloc, view, key, was, row, &offer, &has)
 }
 
 /// Whether a plan's off-block time has passed.
@@ -105,7 +105,7 @@ pub(crate) fn file<V: Version>(
     if is_late(view, plan) {
         return Ok(refused(alloc, Refusal::Late));
     }
-    entering(alloc, view, key, None, Row::filed(plan)?)
+    enter_flight(alloc, view, key, None, Row::filed(plan)?)
 }
 
 /// An amended flight enters with its new plan; a desk's mark stays.
@@ -123,7 +123,7 @@ pub(crate) fn amend<V: Version>(
     if is_late(view, plan) {
         return Ok(refused(alloc, Refusal::Late));
     }
-    entering(alloc, view, key, Some(row), row.amended(plan)?)
+    enter_flight(alloc, view, key, Some(row), row.amended(plan)?)
 }
 
 /// A cancelled flight is removed.
@@ -176,29 +176,29 @@ pub(crate) fn revise<V: Version>(
         return Ok(refused(alloc, Refusal::NoFlight));
     };
     if !may_move(view, key, row) {
-        return unchanged(alloc, view, key, row);
+        return leave_unchanged(alloc, view, key, row);
     }
     let free = row.ungoverned()?;
     let has = view.crossed(alloc, &free.plan)?;
     let offer = entry_offer(alloc, view, key, &free, &has)?;
     if is_taken(view, key, row, &offer) {
-        taking(alloc, view, key, Some(row), free, &offer, &has)
+        take_offer(alloc, view, key, Some(row), free, &offer, &has)
     } else {
-        unchanged(alloc, view, key, row)
+        leave_unchanged(alloc, view, key, row)
     }
 }
 
 /// A flight that is not exempt is marked and governed by nothing.
-fn exempted<V: Version>(
+fn exempt_at<V: Version>(
     alloc: Global,
     view: &Shown<V>,
     key: Key,
     row: &Row,
 ) -> Result<(Reply, Change), AllocError>
-    ensures { IfOk result (λ p. p ≡ exempted_if view.now key row.now false) }
+    ensures { IfOk result (λ p. p ≡ mark_exempt_if view.now key row.now false) }
 {
     let has = view.crossed(alloc, &row.plan)?;
-    rewritten(alloc, view, key, Some(row), row.exempted()?, 0, &has)
+    rewrite_flight(alloc, view, key, Some(row), row.exempted()?, 0, &has)
 }
 
 /// An exempted flight is marked and governed by nothing.
@@ -215,7 +215,7 @@ pub(crate) fn exempt<V: Version>(
     if row.is_exempt() {
         return Ok(refused(alloc, Refusal::AlreadyExempt));
     }
-    exempted(alloc, view, key, row)
+    exempt_at(alloc, view, key, row)
 }
 
 /// A flight is shown as it stands.
@@ -227,7 +227,7 @@ pub(crate) fn show<V: Version>(
     ensures { IfOk result (λ p. p ≡ show view.now key) }
 {
     match view.row(&key) {
-        Some(row) => unchanged(alloc, view, key, row),
+        Some(row) => leave_unchanged(alloc, view, key, row),
         None => Ok(refused(alloc, Refusal::NoFlight)),
     }
 }

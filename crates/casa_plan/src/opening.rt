@@ -2,9 +2,9 @@
 
 ghost use Rattle.std.specs.Prelude.{◌≡◌, IfOk};
 ghost use Rattle.casa_filing.specs.Subject.{regulation};
-ghost use Rattle.casa_answer.specs.Opening.{open_reg};
+ghost use Rattle.casa_plan_spec.specs.Opening.{open_reg};
 
-use crate::replies::{done, refused};
+use crate::replies::{answer_done, refused};
 use crate::shown::Shown;
 use crate::taking_in::taking_in;
 use casa_flight::{Loc, MAX_REGULATIONS, Refusal, RegId, Regulation, Reply};
@@ -44,5 +44,5 @@ pub(crate) fn open_reg<V: Version>(
     }
     let regulation = regulation(id, loc, profile);
     let draft = taking_in(alloc, view, regulation, profile)?;
-    done(alloc, view, draft)
+    answer_done(alloc, view, draft)
 }

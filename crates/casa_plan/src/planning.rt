@@ -6,19 +6,19 @@ ghost use Rattle.casa_flight.specs.Good.{IsGood};
 ghost use Rattle.casa_flight.specs.Replies.{reply};
 ghost use Rattle.casa_footprint.specs.Change.{IsChange};
 ghost use Rattle.casa_view.specs.View.{IsFor, Shows};
-ghost use Rattle.casa_answer.specs.Sight.{IsPlanned, says};
+ghost use Rattle.casa_plan_spec.specs.Sight.{IsPlanned, says};
 
-use crate::clock_moves::tick;
 use crate::closing::close_reg;
-use crate::new_rates::rates;
+use crate::list_reply::list;
 use crate::one_flight::{amend, cancel, exempt, file, revise, show};
 use crate::opening::open_reg;
+use crate::rates::rates;
 use crate::shown::Shown;
-use crate::shown_list::list;
 use crate::swapping::swap;
+use crate::tick::tick;
 use casa_commit::Gate;
 use casa_flight::{Call, Reply};
-use casa_view::{Board, Change, Kept, Version, View};
+use casa_view::{Board, Change, Store, Version, View};
 use std::alloc::{AllocError, Global};
 
 /// The reply to a call, and what the call writes, by what a view shows.
@@ -63,12 +63,12 @@ pub fn plan<V: Version>(
 #[derive(Clone, Copy, Debug)]
 pub struct Direct;
 
-impl<K: Kept> Gate<Board<K>> for Direct {
+impl<K: Store> Gate<Board<K>> for Direct {
     fn plan(
         &self,
         alloc: Global,
         _desk: u32,
-        _turn: u32,
+        _attempt: u32,
         view: &View<K::Version>,
         call: &Call,
     ) -> Result<(Reply, Change), AllocError> {

@@ -4,11 +4,11 @@ ghost use Rattle.std.specs.Prelude.{◌≡◌, ◌≤◌, [], IfOk, option_copie
 ghost use Rattle.std.specs.Option.{option_map_or, option_and_then};
 ghost use Rattle.casa_time.specs.Moment.{last_moment};
 ghost use Rattle.casa_flight.specs.Listing.{Listing, delay_in};
-ghost use Rattle.casa_answer.specs.Sight.{nothing_written, list_with};
-ghost use Rattle.casa_answer.specs.Told.{ctot_by, message_shown, messages_shown, done};
+ghost use Rattle.casa_plan_spec.specs.Sight.{nothing_written, list_with};
+ghost use Rattle.casa_plan_spec.specs.Messages.{ctot_by, message_shown, messages_shown, answer_done};
 
+use crate::flight_reply::{ctot_shown_if, delay_in};
 use crate::shown::Shown;
-use crate::telling::{ctot_shown_if, delay_in};
 use casa_flight::{Answer, Key, Message, Messages, Refusal, Reply, Row, is_issued};
 use casa_list::SlotList;
 use casa_view::{Change, Version, WrittenRow};
@@ -102,12 +102,12 @@ fn messages<V: Version>(
 
 /// What is answered to a call that writes this and is done: no more than that, and the messages. `AllocError` where
 /// there is no memory for them.
-pub(crate) fn done<V: Version>(
+pub(crate) fn answer_done<V: Version>(
     alloc: Global,
     view: &Shown<V>,
     draft: Change,
 ) -> Result<(Reply, Change), AllocError>
-    ensures { IfOk result (λ p. p ≡ done view.now draft) }
+    ensures { IfOk result (λ p. p ≡ answer_done view.now draft) }
 {
     let messages = Messages::from_vec(messages(alloc, view, &draft)?)?;
     Ok((Reply::Answered(Answer::Done, messages), draft))

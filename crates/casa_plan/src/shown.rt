@@ -10,7 +10,7 @@ ghost use Rattle.casa_filing.specs.Text.{at_name};
 ghost use Rattle.casa_footprint.specs.Finding.{by_id, crossed, due_keys};
 ghost use Rattle.casa_table.specs.Asking.{HaveRows};
 ghost use Rattle.casa_view.specs.Shown.{HasRowsInOrder};
-ghost use Rattle.casa_answer.specs.Sight.{clock_in, regulations_in, row_in, list_in, list_with};
+ghost use Rattle.casa_plan_spec.specs.Sight.{clock_in, regulations_in, row_in, list_in, list_with};
 ghost use Rattle.casa_plan.specs.Seen.{sight};
 
 use casa_flight::{Comp, Key, Plan, RegId, Regulation, Row};
@@ -31,7 +31,7 @@ pub(crate) struct Shown<'a, V: Version> {
 
 impl<'a, V: Version> Model for Shown<'a, V> {
     ghost use Rattle.casa_view.specs.Shown.{HasRowsInOrder};
-    ghost use Rattle.casa_answer.specs.Sight.{Sight};
+    ghost use Rattle.casa_plan_spec.specs.Sight.{Sight};
     ghost use Rattle.casa_plan.specs.Seen.{sight};
 
     ghost Value = { Sight };

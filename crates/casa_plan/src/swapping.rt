@@ -3,13 +3,13 @@
 ghost use Rattle.std.specs.Prelude.{◌≡◌, ◌≤◌, IfOk, OnOk, option_copied};
 ghost use Rattle.std.specs.Option.{option_and_then};
 ghost use Rattle.casa_time.specs.Moment.{last_moment};
-ghost use Rattle.casa_flight.specs.Steps.{reissued, eto_in, is_too_early, is_shared};
-ghost use Rattle.casa_answer.specs.Sight.{clock_in, list_in};
-ghost use Rattle.casa_answer.specs.Issue.{with_issued_row};
-ghost use Rattle.casa_answer.specs.Swapping.{swap};
+ghost use Rattle.casa_flight.specs.Steps.{with_issued_time, eto_in, is_too_early, is_shared};
+ghost use Rattle.casa_plan_spec.specs.Sight.{clock_in, list_in};
+ghost use Rattle.casa_plan_spec.specs.Issue.{with_issued_row};
+ghost use Rattle.casa_plan_spec.specs.Swapping.{swap};
 
 use crate::issuing::write_issued;
-use crate::replies::{done, refused};
+use crate::replies::{answer_done, refused};
 use crate::shown::Shown;
 use casa_flight::{Key, Refusal, Reply, Row};
 use casa_list::SlotList;
@@ -70,7 +70,7 @@ fn reissue<V: Version>(
     time: Moment,
 ) -> Result<(), AllocError>
     ensures { OnOk result (draft.new ≡
-        with_issued_row view.now draft.old key (reissued row.now time)) }
+        with_issued_row view.now draft.old key (with_issued_time row.now time)) }
 {
     let mut new = row.clone()?;
     new.issued = Some(time);
@@ -108,5 +108,5 @@ pub(crate) fn swap<V: Version>(
     let mut draft = Change::new(alloc);
     reissue(alloc, view, &mut draft, key, row, time)?;
     reissue(alloc, view, &mut draft, other, mate, cto)?;
-    done(alloc, view, draft)
+    answer_done(alloc, view, draft)
 }

@@ -7,9 +7,9 @@ ghost use Rattle.std.specs.Map.{keys_of};
 ghost use Rattle.casa_flight.specs.declared.comp.Comp.{Comp};
 ghost use Rattle.casa_flight.specs.Steps.{may_compete};
 ghost use Rattle.casa_table.specs.Asking.{HaveRows};
-ghost use Rattle.casa_answer.specs.Sight.{regulations_in, row_in};
-ghost use Rattle.casa_answer.specs.Enter.{with_entries};
-ghost use Rattle.casa_answer.specs.TakingIn.{with_regulation, stance_by, taking_in};
+ghost use Rattle.casa_plan_spec.specs.Sight.{regulations_in, row_in};
+ghost use Rattle.casa_plan_spec.specs.Enter.{with_entries};
+ghost use Rattle.casa_plan_spec.specs.TakingIn.{with_regulation, stance_by, taking_in};
 ghost use Rattle.casa_plan.specs.TakingIn.{stances_of};
 
 use crate::entering::reenter;

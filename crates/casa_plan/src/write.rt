@@ -5,9 +5,9 @@ ghost use Rattle.std.specs.Option.{option_map};
 ghost use Rattle.casa_flight.specs.Listing.{Listing};
 ghost use Rattle.casa_filing.specs.Text.{without};
 ghost use Rattle.casa_flight.specs.Good.{AreInOrder};
-ghost use Rattle.casa_answer.specs.Sight.{regulations_in, list_with};
-ghost use Rattle.casa_answer.specs.Write.{with_flight, with_stances, crossed_by, left, standing, write_flight};
-ghost use Rattle.casa_answer.specs.OneFlight.{flight_written};
+ghost use Rattle.casa_plan_spec.specs.Sight.{regulations_in, list_with};
+ghost use Rattle.casa_plan_spec.specs.Write.{with_flight, with_stances, crossed_by, stances_gone, stances_now, write_flight};
+ghost use Rattle.casa_plan_spec.specs.OneFlight.{flight_written};
 
 use crate::shown::Shown;
 use casa_flight::{Key, RegId, Row, Stance};
@@ -87,7 +87,7 @@ fn leave_lists<V: Version>(
     has: &Crossings,
 ) -> Result<(), AllocError>
     ensures { OnOk result (draft.new ≡ record draft.old {
-      lists = with_stances view.now key draft.old.lists (left had.now has.now);
+      lists = with_stances view.now key draft.old.lists (stances_gone had.now has.now);
     }) }
 {
     for (id, _) in had.iter() {
@@ -110,7 +110,7 @@ fn stand_in_lists<V: Version>(
 ) -> Result<(), AllocError>
     ensures { OnOk result (draft.new ≡ record draft.old {
       lists = with_stances view.now key draft.old.lists
-          (standing (option_copied now.entry) has.now);
+          (stances_now (option_copied now.entry) has.now);
     }) }
 {
     let Some(row) = now else {
@@ -135,7 +135,7 @@ pub(crate) fn write_flight<V: Version>(
     has: &Crossings,
 ) -> Result<(), AllocError>
     ensures { OnOk result (draft.new ≡ write_flight view.now draft.old key now
-        (left had.now has.now ++ standing now has.now)) }
+        (stances_gone had.now has.now ++ stances_now now has.now)) }
 {
     leave_lists(alloc, view, draft, key, had, has)?;
     stand_in_lists(alloc, view, draft, key, now.as_ref(), has)?;

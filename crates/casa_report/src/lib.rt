@@ -5,15 +5,15 @@
 
 mod columns;
 mod fault;
+mod heading_line;
 mod load;
 mod summary;
 mod table;
-mod title;
 mod why;
 
 pub use fault::ReportFault;
+pub use heading_line::heading;
 pub use load::load_table;
 pub use summary::{day_heading, summary_table};
 pub use table::list_table;
-pub use title::heading;
 pub use why::why_text;

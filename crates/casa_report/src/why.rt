@@ -10,7 +10,7 @@ ghost use Rattle.casa_report.specs.Writing.{IsCutOff};
 
 use crate::columns::{push_left, push_name, push_number, push_text, push_time};
 use crate::fault::ReportFault;
-use crate::title::heading_line;
+use crate::heading_line::heading_line;
 use arrayvec::ArrayVec;
 use casa_flight::{FlightReply, Offer, RegId, Stance};
 use casa_inquiry::{Holding, Reasons, Rule};

@@ -7,7 +7,7 @@ use Rattle.casa_history.specs.Entries.{receipts, desk_of}
 use Rattle.casa_commit.specs.declared.world.World.{Ghosts as WorldOf}
 use Rattle.casa_engine.specs.declared.pass.CountedPass.{CountedPass}
 use Rattle.casa_engine.specs.Passes.{pass_of}
-use Rattle.casa_engine.specs.Receipts.{AllStand}
+use Rattle.casa_engine.specs.Receipts.{AreReceiptsOf}
 use Rattle.casa_session.specs.declared.fault.SessionFault.{SessionFault}
 use Rattle.casa_session.specs.Transcript.{Ends}
 use Rattle.casa_server.specs.declared.server.Served.{Served}
@@ -30,7 +30,7 @@ module _ {I O W V D : Type 0} (L : Type 0) (world : WorldOf W Call V D Reply)
   pub record IsSession (before : I × O) (result : Result ℕ SessionFault) : Type 0 where
     pub after : I × O
     pub pass : CountedPass W L Call V D Reply world
-    pub stand : ∥ AllStand world (desk_of (pass_of pass)) (receipts (pass_of pass)) ∥₁
+    pub stand : ∥ AreReceiptsOf world (desk_of (pass_of pass)) (receipts (pass_of pass)) ∥₁
     pub ends : Ends ⊤ result (remaining before.0) (remaining after.0) [] (receipts (pass_of pass))
         (contents before.1) (contents after.1)
 

@@ -11,14 +11,14 @@ use Rattle.casa_history.specs.Entries.{receipts, desk_of}
 use Rattle.casa_commit.specs.declared.world.World.{Ghosts as WorldOf}
 use Rattle.casa_engine.specs.declared.pass.CountedPass.{CountedPass}
 use Rattle.casa_engine.specs.Passes.{pass_of}
-use Rattle.casa_engine.specs.Receipts.{AllStand}
+use Rattle.casa_engine.specs.Receipts.{AreReceiptsOf}
 use Rattle.casa_desk.specs.Receipts.{Receipts}
 use Rattle.casa_session.specs.Transcript.{calls_of}
 
 -- of the moments that are known to come a clock told the first one, or none where there is none
-abbrev pub Tells : (before after : Option (List ℕ)) → Option ℕ → Type 0
-Tells before after (Some at) = Consumes before after (at ∷ [])
-Tells before after None = IsAtEnd before
+abbrev pub ClockGives : (before after : Option (List ℕ)) → Option ℕ → Type 0
+ClockGives before after (Some at) = Consumes before after (at ∷ [])
+ClockGives before after None = IsAtEnd before
 
 abbrev pub is_answered : Reply → Bool
 is_answered (Refused r) = false
@@ -54,5 +54,5 @@ module _ {W V D : Type 0} (L : Type 0) (world : WorldOf W Call V D Reply) where
   -- is next after those before it in a legal history
   pub record IsTicked (coming : Option (List ℕ)) (turns : ℕ) (n : ℕ) : Type 0 where
     pub pass : CountedPass W L Call V D Reply world
-    pub stand : ∥ AllStand world (desk_of (pass_of pass)) (receipts (pass_of pass)) ∥₁
+    pub stand : ∥ AreReceiptsOf world (desk_of (pass_of pass)) (receipts (pass_of pass)) ∥₁
     pub ticked : Ticked coming turns [] (receipts (pass_of pass)) n

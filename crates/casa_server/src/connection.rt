@@ -9,7 +9,7 @@ use casa_engine::{DeskPass, Engine, EngineDesk, Gate};
 use casa_flight::{Call, Reply};
 use casa_history::Holds;
 use casa_session::{SessionFault, run};
-use casa_view::{Board, Kept};
+use casa_view::{Board, Store};
 use std::alloc::Global;
 use std::io::{Read, Write};
 use std::sync::Wait;
@@ -30,7 +30,7 @@ pub(crate) struct Connection<I, O, P: Holds<Call, Reply>> {
 pub(crate) fn answer<
     I: Read + Drop,
     O: Write + Drop,
-    K: Kept,
+    K: Store,
     L: Ledger,
     G: Gate<Board<K>>,
     R: Wait,
@@ -51,7 +51,7 @@ pub(crate) fn answer<
 }
 
 /// Answers the lines of a reader at a writer by the desk of this pass, as every session does. Gives the pass back.
-fn session<K: Kept, L: Ledger, G: Gate<Board<K>>, R: Wait, I: Read, O: Write>(
+fn session<K: Store, L: Ledger, G: Gate<Board<K>>, R: Wait, I: Read, O: Write>(
     rt: &R,
     alloc: Global,
     engine: &Engine<K, L, G>,

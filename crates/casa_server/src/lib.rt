@@ -2,14 +2,14 @@
 #![tactic(auto)]
 
 mod begun;
-mod clock;
 mod connection;
+mod day_clock;
 mod fault;
 mod moments;
 mod server;
 mod source;
 
-pub use clock::{DayClock, keep_time, timer};
+pub use day_clock::{DayClock, keep_time, timer};
 pub use fault::{ServeFault, TimerFault};
 pub use moments::moment_at;
 pub use server::{Served, serve};

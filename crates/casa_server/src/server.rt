@@ -8,7 +8,7 @@ use crate::fault::ServeFault;
 use crate::source::Connections;
 use casa_commit::World;
 use casa_engine::{Engine, Gate};
-use casa_view::{Board, Kept};
+use casa_view::{Board, Store};
 use std::alloc::Global;
 use std::io::{Read, Write};
 use std::marker::PhantomData;
@@ -37,7 +37,7 @@ pub struct Served {
 /// there is none to keep one connection more; each after the sessions that were begun have ended.
 pub fn serve<
     S: Connections + Drop,
-    K: Kept<Version: Send + Sync> + Send,
+    K: Store<Version: Send + Sync> + Send,
     L: Ledger + Send + Sync,
     G: Gate<Board<K>> + Sync,
     R: Threads + Wait + Sync,
@@ -64,7 +64,7 @@ fn serve_all<
     's,
     E,
     S: Connections + Drop,
-    K: Kept<Version: Send + Sync> + Send,
+    K: Store<Version: Send + Sync> + Send,
     L: Ledger + Send + Sync,
     G: Gate<Board<K>> + Sync,
     R: Threads + Wait + Sync,
@@ -96,7 +96,7 @@ fn begin_all<
     's,
     E,
     S: Connections + Drop,
-    K: Kept<Version: Send + Sync> + Send,
+    K: Store<Version: Send + Sync> + Send,
     L: Ledger + Send + Sync,
     G: Gate<Board<K>> + Sync,
     R: Threads + Wait + Sync,
@@ -132,7 +132,7 @@ fn begin<
     E,
     I: Read + Send + Drop + 's,
     O: Write + Send + Drop + 's,
-    K: Kept<Version: Send + Sync> + Send,
+    K: Store<Version: Send + Sync> + Send,
     L: Ledger + Send + Sync,
     G: Gate<Board<K>> + Sync,
     R: Threads + Wait + Sync,

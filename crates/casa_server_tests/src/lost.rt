@@ -8,7 +8,7 @@ use casa_engine::{DeskPass, Direct, Engine, EngineDesk, blank};
 use casa_history::{Settled, Torn};
 use casa_session::{Desk, SessionFault, run};
 use casa_shelf::{Shelf, Shelving};
-use casa_view::{Item, Kept};
+use casa_view::{Item, Store};
 use std::alloc::Global;
 use std::io;
 use std::io::{ErrorKind, Write};
@@ -51,7 +51,7 @@ const SHOWN: &str =
     "{\"flight\":{\"ctot\":30600,\"delay\":0,\"eobt\":30000,\"etot\":30600,\"exempt\":false,\"issued\":false,\"key\":\"A\",\"reg\":\"R1\"},\"msgs\":[],\"n\":3}\n";
 
 /// Desk 0 opens a regulation, desk 1 files a flight and loses its connection, and desk 0 sees the flight. Its pass.
-fn file_and_lose<'a, K: Kept, L: Ledger, R: Wait + Abort>(
+fn file_and_lose<'a, K: Store, L: Ledger, R: Wait + Abort>(
     rt: &'a R,
     alloc: Global,
     engine: &'a Engine<K, L, Direct>,
@@ -65,7 +65,7 @@ fn file_and_lose<'a, K: Kept, L: Ledger, R: Wait + Abort>(
 }
 
 /// How many desks a new engine over this store had, and how its history settles without the pass of the desk that was lost.
-fn settled_over<K: Kept, L: Ledger, R: Wait + Abort>(
+fn settled_over<K: Store, L: Ledger, R: Wait + Abort>(
     rt: &R,
     alloc: Global,
     store: K,

@@ -7,7 +7,7 @@ use crate::clients::OPENING;
 use casa_engine::{Audit, Direct, Engine, blank};
 use casa_server::{Connections, ServeFault, Served, serve};
 use casa_shelf::{Shelf, Shelving};
-use casa_view::{Copies, Item, Kept};
+use casa_view::{Copies, Item, Store};
 use std::alloc::Global;
 use std::io;
 use std::io::Sink;
@@ -44,7 +44,7 @@ type Seen = (Result<Served, ServeFault>, Audit);
 
 /// What is seen of so many of these connections on a new engine over this store.
 fn seen_over<
-    K: Kept<Version: Send + Sync> + Send,
+    K: Store<Version: Send + Sync> + Send,
     L: Ledger + Send + Sync,
     R: Threads + Wait + Abort + Sync,
 >(rt: &R, alloc: Global, store: K, blank: Blank, sent: Sent, connections: u32) -> Seen

@@ -10,7 +10,7 @@ use casa_engine::{Direct, Engine, blank};
 use casa_server::{DayClock, ServeFault, Served, TimerFault, serve, timer};
 use casa_shelf::{Shelf, Shelving};
 use casa_time::Moment;
-use casa_view::{Item, Kept};
+use casa_view::{Item, Store};
 use std::alloc::Global;
 use std::marker::Brand;
 use std::net::{Net, TcpListener, TcpStream};
@@ -63,7 +63,7 @@ struct Seen {
 
 /// Plays a scene with an engine.
 fn play_with<
-    K: Kept<Version: Send + Sync> + Send,
+    K: Store<Version: Send + Sync> + Send,
     L: Ledger + Send + Sync,
     R: Net<Listener = TcpListener, Stream = TcpStream> + Threads + Wait + Abort + Sync,
 >(rt: &R, alloc: Global, engine: &Engine<K, L, Direct>, scene: Scene) -> Seen {

@@ -18,7 +18,7 @@ use Rattle.casa_commit.specs.Legal.{entry, replay}
 use Rattle.casa_commit.specs.Rooms.{entries_of, next_entry, open_desks, Extends, IsUnchanged}
 use Rattle.casa_commit.proofs.Replays.{slice_get-pushed}
 use Rattle.casa_session.specs.Alone.{IsAlone}
-use Rattle.casa_session.specs.Played.{calls_in, only_desk, played, receipts_played, state_after}
+use Rattle.casa_session.specs.Played.{calls_in, only_desk, sequential_history, receipts_played, state_after}
 use Rattle.casa_session.proofs.PlayedCalls.{played-push, receipts_from-push}
 
 module _ {W V D : Type 0} {world : WorldOf W Call V D Reply} where
@@ -39,14 +39,14 @@ module _ {W V D : Type 0} {world : WorldOf W Call V D Reply} where
         q.legal (length es) e found ∙ ap (λ (l : List (Entry Call Reply)). world.reply (replay world.after world.opening l) call) first ∙ says es call in
         ap (entry only_desk call) replied
 
-    history_is : entries_of room' ≡ played empty (calls_in (entries_of room'))
+    history_is : entries_of room' ≡ sequential_history empty (calls_in (entries_of room'))
     unfolding es
     history_is =
         let e : Entry Call Reply = next_entry room only_desk call in
         let calls_are : calls_in (entries_of room') ≡ calls_in es ++ call ∷ [] = ap calls_in q.history ∙ map-append (λ (x : Entry Call Reply). x.call) es (e ∷ []) in
         q.history ∙ ap (λ (x : Entry Call Reply). es ++ x ∷ []) next_is
         ∙ ap (λ (l : List (Entry Call Reply)). l ++ entry only_desk call (reply (state_after (calls_in es)) call) ∷ []) p.history
-        ∙ sym (played-push empty (calls_in es) call) ∙ ap (played empty) (sym calls_are)
+        ∙ sym (played-push empty (calls_in es) call) ∙ ap (sequential_history empty) (sym calls_are)
 
     receipts_are : receipts_from 1 (entries_of room') ≡ receipts_from 1 (entries_of room) ++ given ∷ []
     unfolding es
@@ -69,7 +69,7 @@ module _ {W V D : Type 0} {world : WorldOf W Call V D Reply} where
   pub alone-unchanged : (room room' : Room W Call V D Reply world) → IsAlone room → IsUnchanged room room' → IsAlone room'
   alone-unchanged room room' p q = record {
     is_open = subst (λ n. only_desk < n) (sym q.desks) p.is_open;
-    history = q.history ∙ p.history ∙ ap (λ (l : List (Entry Call Reply)). played empty (calls_in l)) (sym q.history);
+    history = q.history ∙ p.history ∙ ap (λ (l : List (Entry Call Reply)). sequential_history empty (calls_in l)) (sym q.history);
   }
 
   module _ (says : (es : List (Entry Call Reply)) (call : Call) → world.reply (replay world.after world.opening es) call ≡ reply (state_after (calls_in es)) call)

@@ -8,7 +8,7 @@ use Rattle.std.proofs.Math.Seq.{take-append-add}
 use Rattle.casa_flight.specs.declared.call.Call.{Call}
 use Rattle.casa_flight.specs.declared.reply.Reply.{Reply}
 use Rattle.casa_history.specs.declared.entry.Receipt.{Receipt}
-use Rattle.casa_output.specs.Sending.{counted}
+use Rattle.casa_output.specs.Sending.{saturating_count}
 use Rattle.casa_wire.specs.declared.fault.WireFault.{WireFault}
 use Rattle.casa_wire.specs.LineTexts.{reply_line, too_long_line}
 use Rattle.casa_session.specs.declared.fault.SessionFault.{SessionFault}
@@ -47,8 +47,8 @@ too_long_unwritten ForeignPass old v w h = absurd h
 too_long_unwritten NoMemory old v w h = absurd h
 
 -- a text is cut that is written after all that was gathered
-pub cut_after : (text : List ℕ) (old : Replies) (k m n : ℕ) (v w x : Option (List ℕ)) → Appends v w old.bytes.items → m ≡ counted (old.written + length old.bytes.items)
-    → k < length text → Appends w x (take k text) → n ≡ counted (m + k) → CutText text old n v x
+pub cut_after : (text : List ℕ) (old : Replies) (k m n : ℕ) (v w x : Option (List ℕ)) → Appends v w old.bytes.items → m ≡ saturating_count (old.written + length old.bytes.items)
+    → k < length text → Appends w x (take k text) → n ≡ saturating_count (m + k) → CutText text old n v x
 cut_after text old k m n v w x sent count within cut reported =
     let bytes : List ℕ = old.bytes.items in
     record {

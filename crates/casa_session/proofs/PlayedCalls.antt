@@ -13,17 +13,17 @@ use Rattle.casa_history.specs.declared.entry.Entry.{Entry}
 use Rattle.casa_history.specs.declared.entry.Receipt.{Receipt}
 use Rattle.casa_history.specs.Entries.{receipt, receipts_from}
 use Rattle.casa_commit.specs.Legal.{entry, replay_from}
-use Rattle.casa_output.specs.Sending.{counted}
+use Rattle.casa_output.specs.Sending.{saturating_count}
 use Rattle.casa_session.specs.declared.fault.SessionFault.{SessionFault}
 use Rattle.casa_session.specs.declared.fault.SessionFault.TheVariants.{LineTooLong, ReadFailed, WriteFailed, ForeignPass, NoMemory}
 use Rattle.casa_session.specs.Lines.{ended_lines, lines_of}
 use Rattle.casa_desk.specs.Receipts.{Receipts}
-use Rattle.casa_session.specs.Transcript.{Answered, Cut, Ends, Stopped, calls, calls_of, transcript}
-use Rattle.casa_session.specs.Played.{calls_in, only_desk, played, receipts_after, receipts_played, state_after}
+use Rattle.casa_session.specs.Transcript.{AnswersLines, Cut, Ends, Stopped, calls, calls_of, transcript}
+use Rattle.casa_session.specs.Played.{calls_in, only_desk, sequential_history, receipts_after, receipts_played, state_after}
 use Rattle.casa_session.specs.Alone.{AnsweredFirst, LoneEnds, transcript_after}
 
 -- one call more is one entry more
-pub played-push : (m : State) (cs : List Call) (c : Call) → played m (cs ++ c ∷ []) ≡ played m cs ++ entry only_desk c (reply (fold next m cs) c) ∷ []
+pub played-push : (m : State) (cs : List Call) (c : Call) → sequential_history m (cs ++ c ∷ []) ≡ sequential_history m cs ++ entry only_desk c (reply (fold next m cs) c) ∷ []
 played-push m [] c = refl
 played-push m (d ∷ cs) c = ap (λ (es : List (Entry Call Reply)). entry only_desk d (reply m d) ∷ es) (played-push (next m d) cs c)
 
@@ -40,28 +40,28 @@ state-of_calls m n [] = refl
 state-of_calls m n (e ∷ es) = state-of_calls (next m e.call) (n + 1) es
 
 -- the receipts are of these calls
-calls-played : (m : State) (n : ℕ) (cs : List Call) → calls_of (receipts_from n (played m cs)) ≡ cs
+calls-played : (m : State) (n : ℕ) (cs : List Call) → calls_of (receipts_from n (sequential_history m cs)) ≡ cs
 calls-played m n [] = refl
 calls-played m n (c ∷ cs) = ap (λ ds. c ∷ ds) (calls-played (next m c) (n + 1) cs)
 
 -- the receipts of some calls and of calls after them
-played-append : (m : State) (n : ℕ) (cs ds : List Call) → receipts_from n (played m (cs ++ ds)) ≡ receipts_from n (played m cs) ++ receipts_from (length cs + n) (played (fold next m cs) ds)
-played-append m n [] ds = let same : n ≡ 0 + n = omega arith in ap (λ k. receipts_from k (played m ds)) same
+played-append : (m : State) (n : ℕ) (cs ds : List Call) → receipts_from n (sequential_history m (cs ++ ds)) ≡ receipts_from n (sequential_history m cs) ++ receipts_from (length cs + n) (sequential_history (fold next m cs) ds)
+played-append m n [] ds = let same : n ≡ 0 + n = omega arith in ap (λ k. receipts_from k (sequential_history m ds)) same
 played-append m n (c ∷ cs) ds =
     let same : length cs + (n + 1) ≡ length (c ∷ cs) + n = omega arith in
     ap (λ (rs : Receipts). receipt n (entry only_desk c (reply m c)) ∷ rs)
-    (played-append (next m c) (n + 1) cs ds ∙ ap (λ k. receipts_from (n + 1) (played (next m c) cs) ++ receipts_from k (played (fold next (next m c) cs) ds)) same)
+    (played-append (next m c) (n + 1) cs ds ∙ ap (λ k. receipts_from (n + 1) (sequential_history (next m c) cs) ++ receipts_from k (sequential_history (fold next (next m c) cs) ds)) same)
 
 -- the first of the receipts are those of the first calls
-played-front : (m : State) (n : ℕ) (cs : List Call) (rs last : Receipts) → receipts_from n (played m cs) ≡ rs ++ last → rs ≡ receipts_from n (played m (calls_of rs))
+played-front : (m : State) (n : ℕ) (cs : List Call) (rs last : Receipts) → receipts_from n (sequential_history m cs) ≡ rs ++ last → rs ≡ receipts_from n (sequential_history m (calls_of rs))
 played-front m n cs [] last h = refl
 played-front m n [] (r ∷ rs) last h = cc
 played-front m n (c ∷ cs) (r ∷ rs) last h =
     let head : receipt n (entry only_desk c (reply m c)) ≡ r = cc in
     let call_is : c ≡ r.entry.call = ap (λ (x : Receipt Call Reply). x.entry.call) head in
-    let tail : receipts_from (n + 1) (played (next m c) cs) ≡ rs ++ last = cc in
-    let rest : rs ≡ receipts_from (n + 1) (played (next m c) (calls_of rs)) = played-front (next m c) (n + 1) cs rs last tail in
-    subst (λ d. r ∷ rs ≡ receipt n (entry only_desk d (reply m d)) ∷ receipts_from (n + 1) (played (next m d) (calls_of rs))) call_is
+    let tail : receipts_from (n + 1) (sequential_history (next m c) cs) ≡ rs ++ last = cc in
+    let rest : rs ≡ receipts_from (n + 1) (sequential_history (next m c) (calls_of rs)) = played-front (next m c) (n + 1) cs rs last tail in
+    subst (λ d. r ∷ rs ≡ receipt n (entry only_desk d (reply m d)) ∷ receipts_from (n + 1) (sequential_history (next m d) (calls_of rs))) call_is
     ((ap (λ (x : Receipt Call Reply). x ∷ rs) (sym head)) ∙ ap (λ xs. receipt n (entry only_desk c (reply m c)) ∷ xs) rest)
 
 -- the calls that were answered are those before, and those of the receipts that came
@@ -86,7 +86,7 @@ given-after before now rs last lines grows called =
     let after : receipts_after before (calls_of more) ≡ more = append_cancel_left (receipts_played before) (receipts_after before (calls_of more)) more split in
     played-front (state_after before) (length before + 1) (calls_of more) rs last after ∙ ap (receipts_after before) called
 
-answered : (before now : List Call) (v w : Option (List ℕ)) (lines : List (List ℕ)) → Answered (receipts_played before) (receipts_played now) v w lines → Appends v w (transcript_after before lines)
+answered : (before now : List Call) (v w : Option (List ℕ)) (lines : List (List ℕ)) → AnswersLines (receipts_played before) (receipts_played now) v w lines → Appends v w (transcript_after before lines)
 answered before now v w lines h =
     subst (λ rs. Appends v w (transcript rs lines))
     (given-after before now h.receipts [] lines (h.grows ∙ sym (append-nil (receipts_played before ++ h.receipts))) h.called) h.written
@@ -110,7 +110,7 @@ if_some P Q f None h = tt
 if_some P Q f (Some x) h = f x h
 
 cut : (before now : List Call) (v w : Option (List ℕ)) (lines : List (List ℕ)) (n : ℕ) → Cut (receipts_played before) (receipts_played now) v w lines n →
-    (count : ℕ) × (count < length (transcript_after before lines)) × (n ≡ counted count) × Appends v w (take count (transcript_after before lines))
+    (count : ℕ) × (count < length (transcript_after before lines)) × (n ≡ saturating_count count) × Appends v w (take count (transcript_after before lines))
 cut before now v w lines n h =
     let same = given-after before now h.receipts [] lines (h.grows ∙ sym (append-nil (receipts_played before ++ h.receipts))) h.called in (
       h.count,

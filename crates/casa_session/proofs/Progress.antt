@@ -4,14 +4,14 @@ use Rattle.std.specs.Prelude.{Result}
 use Rattle.std.specs.Io.KnownBytes.{Appends}
 use Rattle.std.proofs.KnownBytes.{Appends-nil, Appends-trans}
 use Rattle.std.proofs.Math.Seq.{take-append-add}
-use Rattle.casa_output.specs.Sending.{counted}
+use Rattle.casa_output.specs.Sending.{saturating_count}
 use Rattle.casa_wire.specs.Commands.{line_call}
 use Rattle.casa_wire.specs.LineTexts.{too_long_line}
 use Rattle.casa_session.specs.declared.replies.Replies.{Replies}
 use Rattle.casa_session.specs.Lines.{is_too_long, has_too_long}
 use Rattle.casa_session.specs.Replies.{CutText, Gathers, MayReply, Replied}
 use Rattle.casa_desk.specs.Receipts.{Receipts}
-use Rattle.casa_session.specs.Transcript.{calls_of, calls, transcript, Answered, Cut, Stopped}
+use Rattle.casa_session.specs.Transcript.{calls_of, calls, transcript, AnswersLines, Cut, Stopped}
 use Rattle.casa_session.proofs.Splitting.{has_too_long-append}
 use Rattle.casa_session.proofs.Transcripts.{called-append, grown, one_call, one_line, transcript-append}
 
@@ -24,7 +24,7 @@ pub record Progress (a b : Receipts) (u v : Option (List ℕ)) (replies : Replie
   pub called : calls_of receipts ≡ calls done
   pub sent : List ℕ
   pub split : transcript receipts done ≡ sent ++ replies.bytes.items
-  pub counts : replies.written ≡ counted (length sent)
+  pub counts : replies.written ≡ saturating_count (length sent)
   pub written : Appends u v sent
 
 pub no_progress : (a : Receipts) (u : Option (List ℕ)) (replies : Replies) → replies.bytes.items ≡ [] → replies.written ≡ 0 → Progress a a u u replies []
@@ -41,7 +41,7 @@ no_progress a u replies none zero = record {
 
 -- what is gathered is written
 pub progress_sent : (a b : Receipts) (u v w : Option (List ℕ)) (old new : Replies) (done : List (List ℕ)) → Progress a b u v old done
-    → Appends v w old.bytes.items → new.bytes.items ≡ [] → new.written ≡ counted (old.written + length old.bytes.items) → Progress a b u w new done
+    → Appends v w old.bytes.items → new.bytes.items ≡ [] → new.written ≡ saturating_count (old.written + length old.bytes.items) → Progress a b u w new done
 progress_sent a b u v w old new done p sent none count = record {
   short = p.short;
   receipts = p.receipts;
@@ -77,7 +77,7 @@ progress_line a b c u v w old new done line text p short q g =
     }
 
 -- all is written
-pub answered : (a b : Receipts) (u v : Option (List ℕ)) (replies : Replies) (done : List (List ℕ)) → Progress a b u v replies done → replies.bytes.items ≡ [] → Answered a b u v done
+pub answered : (a b : Receipts) (u v : Option (List ℕ)) (replies : Replies) (done : List (List ℕ)) → Progress a b u v replies done → replies.bytes.items ≡ [] → AnswersLines a b u v done
 answered a b u v replies done p none = record {
   receipts = p.receipts;
   grows = p.grows;
@@ -161,7 +161,7 @@ stopped_between a b u v w old done left p sent = record {
 
 -- all was written, and the text for a line that is too long
 pub too_long_written : (a b : Receipts) (u v w : Option (List ℕ)) (old : Replies) (done : List (List ℕ)) (first : List ℕ) (tail : List (List ℕ)) → Progress a b u v old done
-    → is_too_long first ≡ true → Appends v w (old.bytes.items ++ too_long_line) → Answered a b u w (done ++ first ∷ tail)
+    → is_too_long first ≡ true → Appends v w (old.bytes.items ++ too_long_line) → AnswersLines a b u w (done ++ first ∷ tail)
 too_long_written a b u v w old done first tail p long sent =
     let none : calls_of [] ≡ calls (first ∷ tail) = rw long refl in
     let text : transcript [] (first ∷ tail) ≡ too_long_line = rw long refl in

@@ -4,7 +4,7 @@ use Rattle.std.specs.Prelude.{Result, Ok, Err, IfSome, IsErr}
 use Rattle.std.specs.Result.{IsErrAnd}
 use Rattle.std.specs.Io.KnownBytes.{Appends, Consumes, IsAtEnd}
 use Rattle.std.proofs.KnownBytes.{Consumes-nil, Consumes-trans, Consumes-whole}
-use Rattle.casa_output.specs.Sending.{counted}
+use Rattle.casa_output.specs.Sending.{saturating_count}
 use Rattle.casa_wire.specs.Commands.{line_call}
 use Rattle.casa_wire.specs.LineTexts.{too_long_line}
 use Rattle.casa_session.specs.declared.fault.SessionFault.{SessionFault}
@@ -14,7 +14,7 @@ use Rattle.casa_session.specs.LineReader.{IsPart}
 use Rattle.casa_session.specs.Lines.{ended_lines, lines_of, rest_from, has_too_long, is_too_long, HasNoLf}
 use Rattle.casa_session.specs.Replies.{Answers, CutText, EndsBy, Fails, IsUnwritten, TooLongEnds}
 use Rattle.casa_desk.specs.Receipts.{Receipts}
-use Rattle.casa_session.specs.Transcript.{calls, transcript, Answered, Cut, Ends, Stopped}
+use Rattle.casa_session.specs.Transcript.{calls, transcript, AnswersLines, Cut, Ends, Stopped}
 use Rattle.casa_session.proofs.Parts.{no_lf_append}
 use Rattle.casa_session.proofs.Progress.{Progress, answered, cut_done, cut_line, cut_more, no_progress, progress_line, progress_sent, stopped, stopped_between, too_long_written}
 use Rattle.casa_session.proofs.Splitting.{ended_kept, ended_more, has_too_long-append, line_first, line_only, lines_of-append, long_first, short_part, whole_more}
@@ -69,7 +69,7 @@ after_line r s a b c u v w old new count line before part bytes pending empty p 
 -- no line ended, all was written, and more was read
 pub after_read : (r s t : Option (List ℕ)) (a b : Receipts) (u v w : Option (List ℕ)) (old new : Replies) (count : ℕ) (line before part bytes chunk : List ℕ)
     → Between r s a b u v old count before bytes → bytes ≡ part → line ≡ before ++ part → Consumes s t chunk
-    → Appends v w old.bytes.items → new.bytes.items ≡ [] → new.written ≡ counted (old.written + length old.bytes.items) → Between r t a b u w new count line chunk
+    → Appends v w old.bytes.items → new.bytes.items ≡ [] → new.written ≡ saturating_count (old.written + length old.bytes.items) → Between r t a b u w new count line chunk
 after_read r s t a b u v w old new count line before part bytes chunk p split is q sent none counted_so = record {
   taken = p.taken;
   done = p.done;
@@ -187,7 +187,7 @@ ends_too_long foreign NoMemory r s t a b u v w old count before part rest bytes 
 pub ends_input : (foreign : Type 0) (r t : Option (List ℕ)) (a b : Receipts) (u v : Option (List ℕ)) (replies : Replies) (count : ℕ) (line : List ℕ)
     → Between r t a b u v replies count line [] → IsAtEnd t → line ≡ [] → replies.bytes.items ≡ [] → Ends foreign (Ok count) r t a b u v
 ends_input foreign r t a b u v replies count line p end no_line none =
-    Consumes-whole r t (p.taken ++ (line ++ [])) (λ xs. Answered a b u v (lines_of xs) × (has_too_long (lines_of xs) ≡ false) × (count ≡ length (lines_of xs))) p.consumed end (
+    Consumes-whole r t (p.taken ++ (line ++ [])) (λ xs. AnswersLines a b u v (lines_of xs) × (has_too_long (lines_of xs) ≡ false) × (count ≡ length (lines_of xs))) p.consumed end (
     let all : lines_of (p.taken ++ (line ++ [])) ≡ p.done = rw no_line (ap lines_of (append-nil p.taken) ∙ rw (p.ended, p.whole) (append-nil p.done)) in
     rw all (answered a b u v replies p.done p.progress none, p.progress.short, sym p.lines))
 
@@ -219,12 +219,12 @@ ends_last_unwritten foreign fault r t x a b c u v w y old new count line p end n
 -- the last line was answered, and all was written
 pub ends_after_last : (foreign : Type 0) (r t x : Option (List ℕ)) (a b c : Receipts) (u v w y : Option (List ℕ)) (old mid new : Replies) (count : ℕ) (line : List ℕ)
     → Between r t a b u v old count line [] → IsAtEnd t → HasNoLf line → is_too_long line ≡ false → 0 < length line
-    → Answers (line_call line) b c old mid v w → Appends w y mid.bytes.items → new.bytes.items ≡ [] → new.written ≡ counted (mid.written + length mid.bytes.items)
+    → Answers (line_call line) b c old mid v w → Appends w y mid.bytes.items → new.bytes.items ≡ [] → new.written ≡ saturating_count (mid.written + length mid.bytes.items)
     → Ends foreign (Ok (count + 1)) r x a c u y
 ends_after_last foreign r t x a b c u v w y old mid new count line p end no_lf short some (text, replied, gathers) sent none counted_so =
     let last = progress_line a b c u v w old mid p.done line text p.progress short replied gathers in
     let written = progress_sent a c u w y mid new (p.done ++ line ∷ []) last sent none counted_so in
-    Consumes-whole r t (p.taken ++ (line ++ [])) (λ xs. Answered a c u y (lines_of xs) × (has_too_long (lines_of xs) ≡ false) × (count + 1 ≡ length (lines_of xs))) p.consumed end (
+    Consumes-whole r t (p.taken ++ (line ++ [])) (λ xs. AnswersLines a c u y (lines_of xs) × (has_too_long (lines_of xs) ≡ false) × (count + 1 ≡ length (lines_of xs))) p.consumed end (
     rw (last_line r t a b u v old count line p no_lf some)
     (answered a c u y new (p.done ++ line ∷ []) written none, written.short, sym (length-append p.done (line ∷ []) ∙ ap (λ k. k + 1) p.lines)))
 

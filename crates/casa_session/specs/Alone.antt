@@ -7,17 +7,17 @@ use Rattle.casa_flight.specs.State.{empty}
 use Rattle.casa_commit.specs.declared.world.World.{Ghosts as WorldOf}
 use Rattle.casa_commit.specs.declared.room.Room.{Room}
 use Rattle.casa_commit.specs.Rooms.{entries_of, open_desks}
-use Rattle.casa_output.specs.Sending.{counted}
+use Rattle.casa_output.specs.Sending.{saturating_count}
 use Rattle.casa_session.specs.declared.fault.SessionFault.{SessionFault}
 use Rattle.casa_session.specs.declared.fault.SessionFault.TheVariants.{LineTooLong, ReadFailed, WriteFailed, ForeignPass, NoMemory}
 use Rattle.casa_session.specs.Lines.{ended_lines, lines_of, has_too_long}
-use Rattle.casa_session.specs.Played.{calls_in, only_desk, played, receipts_after}
+use Rattle.casa_session.specs.Played.{calls_in, only_desk, sequential_history, receipts_after}
 use Rattle.casa_session.specs.Transcript.{calls, transcript}
 
 -- a room is that of one desk: this is open, and the history is the one of its calls
 pub record IsAlone {W V D : Type 0} {world : WorldOf W Call V D Reply} (room : Room W Call V D Reply world) : Type 0 where
   pub is_open : only_desk < open_desks room
-  pub history : entries_of room ≡ played empty (calls_in (entries_of room))
+  pub history : entries_of room ≡ sequential_history empty (calls_in (entries_of room))
 
 -- the transcript of these lines, each call being answered as the sequential allocator does after the calls before it
 abbrev pub transcript_after : List Call → List (List ℕ) → List ℕ
@@ -49,7 +49,7 @@ LoneEnds before now (Err ReadFailed) r s v w =
     × (has_too_long (lines_of taken) ≡ false) × (now ≡ before ++ calls (ended_lines taken))
 LoneEnds before now (Err (WriteFailed n)) r s v w =
     IfSome r (λ xs. (lines rest : List (List ℕ)) × (lines_of xs ≡ lines ++ rest)
-    × ((count : ℕ) × (count < length (transcript_after before lines)) × (n ≡ counted count)
+    × ((count : ℕ) × (count < length (transcript_after before lines)) × (n ≡ saturating_count count)
     × Appends v w (take count (transcript_after before lines)))
     × (now ≡ before ++ calls lines))
 LoneEnds before now (Err ForeignPass) r s v w = ⊥

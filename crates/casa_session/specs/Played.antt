@@ -16,9 +16,9 @@ abbrev pub only_desk : ℕ
 only_desk = 0
 
 -- the history of these calls from a state
-abbrev pub played : State → List Call → List (Entry Call Reply)
-played m [] = []
-played m (c ∷ cs) = entry only_desk c (reply m c) ∷ played (next m c) cs
+abbrev pub sequential_history : State → List Call → List (Entry Call Reply)
+sequential_history m [] = []
+sequential_history m (c ∷ cs) = entry only_desk c (reply m c) ∷ sequential_history (next m c) cs
 
 -- the calls of a history
 abbrev pub calls_in : List (Entry Call Reply) → List Call
@@ -30,8 +30,8 @@ state_after calls = fold next empty calls
 
 -- the receipts of these calls from the empty state
 abbrev pub receipts_played : List Call → Receipts
-receipts_played calls = receipts_from 1 (played empty calls)
+receipts_played calls = receipts_from 1 (sequential_history empty calls)
 
 -- the receipts of these calls after the calls before them
 abbrev pub receipts_after : List Call → List Call → Receipts
-receipts_after before calls = receipts_from (length before + 1) (played (state_after before) calls)
+receipts_after before calls = receipts_from (length before + 1) (sequential_history (state_after before) calls)

@@ -2,7 +2,7 @@
 use Rattle.std.specs.Prelude.{◌≡◌, ◌⊎◌, ℕ, ◌+◌, ◌<◌, List, [], ◌++◌, length, take, Option, Result}
 use Rattle.std.specs.Io.KnownBytes.{Appends}
 use Rattle.casa_flight.specs.declared.call.Call.{Call}
-use Rattle.casa_output.specs.Sending.{counted}
+use Rattle.casa_output.specs.Sending.{saturating_count}
 use Rattle.casa_wire.specs.declared.fault.WireFault.{WireFault}
 use Rattle.casa_wire.specs.LineTexts.{too_long_line}
 use Rattle.casa_session.specs.declared.fault.SessionFault.{SessionFault}
@@ -26,7 +26,7 @@ MayReply a b meaning text = Replied a b meaning text ⊎ ((b ≡ a) × (text ≡
 pub record Gathers (text : List ℕ) (old new : Replies) (v w : Option (List ℕ)) : Type 0 where
   pub sent : List ℕ
   pub split : old.bytes.items ++ text ≡ sent ++ new.bytes.items
-  pub reported : new.written ≡ counted (old.written + length sent)
+  pub reported : new.written ≡ saturating_count (old.written + length sent)
   pub written : Appends v w sent
 
 -- a line of this meaning was answered, and its text gathered
@@ -37,7 +37,7 @@ Answers meaning a b old new v w = (text : List ℕ) × Replied a b meaning text 
 pub record CutText (text : List ℕ) (old : Replies) (n : ℕ) (v w : Option (List ℕ)) : Type 0 where
   pub count : ℕ
   pub within : count < length (old.bytes.items ++ text)
-  pub reported : n ≡ counted (old.written + count)
+  pub reported : n ≡ saturating_count (old.written + count)
   pub written : Appends v w (take count (old.bytes.items ++ text))
 
 -- why a line has no reply: memory is refused, or a desk that may be foreign is so

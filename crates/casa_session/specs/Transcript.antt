@@ -11,7 +11,7 @@ use Rattle.casa_wire.specs.Commands.{line_call}
 use Rattle.casa_desk.specs.Receipts.{Receipts}
 use Rattle.casa_session.specs.Lines.{ended_lines, lines_of, is_too_long, has_too_long}
 use Rattle.casa_wire.specs.LineTexts.{reply_line, fault_line, too_long_line}
-use Rattle.casa_output.specs.Sending.{counted}
+use Rattle.casa_output.specs.Sending.{saturating_count}
 
 abbrev pub calls_of : Receipts → List Call
 calls_of receipts = map (λ (r : Receipt Call Reply). r.entry.call) receipts
@@ -45,7 +45,7 @@ transcript rs (l ∷ ls) =
 
 -- from the receipts a to b and the written bytes v to w: the calls of the lines were answered, and their transcript was
 -- written and nothing else
-pub record Answered (a b : Receipts) (v w : Option (List ℕ)) (lines : List (List ℕ)) : Type 0 where
+pub record AnswersLines (a b : Receipts) (v w : Option (List ℕ)) (lines : List (List ℕ)) : Type 0 where
   pub receipts : Receipts
   pub grows : b ≡ a ++ receipts
   pub called : calls_of receipts ≡ calls lines
@@ -59,7 +59,7 @@ pub record Cut (a b : Receipts) (v w : Option (List ℕ)) (lines : List (List �
   pub called : calls_of receipts ≡ calls lines
   pub count : ℕ
   pub within : count < length (transcript receipts lines)
-  pub reported : n ≡ counted count
+  pub reported : n ≡ saturating_count count
   pub written : Appends v w (take count (transcript receipts lines))
 
 -- none of the lines is too long; their calls were answered, and perhaps that of the next line, of those that are left; their
@@ -80,11 +80,11 @@ pub record Stopped (a b : Receipts) (v w : Option (List ℕ)) (lines left : List
 abbrev pub Ends : (foreign : Type 0) → Result ℕ SessionFault → (r s : Option (List ℕ)) (a b : Receipts) (v w : Option (List ℕ)) → Type 0
 Ends foreign (Ok n) r s a b v w =
     IfSome r (λ xs.
-    Answered a b v w (lines_of xs) × (has_too_long (lines_of xs) ≡ false) × (n ≡ length (lines_of xs)))
+    AnswersLines a b v w (lines_of xs) × (has_too_long (lines_of xs) ≡ false) × (n ≡ length (lines_of xs)))
 Ends foreign (Err LineTooLong) r s a b v w =
-    IfSome r (λ xs. Answered a b v w (lines_of xs) × (has_too_long (lines_of xs) ≡ true))
+    IfSome r (λ xs. AnswersLines a b v w (lines_of xs) × (has_too_long (lines_of xs) ≡ true))
 Ends foreign (Err ReadFailed) r s a b v w =
-    (taken : List ℕ) × Consumes r s taken × Answered a b v w (ended_lines taken)
+    (taken : List ℕ) × Consumes r s taken × AnswersLines a b v w (ended_lines taken)
     × (has_too_long (lines_of taken) ≡ false)
 Ends foreign (Err (WriteFailed n)) r s a b v w =
     IfSome r (λ xs. (lines rest : List (List ℕ)) × (lines_of xs ≡ lines ++ rest) × Cut a b v w lines n)

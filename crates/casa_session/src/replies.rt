@@ -2,7 +2,7 @@
 
 ghost use Rattle.std.specs.Prelude.{◌≡◌, ℕ, ◌+◌, ◌<◌, ◌^◌, [], ◌++◌, List, length, OnOk, OnErr, IfErr};
 ghost use Rattle.std.specs.Io.KnownBytes.{Appends};
-ghost use Rattle.casa_output.specs.Sending.{counted};
+ghost use Rattle.casa_output.specs.Sending.{saturating_count};
 ghost use Rattle.casa_wire.specs.Commands.{line_call};
 
 use crate::fault::SessionFault;
@@ -99,7 +99,7 @@ impl Replies {
     pub fn write<W: Write>(&mut self, writer: &mut W) -> Result<(), SessionFault>
         ensures ok { OnOk result (Appends (W.contents writer.old) (W.contents writer.new) self.old.bytes.items) }
         ensures none { OnOk result (self.new.bytes.items ≡ []) }
-        ensures count { OnOk result (self.new.written ≡ counted (self.old.written + length self.old.bytes.items)) }
+        ensures count { OnOk result (self.new.written ≡ saturating_count (self.old.written + length self.old.bytes.items)) }
         ensures err { IfErr result (λ fault.
             IsUnwritten fault self.old (W.contents writer.old) (W.contents writer.new)) }
     {

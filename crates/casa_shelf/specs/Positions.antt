@@ -12,5 +12,5 @@ is_same_position a b = a.0 == b.0 && a.1 == b.1
 pub same_position : (m : ℕ × ℕ × Item) → is_same_position m m ≡ true
 same_position m = both_true (eq-eqb m.0 m.0 refl) (eq-eqb m.1 m.1 refl)
 
-pub same_position_number : (a b : ℕ × ℕ × Item) → is_same_position a b ≡ true → a.0 ≡ b.0
-same_position_number a b h = eqb-true a.0 b.0 (and_parts _ _ h).0
+pub same_position_stamp : (a b : ℕ × ℕ × Item) → is_same_position a b ≡ true → a.0 ≡ b.0
+same_position_stamp a b h = eqb-true a.0 b.0 (and_parts _ _ h).0

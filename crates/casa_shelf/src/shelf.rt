@@ -3,7 +3,7 @@
 ghost use Rattle.std.specs.Prelude.{◌≡◌, [], IsTrue};
 ghost use Rattle.boxcar.specs.Table.{Shelves};
 
-use casa_item::{Item, Kept, Version};
+use casa_item::{Item, Store, Version};
 use std::alloc::AllocError;
 use std::marker::{Brand, Model, PhantomData};
 use std::sync::{Arc, Wait};
@@ -23,7 +23,7 @@ impl Shelving for Brand {
 /// Contracts see the stamp, the position and the item, which stays where it was put.
 #[derive(Drop)]
 pub struct Shelved<'a, V: Shelving> {
-    number: usize,
+    stamp: usize,
     token: boxcar::Pushed<Arc<Item>>,
     items: &'a boxcar::Vec<Arc<Item>>,
     name: PhantomData<V>,
@@ -37,7 +37,7 @@ impl<'a, V: Shelving> Model for Shelved<'a, V> {
 
     ghost Value = { ℕ × ℕ × Item };
 
-    ghost view = { λ s. (s.number, s.token.index, arc_value s.token.value) };
+    ghost view = { λ s. (s.stamp, s.token.index, arc_value s.token.value) };
 
     ghost invariant = { λ s. Shows V.shelves s.token × (s.items.now ≡ V.shelves) };
 }
@@ -57,7 +57,7 @@ impl<'a, V: Shelving> Shelved<'a, V> {
         ensures same { result ≡ is_same_position self.now other.now }
         ensures shows { IsTrue result → self.now.2 ≡ other.now.2 }
     {
-        if self.number == other.number && self.token.index() == other.token.index() {
+        if self.stamp == other.stamp && self.token.index() == other.token.index() {
             self.items.agrees(&self.token, &other.token);
             true
         } else {
@@ -67,11 +67,11 @@ impl<'a, V: Shelving> Shelved<'a, V> {
 }
 
 impl<'a, V: Shelving> Version for Shelved<'a, V> {
-    ghost use Rattle.casa_shelf.specs.Positions.{is_same_position, same_position, same_position_number};
+    ghost use Rattle.casa_shelf.specs.Positions.{is_same_position, same_position, same_position_stamp};
 
     ghost item_of = { λ s. s.2 };
 
-    ghost number = { λ s. s.0 };
+    ghost stamp_of = { λ s. s.0 };
 
     ghost is_same = { is_same_position };
 
@@ -85,7 +85,7 @@ impl<'a, V: Shelving> Version for Shelved<'a, V> {
 
     fn try_clone(&self) -> Result<Shelved<'a, V>, AllocError> {
         Ok(Shelved {
-            number: self.number,
+            stamp: self.stamp,
             token: self.token.again(),
             items: self.items,
             name: PhantomData,
@@ -94,7 +94,7 @@ impl<'a, V: Shelving> Version for Shelved<'a, V> {
 
     ghost same_itself = { same_position };
 
-    ghost same_number = { same_position_number };
+    ghost same_stamp = { same_position_stamp };
 }
 
 /// The store that puts each version on a shelf: a vector that others read meanwhile, and where it stays as long as the
@@ -132,15 +132,15 @@ impl<'a, V: Shelving, R> Drop for Shelf<'a, V, R> {
     }
 }
 
-impl<'a, V: Shelving, R: Wait> Kept for Shelf<'a, V, R> {
+impl<'a, V: Shelving, R: Wait> Store for Shelf<'a, V, R> {
     type Version = Shelved<'a, V>;
 
-    fn put(&mut self, number: usize, item: Arc<Item>) -> Result<Shelved<'a, V>, AllocError> {
+    fn put(&mut self, position: usize, item: Arc<Item>) -> Result<Shelved<'a, V>, AllocError> {
         let Ok(token) = self.items.push_shown(self.rt, item) else {
             return Err(AllocError);
         };
         Ok(Shelved {
-            number,
+            stamp: position,
             token,
             items: self.items,
             name: PhantomData,

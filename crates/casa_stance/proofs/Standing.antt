@@ -9,7 +9,7 @@ use Rattle.casa_flight.specs.Entry.{with_competitor}
 use Rattle.casa_list.specs.Standings.{governed_cto_as, governed_cto}
 use Rattle.casa_flight.specs.Good.{AreInOrder}
 use Rattle.casa_laws.proofs.Kept.{at-without_same, without_absent, put-without, put_same}
-use Rattle.casa_answer.specs.Write.{with_flight}
+use Rattle.casa_plan_spec.specs.Write.{with_flight}
 
 pub without_none : (l : Listing) (key : Text) → stance_of l key ≡ None → l ≡ with_flight l key None
 without_none l key absent = ap (λ fs. record l { flights = fs }) (sym (without_absent key l.flights absent))

@@ -6,7 +6,7 @@ ghost use Rattle.casa_flight.specs.Listing.{stance_of};
 ghost use Rattle.casa_flight.specs.declared.row.Stance.{Stance};
 ghost use Rattle.casa_flight.specs.IssuedTimes.{with_issued};
 ghost use Rattle.casa_list.specs.Standings.{governed_place};
-ghost use Rattle.casa_answer.specs.Write.{with_flight};
+ghost use Rattle.casa_plan_spec.specs.Write.{with_flight};
 
 use casa_flight::{Comp, Key, Stance};
 use casa_list::{SharedList, SlotList};

@@ -7,7 +7,7 @@ use Rattle.casa_filing.specs.Text.{Text, at_name}
 use Rattle.casa_flight.specs.Good.{AreInOrder}
 use Rattle.casa_filing.proofs.Entries.{text_cmp, same_name, itself}
 use Rattle.casa_laws.proofs.Kept.{at_above}
-use Rattle.casa_table.specs.Laid.{laid}
+use Rattle.casa_table.specs.Laid.{with_changes}
 use Rattle.casa_table.proofs.Layers.{at-below}
 
 -- one entry earlier
@@ -58,7 +58,7 @@ later-found {X} es rest k x is order q w found =
 -- those of neither
 module _ {X : Type 0} (P : Option X → Option X → Type 0) (ts ss es fs : List (Text × X))
     (ws vs : List (Text × Option X)) where
-  pub all-layers : laid ws es ≡ ts → laid vs fs ≡ ss → AreInOrder es × AreInOrder ws → AreInOrder fs × AreInOrder vs
+  pub all-layers : with_changes ws es ≡ ts → with_changes vs fs ≡ ss → AreInOrder es × AreInOrder ws → AreInOrder fs × AreInOrder vs
       → ((q : Text) (w : Option X) → at_name ws q ≡ Some w → P (at_name ts q) (at_name ss q))
       → ((q : Text) (w : Option X) → at_name vs q ≡ Some w → P (at_name ts q) (at_name ss q))
       → ((q : Text) → at_name ts q ≡ at_name es q → at_name ss q ≡ at_name fs q → P (at_name ts q) (at_name ss q))

@@ -11,7 +11,7 @@ use Rattle.std.specs.Map.{keys_of}
 use Rattle.casa_time.specs.Due as due
 use Rattle.casa_flight.specs.declared.row.Row.{Row}
 use Rattle.casa_filing.specs.Text.{Text, same_text}
-use Rattle.casa_flight.specs.Listing.{kept}
+use Rattle.casa_flight.specs.Listing.{filter_map_values}
 use Rattle.casa_flight.specs.Entry.{is_to_issue}
 use Rattle.casa_filing.proofs.Entries.{text_cmp, same_name, itself, named}
 use Rattle.casa_table.specs.declared.flights.Departure.{Departure}
@@ -140,12 +140,12 @@ row_due at row_at ds have q t h = by (row_at q) refl h
         let is_row : IsDueRow at row = due_row_is at row t h in
         due_named at (departure q row) ds (have q row found is_row.waits) is_row.is_due
 
-pub keys_due : (at : ℕ) (rows : List (Text × Row)) → keys_of (kept (due_row at) rows) ≡ due_keys at rows
+pub keys_due : (at : ℕ) (rows : List (Text × Row)) → keys_of (filter_map_values (due_row at) rows) ≡ due_keys at rows
 keys_due at [] = refl
 keys_due at (e ∷ es) =
     elim (is_to_issue at e.1) as (λ b.
     keys_of (cons_option (option_map (λ (t : ℕ). (e.0, t)) (if b then Some e.1.plan.eobt else None))
-    (kept (due_row at) es)) ≡ cons_option (if b then Some e.0 else None) (due_keys at es)) [
+    (filter_map_values (due_row at) es)) ≡ cons_option (if b then Some e.0 else None) (due_keys at es)) [
       | true ↦ ap (λ ks. e.0 ∷ ks) (keys_due at es)
       | false ↦ keys_due at es
     ]

@@ -15,7 +15,7 @@ use Rattle.casa_filing.proofs.Entries.{text_cmp, same_name, itself, named, at-pu
 use Rattle.casa_filing.proofs.Entries.{sorted-remove}
 use Rattle.casa_laws.proofs.Kept.{at_above, at-without_same, same_entries}
 use Rattle.casa_named.proofs.Found.{same_test}
-use Rattle.casa_table.specs.Laid.{where_put, with_value, laid}
+use Rattle.casa_table.specs.Laid.{where_put, with_value, with_changes}
 
 pub sorted-with_value : {X : Type 0} (k : Text) (w : Option X) (es : List (Text × X)) → AreInOrder es
     → AreInOrder (with_value es k w)
@@ -23,7 +23,7 @@ sorted-with_value k None es h = sorted-remove _ es h
 sorted-with_value k (Some x) es h = sorted-put k x es h
 
 pub sorted-laid : {X : Type 0} (ws : List (Text × Option X)) (es : List (Text × X)) → AreInOrder es
-    → AreInOrder (laid ws es)
+    → AreInOrder (with_changes ws es)
 sorted-laid [] es h = h
 sorted-laid (w ∷ ws) es h = sorted-laid ws (with_value es w.0 w.1) (sorted-with_value w.0 w.1 es h)
 
@@ -41,7 +41,7 @@ at-with_value {X} q k None es h =
 -- a look-up looks among the changes first
 pub at-laid : {X : Type 0} (q : Text) (ws : List (Text × Option X)) (es : List (Text × X)) → AreInOrder ws
     → AreInOrder es
-    → at_name (laid ws es) q ≡ unwrap_or (at_name ws q) (at_name es q)
+    → at_name (with_changes ws es) q ≡ unwrap_or (at_name ws q) (at_name es q)
 unfolding IsStrictlySortedBy
 at-laid q [] es g h = refl
 at-laid {X} q (w ∷ ws) es g h =
@@ -59,12 +59,12 @@ at-laid {X} q (w ∷ ws) es g h =
 
 pub at-below : {X : Type 0} (q : Text) (ws : List (Text × Option X)) (es : List (Text × X)) → AreInOrder ws
     → AreInOrder es
-    → at_name ws q ≡ None → at_name (laid ws es) q ≡ at_name es q
+    → at_name ws q ≡ None → at_name (with_changes ws es) q ≡ at_name es q
 at-below {X} q ws es g h none =
     at-laid q ws es g h ∙ ap (λ (o : Option (Option X)). unwrap_or o (at_name es q)) none
 
 -- entries that are laid in two layers
-module _ {X : Type 0} (ws : List (Text × Option X)) (es all : List (Text × X)) (is : laid ws es ≡ all)
+module _ {X : Type 0} (ws : List (Text × Option X)) (es all : List (Text × X)) (is : with_changes ws es ≡ all)
     (order : AreInOrder es) where
   pub sorted-layers : AreInOrder all
   sorted-layers = subst (λ (fs : List (Text × X)). AreInOrder fs) is (sorted-laid ws es order)
@@ -87,13 +87,13 @@ over_over (Some x) b c = refl
 pub laid-over : {X : Type 0} (ws vs both : List (Text × Option X)) (es : List (Text × X))
     → AreInOrder ws → AreInOrder vs → AreInOrder both → AreInOrder es
     → ((q : Text) → at_name both q ≡ option_or (at_name ws q) (at_name vs q))
-    → laid both es ≡ laid ws (laid vs es)
+    → with_changes both es ≡ with_changes ws (with_changes vs es)
 laid-over ws vs both es f g h order over =
-    same_entries _ _ (sorted-laid both es order) (sorted-laid ws (laid vs es) (sorted-laid vs es order))
+    same_entries _ _ (sorted-laid both es order) (sorted-laid ws (with_changes vs es) (sorted-laid vs es order))
     (λ q. at-laid q both es h order ∙ (λ i. unwrap_or (over q i) (at_name es q))
     ∙ over_over (at_name ws q) (at_name vs q) (at_name es q)
     ∙ (λ i. unwrap_or (at_name ws q) (sym (at-laid q vs es g order) i))
-    ∙ sym (at-laid q ws (laid vs es) f (sorted-laid vs es order)))
+    ∙ sym (at-laid q ws (with_changes vs es) f (sorted-laid vs es order)))
 
 -- what holds of all names holds of one among them
 pub all-mid : {X : Type 0} (P : Text → Type 0) (p : List (Text × X)) (k : Text) (v : X) (rest : List (Text × X))

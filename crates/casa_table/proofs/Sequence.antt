@@ -18,7 +18,7 @@ use Rattle.casa_filing.specs.Text.{Text, at_name}
 use Rattle.casa_flight.specs.Good.{AreInOrder}
 use Rattle.casa_filing.specs.Subject.{subject}
 use Rattle.casa_flight.specs.Steps.{flights_over}
-use Rattle.casa_flight.specs.Listing.{kept, in_order, put_by, is_before}
+use Rattle.casa_flight.specs.Listing.{filter_map_values, sorted_by, insert_sorted, is_before}
 use Rattle.casa_filing.proofs.Entries.{text_cmp, same_name}
 use Rattle.casa_laws.proofs.Competitors.{less_apart, before_one_way}
 use Rattle.casa_flight.proofs.PutBy.{put_later, put_first, all-put_by}
@@ -77,11 +77,11 @@ not_tied x y Less b p q h other = cc
 not_tied x y Greater b p q h other = cc
 
 insert_put : (x : Comp) (ys : List Comp) → AllByRecursion (HasOther x.key) ys
-    → insert_key sequence.cmp ys x ≡ put_by is_before x ys
+    → insert_key sequence.cmp ys x ≡ insert_sorted is_before x ys
 insert_put x [] other = refl
 insert_put x (y ∷ ys) other =
     elim (sequence.cmp x y) as (λ r. sequence.cmp x y ≡ r
-    → match_ordering r (x ∷ y ∷ ys) (y ∷ ys) (y ∷ insert_key sequence.cmp ys x) ≡ put_by is_before x (y ∷ ys)) [
+    → match_ordering r (x ∷ y ∷ ys) (y ∷ ys) (y ∷ insert_key sequence.cmp ys x) ≡ insert_sorted is_before x (y ∷ ys)) [
       | Less ↦ λ t. sym
           (put_first is_before x y ys
           (before_one_way x y (less_before x y (nat_cmp x.eto y.eto) (text_cmp x.key y.key) refl refl t)))
@@ -97,7 +97,7 @@ AreOther comps es = AllByRecursion (λ (e : Text × ℕ). AllByRecursion (HasOth
 
 still_other : (x : Text × ℕ) (comps : List Comp) (es : List (Text × ℕ))
     → AllByRecursion (λ y. text_cmp x.0 y ≡ Less) (keys_of es) → AreOther comps es
-    → AreOther (put_by is_before (comp_of x) comps) es
+    → AreOther (insert_sorted is_before (comp_of x) comps) es
 still_other x comps [] above h = tt
 still_other x comps (e ∷ es) above h = (
   all-put_by (HasOther e.0) is_before (comp_of x) (less_apart x.0 e.0 above.0) comps h.0,
@@ -105,23 +105,23 @@ still_other x comps (e ∷ es) above h = (
 )
 
 inserted_is : (es : List (Text × ℕ)) (comps : List Comp) → AreInOrder es → AreOther comps es
-    → inserted comps es ≡ fold (λ (ys : List Comp) (x : Comp). put_by is_before x ys) comps (map comp_of es)
+    → inserted comps es ≡ fold (λ (ys : List Comp) (x : Comp). insert_sorted is_before x ys) comps (map comp_of es)
 unfolding IsStrictlySortedBy
 inserted_is [] comps sorted other = refl
 inserted_is (e ∷ es) comps sorted other =
     ap (λ (cs : List Comp). inserted cs es) (insert_put (comp_of e) comps other.0)
-    ∙ inserted_is es (put_by is_before (comp_of e) comps) sorted.1 (still_other e comps es sorted.0 other.1)
+    ∙ inserted_is es (insert_sorted is_before (comp_of e) comps) sorted.1 (still_other e comps es sorted.0 other.1)
 
 none_there : (es : List (Text × ℕ)) → AreOther [] es
 none_there [] = tt
 none_there (e ∷ es) = (tt, none_there es)
 
-comps_are : (r : Regulation) (rows : List (Text × Row)) → map comp_of (kept (over_row r) rows)
+comps_are : (r : Regulation) (rows : List (Text × Row)) → map comp_of (filter_map_values (over_row r) rows)
     ≡ filter_map
     (λ (e : Text × Row). option_map (λ (eto : ℕ). record { eto = eto; key = e.0 }) (subject e.1.plan r)) rows
 comps_are r [] = refl
 comps_are r (e ∷ es) =
-    both (subject e.1.plan r) e.0 (kept (over_row r) es) _ (comps_are r es)
+    both (subject e.1.plan r) e.0 (filter_map_values (over_row r) es) _ (comps_are r es)
   where
     both : (o : Option ℕ) (key : Text) (found : List (Text × ℕ)) (comps : List Comp) → map comp_of found ≡ comps
         → map comp_of (cons_option (option_map (λ (t : ℕ). (key, t)) o) found)
@@ -129,12 +129,12 @@ comps_are r (e ∷ es) =
     both None key found comps h = h
     both (Some t) key found comps h = ap (λ (cs : List Comp). record { eto = t; key = key } ∷ cs) h
 
-pub set_in_order : (es : List (Text × ℕ)) → AreInOrder es → inserted [] es ≡ in_order is_before (comps es)
+pub set_in_order : (es : List (Text × ℕ)) → AreInOrder es → inserted [] es ≡ sorted_by is_before (comps es)
 set_in_order es sorted = inserted_is es [] sorted (none_there es)
 
 pub sequence_is : (r : Regulation) (rows : List (Text × Row))
-    → in_order is_before (comps (kept (over_row r) rows)) ≡ flights_over (λ (row : Row). true) r rows
-sequence_is r rows = ap (in_order is_before) (comps_are r rows)
+    → sorted_by is_before (comps (filter_map_values (over_row r) rows)) ≡ flights_over (λ (row : Row). true) r rows
+sequence_is r rows = ap (sorted_by is_before) (comps_are r rows)
 
 -- times are in the order of what they are the times of
 above-times : {V : Type 0} (k : Text) (found : List (Text × (ℕ × V)))

@@ -20,8 +20,8 @@ answer (Due at) row = due_row at row
 answer (Over r) row = over_row r row
 
 -- the same of the row that a version shows, with the version
-abbrev pub answered : {V : Type 0} → (V → Item) → Question → V → Option (ℕ × V)
-answered item_of question v =
+abbrev pub answer_with_version : {V : Type 0} → (V → Item) → Question → V → Option (ℕ × V)
+answer_with_version item_of question v =
     option_map (λ (t : ℕ). (t, v)) (option_and_then (answer question) (row_of (item_of v)))
 
 -- the times that flights answer

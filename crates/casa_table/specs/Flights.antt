@@ -3,7 +3,7 @@ use Rattle.std.specs.Prelude.{◌≡◌, List, Bool, true, false, Option, None, 
 use Rattle.std.specs.Option.{option_and_then}
 use Rattle.casa_flight.specs.declared.row.Row.{Row}
 use Rattle.casa_filing.specs.Text.{Text, same_text}
-use Rattle.casa_flight.specs.Listing.{kept}
+use Rattle.casa_flight.specs.Listing.{filter_map_values}
 use Rattle.casa_item.specs.declared.item.Item.{Item}
 use Rattle.casa_table.specs.declared.flights.Departure.{Departure}
 use Rattle.casa_table.specs.declared.flights.Passing.{Passing}
@@ -14,14 +14,14 @@ use Rattle.casa_table.specs.Passing.{HavePassings}
 
 -- the rows of which these are the versions
 abbrev pub rows_of : {V : Type 0} → (V → Item) → List (Text × V) → List (Text × Row)
-rows_of {V} item_of entries = kept (λ (v : V). row_of (item_of v)) entries
+rows_of {V} item_of entries = filter_map_values (λ (v : V). row_of (item_of v)) entries
 
 -- the same, where an entry may also say that a row is absent
 abbrev pub row_named : {V : Type 0} → (V → Item) → Option V → Option Row
 row_named {V} item_of w = option_and_then (λ (v : V). row_of (item_of v)) w
 
 abbrev pub rows_named : {V : Type 0} → (V → Item) → List (Text × Option V) → List (Text × Row)
-rows_named item_of entries = kept (row_named item_of) entries
+rows_named item_of entries = filter_map_values (row_named item_of) entries
 
 -- the row under each name, where these versions stand
 abbrev pub row_where : {V : Type 0} → (V → Item) → (Text → Option V) → Text → Option Row

@@ -12,11 +12,11 @@ with_value es name None = without es name
 with_value es name (Some x) = put es name x
 
 -- the entries after these changes
-abbrev pub laid : {X : Type 0} → List (Text × Option X) → List (Text × X) → List (Text × X)
-laid [] es = es
-laid (w ∷ ws) es = laid ws (with_value es w.0 w.1)
+abbrev pub with_changes : {X : Type 0} → List (Text × Option X) → List (Text × X) → List (Text × X)
+with_changes [] es = es
+with_changes (w ∷ ws) es = with_changes ws (with_value es w.0 w.1)
 
--- a table has entries, and those that it will have once it is turned
-pub record Turning (X : Type 0) : Type 0 where
+-- a table has entries, and those that it will have once it adopts the changes
+pub record TableEntries (X : Type 0) : Type 0 where
   pub entries : List (Text × X)
   pub next : List (Text × X)

@@ -6,15 +6,15 @@ ghost use Rattle.std.specs.Map.{keys_of};
 ghost use Rattle.casa_flight.specs.declared.row.Row.{Row};
 ghost use Rattle.casa_filing.specs.Text.{Text, at_name};
 ghost use Rattle.casa_flight.specs.Good.{AreInOrder};
-ghost use Rattle.casa_flight.specs.Listing.{kept, in_order, is_before};
+ghost use Rattle.casa_flight.specs.Listing.{filter_map_values, sorted_by, is_before};
 ghost use Rattle.casa_flight.specs.Steps.{flights_over};
-ghost use Rattle.casa_item.specs.Gathered.{noted, HasGathered};
+ghost use Rattle.casa_item.specs.Gathered.{put_if_some, HasGathered};
 ghost use Rattle.casa_footprint.specs.Finding.{due_keys};
 ghost use Rattle.casa_table.specs.Waiting.{due_row, due_names, HaveWaiting};
 ghost use Rattle.casa_table.specs.Passing.{passings_at, HavePassings, in_span, names, comps};
 ghost use Rattle.casa_table.specs.Flights.{rows_of, rows_named, row_where};
 ghost use Rattle.casa_table.specs.declared.asking.Question.TheVariants.{Due, Over};
-ghost use Rattle.casa_table.specs.Asking.{answer, answered, times, AreOf, HaveRows, with_flight};
+ghost use Rattle.casa_table.specs.Asking.{answer, answer_with_version, times, AreOf, HaveRows, with_flight};
 
 use crate::flights::{Departure, FlightIndex, Passing, Passings, is_waiting};
 use crate::table::{Base, Changes, Shared};
@@ -64,7 +64,7 @@ type Found<V> = BTreeMap<Key, (Moment, V)>;
 /// What the flight of a version answers, with the version, if there is a row. `AllocError` where there is no memory for
 /// the version.
 fn answered<V: Version>(question: &Question, version: &V) -> Result<Option<(Moment, V)>, AllocError>
-    ensures { IfOk result (λ found. found ≡ answered V.item_of question.now version.now) }
+    ensures { IfOk result (λ found. found ≡ answer_with_version V.item_of question.now version.now) }
 {
     let Some(row) = row_in(version.item()) else {
         return Ok(None);
@@ -81,7 +81,7 @@ fn note<V: Version>(
     key: Key,
     answer: Option<(Moment, V)>,
 ) -> Result<(), AllocError>
-    ensures { OnOk result (found.new.entries ≡ noted found.old.entries key answer) }
+    ensures { OnOk result (found.new.entries ≡ put_if_some found.old.entries key answer) }
 {
     if let Some(answer) = answer {
         found.insert(key, answer)?;
@@ -114,7 +114,7 @@ fn put_flight<V: Version>(
 /// Flights by time over and key, with the versions of their rows.
 fn in_order<V: Version>(alloc: Global, found: Found<V>) -> Result<BTreeMap<Comp, V>, AllocError>
     ensures comps { IfOk result (λ flights.
-        keys_of flights.entries ≡ in_order is_before (comps (times found.entries))) }
+        keys_of flights.entries ≡ sorted_by is_before (comps (times found.entries))) }
     ensures rows { IfOk result (λ flights. (rows : List (Text × Row)) →
         AreOf V.item_of rows found.entries → HaveRows V.item_of rows flights.entries) }
     ensures ordered { AreInOrder found.entries }
@@ -149,7 +149,7 @@ impl<V: Version> Shared<OfFlight, V, FlightIndex> {
     /// memory for the version.
     fn answer(&self, question: &Question, key: &Key) -> Result<Option<(Moment, V)>, AllocError>
         ensures { IfOk result (λ found.
-            found ≡ option_and_then (answered V.item_of question.now) (at_name self.now key.now)) }
+            found ≡ option_and_then (answer_with_version V.item_of question.now) (at_name self.now key.now)) }
     {
         match self.get(key) {
             Some(version) => answered(question, version),
@@ -164,7 +164,7 @@ impl<V: Version> Shared<OfFlight, V, FlightIndex> {
         question: &Question,
         changes: &Changes<OfFlight, V>,
     ) -> Result<(), AllocError>
-        ensures { OnOk result (HasGathered (answered V.item_of question.now) self.now
+        ensures { OnOk result (HasGathered (answer_with_version V.item_of question.now) self.now
             (keys_of changes.now.entries) found.old.entries found.new.entries) }
     {
         for (key, _) in changes {
@@ -180,7 +180,7 @@ impl<V: Version> Shared<OfFlight, V, FlightIndex> {
         at: Moment,
         departures: &BTreeSet<Departure>,
     ) -> Result<(), AllocError>
-        ensures { OnOk result (HasGathered (answered V.item_of (Due at)) self.now
+        ensures { OnOk result (HasGathered (answer_with_version V.item_of (Due at)) self.now
             (due_names at departures.now.keys) found.old.entries found.new.entries) }
     {
         for departure in departures {
@@ -203,7 +203,7 @@ impl<V: Version> Shared<OfFlight, V, FlightIndex> {
         there: &BTreeSet<Passing>,
     ) -> Result<(), AllocError>
         requires { regulation.now.start ≤ end }
-        ensures { OnOk result (HasGathered (answered V.item_of (Over regulation.now)) self.now
+        ensures { OnOk result (HasGathered (answer_with_version V.item_of (Over regulation.now)) self.now
             (names (in_span regulation.now end there.now.keys)) found.old.entries found.new.entries) }
     {
         let start = Passing {
@@ -232,7 +232,7 @@ impl<V: Version> Shared<OfFlight, V, FlightIndex> {
         passings: &Passings,
     ) -> Result<(), AllocError>
         requires { regulation.now.start ≤ end }
-        ensures { OnOk result (HasGathered (answered V.item_of (Over regulation.now)) self.now
+        ensures { OnOk result (HasGathered (answer_with_version V.item_of (Over regulation.now)) self.now
             (names (in_span regulation.now end (passings_at passings.now.entries regulation.now.loc)))
             found.old.entries found.new.entries) }
     {
@@ -244,7 +244,7 @@ impl<V: Version> Shared<OfFlight, V, FlightIndex> {
 
     /// The flights to issue at this time, with their off-block times.
     fn found_due(&self, alloc: Global, at: Moment) -> Result<Found<V>, AllocError>
-        ensures { IfOk result (λ found. found.entries ≡ kept (answered V.item_of (Due at)) self.now) }
+        ensures { IfOk result (λ found. found.entries ≡ filter_map_values (answer_with_version V.item_of (Due at)) self.now) }
     {
         let mut found = BTreeMap::new(alloc);
         self.note_changed(&mut found, &Question::Due(at), &self.recent)?;
@@ -268,7 +268,7 @@ impl<V: Version> Shared<OfFlight, V, FlightIndex> {
     /// The flights that are subject to a regulation, with their times over.
     fn found_over(&self, alloc: Global, regulation: &Regulation) -> Result<Found<V>, AllocError>
         ensures found { IfOk result (λ found.
-            found.entries ≡ kept (answered V.item_of (Over regulation.now)) self.now) }
+            found.entries ≡ filter_map_values (answer_with_version V.item_of (Over regulation.now)) self.now) }
         ensures ordered { OnOk result (AreInOrder self.now) }
     {
         let end = later(regulation.start, regulation.end);
@@ -301,7 +301,7 @@ fn answer_named<V: Version>(
     question: &Question,
     version: &Option<V>,
 ) -> Result<Option<(Moment, V)>, AllocError>
-    ensures { IfOk result (λ found. found ≡ option_and_then (answered V.item_of question.now) version.now) }
+    ensures { IfOk result (λ found. found ≡ option_and_then (answer_with_version V.item_of question.now) version.now) }
 {
     match version {
         Some(version) => answered(question, version),

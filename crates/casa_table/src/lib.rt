@@ -2,14 +2,14 @@
 #![tactic(auto)]
 
 mod asking;
-mod comparing;
 mod flights;
 mod index;
 mod table;
+mod validation;
 
 pub use asking::{due_named, flights_over_named};
-pub use casa_item::{Catalogue, Copied, Copies, Crossings, Item, Kept, Version, row_in};
-pub use comparing::{same_all, same_named, same_version};
+pub use casa_item::{Catalogue, Copied, Copies, Crossings, Item, Store, Version, row_in};
 pub use flights::FlightIndex;
 pub use index::{Index, NoIndex};
 pub use table::{Changes, Shared, Table, Values};
+pub use validation::{same_all, same_named, same_version};

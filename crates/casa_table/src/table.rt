@@ -5,7 +5,7 @@ ghost use Rattle.std.specs.Arc.{arc_value};
 ghost use Rattle.std.specs.Option.{option_copied, option_or};
 ghost use Rattle.casa_filing.specs.Text.{Text, same_text, at_name, put, without};
 ghost use Rattle.casa_flight.specs.Good.{AreInOrder};
-ghost use Rattle.casa_table.specs.Laid.{with_value, laid};
+ghost use Rattle.casa_table.specs.Laid.{with_value, with_changes};
 
 use crate::index::Index;
 use casa_flight::Name;
@@ -116,7 +116,7 @@ impl<Kind: Copy, V: Version, I: Index<Kind, V>> Base<Kind, V, I> {
 
     /// Moves the first change over to the values.
     fn absorb_first(&mut self, changes: &mut Changes<Kind, V>) -> Result<(), AllocError>
-        ensures same { laid changes.new.entries self.new ≡ laid changes.old.entries self.old }
+        ensures same { with_changes changes.new.entries self.new ≡ with_changes changes.old.entries self.old }
         ensures fewer { OnOk result (length changes.new.entries ≡ length changes.old.entries - 1) }
         ensures ordered { AreInOrder self.old → AreInOrder self.new }
         ensures changes_ordered { AreInOrder changes.old.entries → AreInOrder changes.new.entries }
@@ -132,7 +132,7 @@ impl<Kind: Copy, V: Version, I: Index<Kind, V>> Base<Kind, V, I> {
     /// Moves all changes over to the values. `AllocError` where there is no memory for one; what the changes lead to is
     /// then the same.
     fn absorb(&mut self, changes: &mut Changes<Kind, V>) -> Result<(), AllocError>
-        ensures same { laid changes.new.entries self.new ≡ laid changes.old.entries self.old }
+        ensures same { with_changes changes.new.entries self.new ≡ with_changes changes.old.entries self.old }
         ensures done { OnOk result (changes.new.entries ≡ []) }
         ensures ordered { AreInOrder self.old → AreInOrder self.new }
         ensures changes_ordered { AreInOrder changes.old.entries → AreInOrder changes.new.entries }
@@ -160,7 +160,7 @@ impl<Kind: Copy, V: Version, I: Index<Kind, V>> Base<Kind, V, I> {
         alloc: Global,
         changes: &Changes<Kind, V>,
     ) -> Result<Base<Kind, V, I>, AllocError>
-        ensures { IfOk result (λ merged. merged ≡ laid changes.now.entries self.now) }
+        ensures { IfOk result (λ merged. merged ≡ with_changes changes.now.entries self.now) }
     {
         let mut merged = self.copied(alloc)?;
         for (name, change) in changes {
@@ -179,13 +179,13 @@ pub type Changes<Kind, V> = BTreeMap<Name<Kind>, Option<V>>;
 /// The largest number of changes that may lie beside a base that a view shares, before a base is made anew.
 const MOST_BESIDE: usize = 4096;
 
-/// Values under names, which change in two steps: `fit` makes the changes ready, and `turn` turns to them, which takes
+/// Values under names, which change in two steps: `fit` makes the changes ready, and `adopt` makes them its own, which takes
 /// no memory.
 ///
 /// A view may share all values, and what is shared does not change. So while a view has them, changes lie beside them;
 /// they are moved in when no view has them any more.
 ///
-/// Contracts see the entries, and those that it will have once it is turned.
+/// Contracts see the entries, and those that it will have once it adopts the changes.
 pub struct Table<Kind, V, I: Index<Kind, V>> {
     alloc: Global,
     base: Arc<Base<Kind, V, I>>,
@@ -195,14 +195,14 @@ pub struct Table<Kind, V, I: Index<Kind, V>> {
 
 impl<Kind, V, I: Index<Kind, V>> Model for Table<Kind, V, I> {
     ghost use Rattle.std.specs.Arc.{arc_value};
-    ghost use Rattle.casa_table.specs.Laid.{laid, Turning};
+    ghost use Rattle.casa_table.specs.Laid.{with_changes, TableEntries};
     ghost use Rattle.casa_flight.specs.Good.{AreInOrder};
 
-    ghost Value = { Turning V };
+    ghost Value = { TableEntries V };
 
     ghost view = { λ t. record {
-      entries = laid (arc_value t.recent).entries (arc_value t.base);
-      next = laid (arc_value t.coming).entries (arc_value t.base);
+      entries = with_changes (arc_value t.recent).entries (arc_value t.base);
+      next = with_changes (arc_value t.coming).entries (arc_value t.base);
     } };
 
     ghost invariant = { λ t.
@@ -246,7 +246,7 @@ impl<Kind: Copy, V: Version, I: Index<Kind, V>> Table<Kind, V, I> {
 
     /// The values of the base, and the changes that lie beside it.
     pub(crate) fn layers(&self) -> (&Values<Kind, V>, &Changes<Kind, V>)
-        ensures laid { laid result.1.now.entries result.0.now.entries ≡ self.now.entries }
+        ensures laid { with_changes result.1.now.entries result.0.now.entries ≡ self.now.entries }
         ensures ordered { AreInOrder result.0.now.entries × AreInOrder result.1.now.entries }
     {
         (self.base.values(), &self.recent)
@@ -291,11 +291,11 @@ impl<Kind: Copy, V: Version, I: Index<Kind, V>> Table<Kind, V, I> {
         spare
     }
 
-    /// Makes changes ready to be turned to. `AllocError` where there is no memory for them; the values are then as they
+    /// Makes changes ready to be adopted. `AllocError` where there is no memory for them; the values are then as they
     /// were.
     pub fn fit(&mut self, changes: Changes<Kind, V>) -> Result<(), AllocError>
         ensures same { self.new.entries ≡ self.old.entries }
-        ensures next { OnOk result (self.new.next ≡ laid changes.entries self.new.entries) }
+        ensures next { OnOk result (self.new.next ≡ with_changes changes.entries self.new.entries) }
     {
         self.consolidate()?;
         let mut changes = changes;
@@ -303,8 +303,8 @@ impl<Kind: Copy, V: Version, I: Index<Kind, V>> Table<Kind, V, I> {
         put_shared(self.alloc, &mut self.coming, changes)
     }
 
-    /// Turns to the changes that were made ready.
-    pub fn turn(&mut self)
+    /// Adopts the changes that were made ready.
+    pub fn adopt(&mut self)
         ensures entries { self.new.entries ≡ self.old.next }
         ensures next { self.new.next ≡ self.old.entries }
     {
@@ -331,7 +331,7 @@ fn absorb_alone<Kind: Copy, V: Version, I: Index<Kind, V>>(
     base: &mut Arc<Base<Kind, V, I>>,
     changes: &mut Arc<Changes<Kind, V>>,
 ) -> Result<(), AllocError>
-    ensures same { laid (arc_value changes.new).entries (arc_value base.new) ≡ laid (arc_value changes.old).entries (arc_value base.old) }
+    ensures same { with_changes (arc_value changes.new).entries (arc_value base.new) ≡ with_changes (arc_value changes.old).entries (arc_value base.old) }
     ensures ordered { AreInOrder (arc_value base.old) → AreInOrder (arc_value base.new) }
     ensures changes_ordered { AreInOrder (arc_value changes.old).entries → AreInOrder (arc_value changes.new).entries }
 {
@@ -395,11 +395,11 @@ impl<Kind, V, I: Index<Kind, V>> Model for Shared<Kind, V, I> {
     ghost use Rattle.std.specs.Arc.{arc_value};
     ghost use Rattle.casa_filing.specs.Text.{Text};
     ghost use Rattle.casa_flight.specs.Good.{AreInOrder};
-    ghost use Rattle.casa_table.specs.Laid.{laid};
+    ghost use Rattle.casa_table.specs.Laid.{with_changes};
 
     ghost Value = { List (Text × V) };
 
-    ghost view = { λ s. laid (arc_value s.recent).entries (arc_value s.base) };
+    ghost view = { λ s. with_changes (arc_value s.recent).entries (arc_value s.base) };
 
     ghost invariant = { λ s. AreInOrder (arc_value s.base) × AreInOrder (arc_value s.recent).entries };
 }
@@ -424,7 +424,7 @@ impl<Kind, V, I: Index<Kind, V>> Shared<Kind, V, I> {
 
     /// The values of the base, and the changes that lie beside it.
     pub fn layers(&self) -> (&Values<Kind, V>, &Changes<Kind, V>)
-        ensures laid { laid result.1.now.entries result.0.now.entries ≡ self.now }
+        ensures laid { with_changes result.1.now.entries result.0.now.entries ≡ self.now }
         ensures ordered { AreInOrder result.0.now.entries × AreInOrder result.1.now.entries }
     {
         (self.base.values(), &self.recent)

@@ -8,7 +8,7 @@ use Rattle.casa_item.specs.declared.item.Item.{Item}
 use Rattle.casa_view.specs.declared.items.Items.{Items}
 use Rattle.casa_view.specs.declared.view.View.{View}
 use Rattle.casa_item.specs.Versions.{Versions, content_as, shown_state}
-use Rattle.casa_view.specs.Standing.{StandsWell, standing}
+use Rattle.casa_view.specs.BoardState.{IsGoodBoard, board_state}
 use Rattle.casa_view.specs.Board.{versions}
 use Rattle.casa_table.specs.Same.{same_version}
 use Rattle.casa_view.specs.View.{seen, same_held, IsSamePart, ShowsPart, IsCurrent, ShowsSame, Shows}
@@ -70,8 +70,8 @@ shown_some : {V : Type 0} (item_of : V → Item) (i : ItemName) (o : Option (Opt
 shown_some item_of i None x e y h = cc
 shown_some item_of i (Some w) x e y h = h w refl ∙ ap (λ (o : Option Content). unwrap_or o x) e
 
-pub same_shows : {V : Type 0} (item_of : V → Item) (number : V → ℕ) (vs : Versions V) (v : View V) → AreInOrder vs.rows
-    → StandsWell (standing item_of number vs) → ShowsSame item_of vs v → Shows item_of (shown_state item_of vs) v
-same_shows {V} item_of number vs v order well h i x e =
+pub same_shows : {V : Type 0} (item_of : V → Item) (stamp_of : V → ℕ) (vs : Versions V) (v : View V) → AreInOrder vs.rows
+    → IsGoodBoard (board_state item_of stamp_of vs) → ShowsSame item_of vs v → Shows item_of (shown_state item_of vs) v
+same_shows {V} item_of stamp_of vs v order well h i x e =
     shown_some item_of i (seen v i) x e (contents (shown_state item_of vs) i)
-    (λ w f. sym (contains item_of number vs order well i) ∙ ap (content_as i) (h i w f))
+    (λ w f. sym (contains item_of stamp_of vs order well i) ∙ ap (content_as i) (h i w f))

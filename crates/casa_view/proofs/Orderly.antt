@@ -16,10 +16,10 @@ there (Some r) h = refl
 no_version : {V : Type 0} {A : Type 0} (v : V) → Some v ≡ None → A
 no_version v h = cc
 
-pub orderly_kept : {V : Type 0} (item_of : V → Item) (number : V → ℕ) (says : ItemName → Option Content) (n : ℕ)
-    (before now : Versions V) → IsApplied item_of number says n before now → IsOrderly item_of before
+pub orderly_kept : {V : Type 0} (item_of : V → Item) (stamp_of : V → ℕ) (says : ItemName → Option Content) (n : ℕ)
+    (before now : Versions V) → IsApplied item_of stamp_of says n before now → IsOrderly item_of before
     → IsOrderly item_of now
-orderly_kept {V} item_of number says n before now done orderly =
+orderly_kept {V} item_of stamp_of says n before now done orderly =
     record { in_order = done.in_order; rows_are_there = rows }
   where
     rows : (key : Text) (v : V) → at_name now.rows key ≡ Some v → IsSome (row_of (item_of v))

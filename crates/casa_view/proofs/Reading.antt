@@ -15,7 +15,7 @@ use Rattle.casa_item.specs.declared.item.Item.TheVariants.{Clock, Catalogue, Row
 use Rattle.casa_view.specs.declared.view.View.{View}
 use Rattle.casa_item.specs.Versions.{Versions, shown_state, content_as, moment_of, regulations_of}
 use Rattle.casa_item.specs.Versions.{row_of as row_of_item, list_of}
-use Rattle.casa_view.specs.View.{seen, shown}
+use Rattle.casa_view.specs.View.{seen, content_shown}
 use Rattle.casa_view.specs.Shown.{catalogue_of, clock_shown, catalogue_shown, row_shown, list_shown}
 
 -- a row of the state that a board shows is that of the version under the key
@@ -62,7 +62,7 @@ module _ {V : Type 0} (item_of : V → Item) (v : View V) where
   abbrev content : ItemName → Option V → Content
   content i w = content_as i (option_map item_of w)
 
-  pub clock-is : (at : ℕ) → shown item_of v the_clock ≡ Some (moment at) → unwrap_or (clock_shown item_of v) 0 ≡ at
+  pub clock-is : (at : ℕ) → content_shown item_of v the_clock ≡ Some (moment at) → unwrap_or (clock_shown item_of v) 0 ≡ at
   clock-is at h = by (seen v the_clock) h
     where
       by : (o : Option (Option V)) → option_map (content the_clock) o ≡ Some (moment at)
@@ -71,7 +71,7 @@ module _ {V : Type 0} (item_of : V → Item) (v : View V) where
       by (Some None) h = ap (λ (c : Option Content). moment_in (unwrap_or c (moment at))) h
       by (Some (Some m)) h = ap (λ (c : Option Content). moment_in (unwrap_or c (moment at))) h
 
-  pub catalogue-is : (all : List Regulation) → shown item_of v the_catalogue ≡ Some (regulations all)
+  pub catalogue-is : (all : List Regulation) → content_shown item_of v the_catalogue ≡ Some (regulations all)
       → unwrap_or (catalogue_shown item_of v) [] ≡ all
   catalogue-is all h = by (seen v the_catalogue) h
     where
@@ -82,7 +82,7 @@ module _ {V : Type 0} (item_of : V → Item) (v : View V) where
       by (Some (Some m)) h =
           all-of (item_of m) ∙ ap (λ (c : Option Content). regulations_in (unwrap_or c (regulations all))) h
 
-  pub row-is : (key : Text) (row : Option Row) → shown item_of v (a_row key) ≡ Some (row_or_none row)
+  pub row-is : (key : Text) (row : Option Row) → content_shown item_of v (a_row key) ≡ Some (row_or_none row)
       → row_shown item_of v key ≡ row
   row-is key row h = by (seen v (a_row key)) h
     where
@@ -91,7 +91,7 @@ module _ {V : Type 0} (item_of : V → Item) (v : View V) where
       by None h = cc
       by (Some w) h = ap (λ (c : Option Content). row_in (unwrap_or c (row_or_none row))) h
 
-  pub list-is : (id : Text) (list : Option Listing) → shown item_of v (a_list id) ≡ Some (list_or_none list)
+  pub list-is : (id : Text) (list : Option Listing) → content_shown item_of v (a_list id) ≡ Some (list_or_none list)
       → list_shown item_of v id ≡ list
   list-is id list h = by (seen v (a_list id)) h
     where

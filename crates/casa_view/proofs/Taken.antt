@@ -7,7 +7,7 @@ use Rattle.casa_footprint.specs.Items.{the_clock, the_catalogue, a_row, a_list}
 use Rattle.casa_view.specs.declared.view.View.{View}
 use Rattle.casa_item.specs.Versions.{Versions}
 use Rattle.casa_view.specs.View.{seen_in, IsTaken}
-use Rattle.casa_view.specs.Taking.{named}
+use Rattle.casa_view.specs.Taking.{name_test}
 
 one_taken : {V : Type 0} (v : V) (w : Bool) →
     option_map Some (if w then Some v else None) ≡ (if w then Some (Some v) else None)
@@ -19,7 +19,7 @@ pub view_taken : {V : Type 0} (vs : Versions V) (view : View V) (w z : Bool) →
     (t u : Text → Bool) →
     ((q : Text) → seen_in view.rows q ≡ (if t q then Some (at_name vs.rows q) else None)) →
     ((q : Text) → seen_in view.lists q ≡ (if u q then Some (at_name vs.lists q) else None)) →
-    IsTaken vs (named w z t u) view
+    IsTaken vs (name_test w z t u) view
 view_taken {V} vs view w z c r t u row list the_clock =
     ap (λ (o : Option V). option_map Some o) c ∙ one_taken vs.clock w
 view_taken {V} vs view w z c r t u row list the_catalogue =

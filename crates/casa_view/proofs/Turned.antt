@@ -13,11 +13,11 @@ use Rattle.casa_filing.proofs.Entries.{text_cmp}
 use Rattle.casa_footprint.specs.Items.{ItemName, the_clock, the_catalogue, a_row, a_list, Content, moment, regulations}
 use Rattle.casa_footprint.specs.Items.{row_or_none, list_or_none}
 use Rattle.casa_item.specs.declared.item.Item.{Item}
-use Rattle.casa_table.specs.Laid.{laid}
+use Rattle.casa_table.specs.Laid.{with_changes}
 use Rattle.casa_item.specs.Versions.{Versions, IsInOrder, moment_of, regulations_of, content_as}
 use Rattle.casa_item.specs.Versions.{version_at}
 use Rattle.casa_view.specs.Change.{is_absence, IsApplied}
-use Rattle.casa_answer.specs.Sight.{Written, says}
+use Rattle.casa_plan_spec.specs.Sight.{Written, says}
 use Rattle.casa_view.specs.Next.{AreAlike, NextOne, NextRow, NextList}
 use Rattle.casa_table.proofs.Layers.{at-laid, sorted-laid}
 
@@ -47,16 +47,16 @@ no_absence h = cc
 same_some : (x y : Content) → Some x ≡ Some y → x ≡ y
 same_some x y e = ap (λ (o : Option Content). unwrap_or o x) e
 
-module _ {V : Type 0} (item_of : V → Item) (number : V → ℕ) (n : ℕ) where
+module _ {V : Type 0} (item_of : V → Item) (stamp_of : V → ℕ) (n : ℕ) where
   -- what a version shows under a name, once the change is made: its content and its stamp
   abbrev Shows : ItemName → Option V → Content → Type 0
   Shows i w x =
-      (content_as i (option_map item_of w) ≡ x) × (option_map_or number w 0 ≡ (if is_absence x then 0 else n))
+      (content_as i (option_map item_of w) ≡ x) × (option_map_or stamp_of w 0 ≡ (if is_absence x then 0 else n))
       × (is_absence x ≡ true → w ≡ None)
 
   -- a row, a list, the clock and the catalogue that are written
   row_written : (q : Text) (o : Option (Option Row)) (p : Option (Option V)) (old : Option V)
-      → Alike (NextRow item_of number n) o p
+      → Alike (NextRow item_of stamp_of n) o p
       → (x : Content) → option_map row_or_none o ≡ Some x → Shows (a_row q) (unwrap_or p old) x
   row_written q None None old h x e = cc
   row_written q None (Some w) old h x e = absurd h
@@ -70,7 +70,7 @@ module _ {V : Type 0} (item_of : V → Item) (number : V → ℕ) (n : ℕ) wher
       (ap row_or_none h.0, h.1, λ a. no_absence a)
 
   list_written : (q : Text) (o : Option (Option Listing)) (p : Option (Option V)) (old : Option V)
-      → Alike (NextList item_of number n) o p
+      → Alike (NextList item_of stamp_of n) o p
       → (x : Content) → option_map list_or_none o ≡ Some x → Shows (a_list q) (unwrap_or p old) x
   list_written q None None old h x e = cc
   list_written q None (Some w) old h x e = absurd h
@@ -80,7 +80,7 @@ module _ {V : Type 0} (item_of : V → Item) (number : V → ℕ) (n : ℕ) wher
       subst (Shows (a_list q) (Some m)) (same_some (list_or_none l) x e)
       (ap list_or_none h.0, h.1, λ a. no_absence a)
 
-  clock_written : (o : Option ℕ) (w : Option V) (old : V) → NextOne item_of number n moment_of o w
+  clock_written : (o : Option ℕ) (w : Option V) (old : V) → NextOne item_of stamp_of n moment_of o w
       → (x : Content) → option_map moment o ≡ Some x → Shows the_clock (Some (unwrap_or w old)) x
   clock_written None w old h x e = cc
   clock_written (Some at) None old h x e = absurd h
@@ -88,7 +88,7 @@ module _ {V : Type 0} (item_of : V → Item) (number : V → ℕ) (n : ℕ) wher
       subst (Shows the_clock (Some m)) (same_some (moment at) x e) (ap moment h.0, h.1, λ a. no_absence a)
 
   regulations_written : (o : Option (List Regulation)) (w : Option V) (old : V)
-      → NextOne item_of number n regulations_of o w
+      → NextOne item_of stamp_of n regulations_of o w
       → (x : Content) → option_map regulations o ≡ Some x → Shows the_catalogue (Some (unwrap_or w old)) x
   regulations_written None w old h x e = cc
   regulations_written (Some all) None old h x e = absurd h
@@ -98,7 +98,7 @@ module _ {V : Type 0} (item_of : V → Item) (number : V → ℕ) (n : ℕ) wher
 
   -- where the change says nothing, the version stays
   one_stays : {X : Type 0} (part : Item → X) (content : X → Content) (o : Option X) (w : Option V) (old : V)
-      → NextOne item_of number n part o w → option_map content o ≡ None → unwrap_or w old ≡ old
+      → NextOne item_of stamp_of n part o w → option_map content o ≡ None → unwrap_or w old ≡ old
   one_stays part content None None old h e = refl
   one_stays part content None (Some m) old h e = absurd h
   one_stays part content (Some x) w old h e = cc
@@ -113,13 +113,13 @@ module _ {V : Type 0} (item_of : V → Item) (number : V → ℕ) (n : ℕ) wher
   -- they do
   module _ (d : Written) (before now : Versions V) (clock catalogue : Option V) (rows lists : List (Text × Option V))
       (order : IsInOrder before) (rows_order : AreInOrder rows) (lists_order : AreInOrder lists)
-      (clock_next : NextOne item_of number n moment_of d.clock clock)
-      (catalogue_next : NextOne item_of number n regulations_of d.catalogue catalogue)
-      (rows_next : AreAlike (NextRow item_of number n) d.rows rows)
-      (lists_next : AreAlike (NextList item_of number n) d.lists lists)
+      (clock_next : NextOne item_of stamp_of n moment_of d.clock clock)
+      (catalogue_next : NextOne item_of stamp_of n regulations_of d.catalogue catalogue)
+      (rows_next : AreAlike (NextRow item_of stamp_of n) d.rows rows)
+      (lists_next : AreAlike (NextList item_of stamp_of n) d.lists lists)
       (clock_is : now.clock ≡ unwrap_or clock before.clock)
       (catalogue_is : now.catalogue ≡ unwrap_or catalogue before.catalogue)
-      (rows_are : now.rows ≡ laid rows before.rows) (lists_are : now.lists ≡ laid lists before.lists) where
+      (rows_are : now.rows ≡ with_changes rows before.rows) (lists_are : now.lists ≡ with_changes lists before.lists) where
     row_now : (q : Text) → at_name now.rows q ≡ unwrap_or (at_name rows q) (at_name before.rows q)
     row_now q = ap (λ (es : List (Text × V)). at_name es q) rows_are ∙ at-laid q rows before.rows rows_order order.rows
 
@@ -128,11 +128,11 @@ module _ {V : Type 0} (item_of : V → Item) (number : V → ℕ) (n : ℕ) wher
         ap (λ (es : List (Text × V)). at_name es q) lists_are ∙ at-laid q lists before.lists lists_order order.lists
 
     row_next : (q : Text)
-        → Alike (NextRow item_of number n) (at_name d.rows q) (at_name rows q)
+        → Alike (NextRow item_of stamp_of n) (at_name d.rows q) (at_name rows q)
     row_next q = alike_at _ q d.rows rows rows_next
 
     list_next : (q : Text)
-        → Alike (NextList item_of number n) (at_name d.lists q) (at_name lists q)
+        → Alike (NextList item_of stamp_of n) (at_name d.lists q) (at_name lists q)
     list_next q = alike_at _ q d.lists lists lists_next
 
     shown : (i : ItemName) (x : Content) → says d i ≡ Some x → Shows i (version_at now i) x
@@ -164,7 +164,7 @@ module _ {V : Type 0} (item_of : V → Item) (number : V → ℕ) (n : ℕ) wher
         ∙ stays _ list_or_none (at_name d.lists q) (at_name lists q) (at_name before.lists q)
         (list_next q) e
 
-    pub turned : IsApplied item_of number (says d) n before now
+    pub turned : IsApplied item_of stamp_of (says d) n before now
     turned = record {
       were_in_order = order;
       in_order = record {

@@ -35,20 +35,20 @@ use Rattle.casa_footprint.proofs.Catalogue.{at-catalogue}
 use Rattle.casa_item.specs.declared.item.Item.{Item}
 use Rattle.casa_view.specs.declared.view.View.{View}
 use Rattle.casa_item.specs.Versions.{Versions, version_at, regulations_of, row_of, list_at, shown_state}
-use Rattle.casa_view.specs.Standing.{StandsWell, standing}
+use Rattle.casa_view.specs.BoardState.{IsGoodBoard, board_state}
 use Rattle.casa_item.specs.Crossed.{meets}
 use Rattle.casa_view.specs.View.{IsTaken}
-use Rattle.casa_view.specs.Taking.{meets_if, meets_either, is_of, named, row_at, plan_at, governing_at, has_forced}
+use Rattle.casa_view.specs.Taking.{meets_if, meets_either, is_of, name_test, row_at, plan_at, governing_at, has_forced}
 use Rattle.casa_view.specs.Taking.{forced_at, governs_forced_at, extends_in, read_by_rates, IsRead}
 use Rattle.casa_named.proofs.Found.{same_test}
 
 -- a view with the versions of these items, which are what the call reads
-pub is_read : {V E : Type 0} (item_of : V → Item) (number : V → ℕ) (vs : Versions V) (call called : Call) →
+pub is_read : {V E : Type 0} (item_of : V → Item) (stamp_of : V → ℕ) (vs : Versions V) (call called : Call) →
     called ≡ call → (test : ItemName → Bool) (r : Result (View V) E) → IfOk r (IsTaken vs test) →
-    (StandsWell (standing item_of number vs) → (i : ItemName) → test i ≡ reads (shown_state item_of vs) call i) →
-    IfOk r (IsRead item_of number vs called)
-is_read item_of number vs call called is test r taken same =
-    IfOk-weaker r (IsTaken vs test) (IsRead item_of number vs called)
+    (IsGoodBoard (board_state item_of stamp_of vs) → (i : ItemName) → test i ≡ reads (shown_state item_of vs) call i) →
+    IfOk r (IsRead item_of stamp_of vs called)
+is_read item_of stamp_of vs call called is test r taken same =
+    IfOk-weaker r (IsTaken vs test) (IsRead item_of stamp_of vs called)
     (λ v t. (test, t, λ well i. same well i ∙ ap (λ (c : Call). reads (shown_state item_of vs) c i) (sym is)))
     taken
 
@@ -69,7 +69,7 @@ all_by_rates id later e (a_list q) =
 
 -- with none they read the catalogue and the list
 pub list_by_rates : (id : Text) (later : Bool) → later ≡ false → (i : ItemName) →
-    named false true (λ q. false) (same_text id) i ≡ read_by_rates id later i
+    name_test false true (λ q. false) (same_text id) i ≡ read_by_rates id later i
 list_by_rates id later e the_clock = sym e
 list_by_rates id later e the_catalogue = refl
 list_by_rates id later e (a_row key) = sym e
@@ -114,8 +114,8 @@ meets_each plan id (e ∷ es) h =
           ∙ meets_each plan id es h.1
     ] refl
 
-module _ {V : Type 0} (item_of : V → Item) (number : V → ℕ) (vs : Versions V) (order : AreInOrder vs.rows)
-    (well : StandsWell (standing item_of number vs)) where
+module _ {V : Type 0} (item_of : V → Item) (stamp_of : V → ℕ) (vs : Versions V) (order : AreInOrder vs.rows)
+    (well : IsGoodBoard (board_state item_of stamp_of vs)) where
   abbrev here : State
   here = shown_state item_of vs
 
@@ -142,7 +142,7 @@ module _ {V : Type 0} (item_of : V → Item) (number : V → ℕ) (vs : Versions
       ∙ ap (λ (w : Option Row). option_map_or (λ (r : Row). is_subject here r.plan id) w false) (row_is key)
 
   pub file_reads : (plan : FlightPlan) (i : ItemName) →
-      named true true (same_text plan.key) (meets_either regs None (Some plan)) i
+      name_test true true (same_text plan.key) (meets_either regs None (Some plan)) i
       ≡ reads here (File plan) i
   file_reads plan the_clock = refl
   file_reads plan the_catalogue = refl
@@ -150,7 +150,7 @@ module _ {V : Type 0} (item_of : V → Item) (number : V → ℕ) (vs : Versions
   file_reads plan (a_list id) = meets_is plan id
 
   pub amend_reads : (plan : FlightPlan) (i : ItemName) →
-      named true true (same_text plan.key) (meets_either regs (plan_at item_of vs plan.key) (Some plan)) i
+      name_test true true (same_text plan.key) (meets_either regs (plan_at item_of vs plan.key) (Some plan)) i
       ≡ reads here (Amend plan) i
   amend_reads plan the_clock = refl
   amend_reads plan the_catalogue = refl
@@ -158,7 +158,7 @@ module _ {V : Type 0} (item_of : V → Item) (number : V → ℕ) (vs : Versions
   amend_reads plan (a_list id) = λ j. old_lists plan.key id j || meets_is plan id j
 
   pub cancel_reads : (key : Text) (i : ItemName) →
-      named false true (same_text key) (meets_either regs (plan_at item_of vs key) None) i
+      name_test false true (same_text key) (meets_either regs (plan_at item_of vs key) None) i
       ≡ reads here (Cancel key) i
   cancel_reads key the_clock = refl
   cancel_reads key the_catalogue = refl
@@ -166,7 +166,7 @@ module _ {V : Type 0} (item_of : V → Item) (number : V → ℕ) (vs : Versions
   cancel_reads key (a_list id) = or-false _ ∙ old_lists key id
 
   pub exempt_reads : (key : Text) (i : ItemName) →
-      named false true (same_text key) (meets_either regs (plan_at item_of vs key) None) i
+      name_test false true (same_text key) (meets_either regs (plan_at item_of vs key) None) i
       ≡ reads here (Exempt key) i
   exempt_reads key the_clock = refl
   exempt_reads key the_catalogue = refl
@@ -174,7 +174,7 @@ module _ {V : Type 0} (item_of : V → Item) (number : V → ℕ) (vs : Versions
   exempt_reads key (a_list id) = or-false _ ∙ old_lists key id
 
   pub revise_reads : (key : Text) (i : ItemName) →
-      named true true (same_text key) (meets_either regs (plan_at item_of vs key) None) i
+      name_test true true (same_text key) (meets_either regs (plan_at item_of vs key) None) i
       ≡ reads here (Revise key) i
   revise_reads key the_clock = refl
   revise_reads key the_catalogue = refl
@@ -222,7 +222,7 @@ module _ {V : Type 0} (item_of : V → Item) (number : V → ℕ) (vs : Versions
       ∙ ap (λ (w : Option Row). option_map_or (is_governed_by id) w false) (row_is key)
 
   pub show_reads : (key : Text) (i : ItemName) →
-      named false false (same_text key) (is_of (governing_at item_of vs key)) i
+      name_test false false (same_text key) (is_of (governing_at item_of vs key)) i
       ≡ reads here (Show key) i
   show_reads key the_clock = refl
   show_reads key the_catalogue = refl
@@ -230,7 +230,7 @@ module _ {V : Type 0} (item_of : V → Item) (number : V → ℕ) (vs : Versions
   show_reads key (a_list id) = governs_is key id
 
   pub swap_reads : (key other : Text) (i : ItemName) →
-      named true false (λ q. same_text key q || same_text other q)
+      name_test true false (λ q. same_text key q || same_text other q)
       (λ q. is_of (governing_at item_of vs key) q || is_of (governing_at item_of vs other) q) i
       ≡ reads here (Swap key other) i
   swap_reads key other the_clock = refl
@@ -248,7 +248,7 @@ module _ {V : Type 0} (item_of : V → Item) (number : V → ℕ) (vs : Versions
       (sym (well.list_is id) j) false
 
   pub list_reads : (id : Text) (i : ItemName) →
-      named false true (forced_at item_of vs id) (λ q. same_text id q || governs_forced_at item_of vs id q) i
+      name_test false true (forced_at item_of vs id) (λ q. same_text id q || governs_forced_at item_of vs id q) i
       ≡ reads here (ListOf id) i
   list_reads id the_clock = refl
   list_reads id the_catalogue = refl

@@ -13,7 +13,7 @@ use Rattle.casa_filing.specs.Text.{Text, at_name}
 use Rattle.casa_filing.specs.Subject.{regulation}
 use Rattle.casa_flight.specs.State as state
 use Rattle.casa_flight.specs.Listing as lists
-use Rattle.casa_flight.specs.Listing.{Listing, listing, kept}
+use Rattle.casa_flight.specs.Listing.{Listing, listing, filter_map_values}
 use Rattle.casa_flight.specs.Steps.{next}
 use Rattle.casa_flight.specs.Good.{IsGood, AreInOrder}
 use Rattle.casa_filing.proofs.Entries.{each_found}
@@ -27,7 +27,7 @@ use Rattle.casa_footprint.proofs.EachCall.{spares}
 use Rattle.casa_item.specs.declared.item.Item.{Item}
 use Rattle.casa_item.specs.Versions.{Versions, moment_of, regulations_of, row_of, list_of, content_as, measures}
 use Rattle.casa_item.specs.Versions.{content_at, stamp_at, list_at, shown_state}
-use Rattle.casa_view.specs.Standing.{Standing, StandsWell, standing, stamp_after, after}
+use Rattle.casa_view.specs.BoardState.{BoardState, IsGoodBoard, board_state, stamp_after, after}
 use Rattle.casa_footprint.specs.Change.{IsChange}
 use Rattle.casa_view.specs.Change.{is_absence, IsApplied}
 
@@ -81,7 +81,7 @@ row_absent None h = refl
 row_absent (Some row) h = cc
 
 -- an absent row that was not written was absent
-was_unstamped : (s : Standing) (m : State) → StandsWell s → (i : ItemName) → contents m i ≡ contents s.state i
+was_unstamped : (s : BoardState) (m : State) → IsGoodBoard s → (i : ItemName) → contents m i ≡ contents s.state i
     → is_absent_row m i ≡ true → s.stamp i ≡ 0
 was_unstamped s m well the_clock e h = cc
 was_unstamped s m well the_catalogue e h = cc
@@ -116,16 +116,16 @@ module _ {V : Type 0} (item_of : V → Item) where
       λ id. list_by (at_name vs.lists id) ∙ lists_said _ _ (c (a_list id)) in
       let regs : measures (regulations_of (item_of vs.catalogue)) (list_at item_of vs) ≡ m.regs =
       (λ i. measures (all i) (λ id. list id i)) ∙ measures_are m good.regs_in_order in
-      let kept_rows : List (Text × Row) = kept (λ (v : V). row_of (item_of v)) vs.rows in
+      let kept_rows : List (Text × Row) = filter_map_values (λ (v : V). row_of (item_of v)) vs.rows in
       let row : (key : Text) → at_name kept_rows key ≡ at_name m.rows key =
       λ key. row_shown vs key h ∙ rows_said _ _ (c (a_row key)) in
       let rows : kept_rows ≡ m.rows =
       same_entries _ m.rows (sorted-kept (λ (v : V). row_of (item_of v)) vs.rows h) good.rows_in_order row in
       λ i. record { clock = clock i; regs = regs i; rows = rows i }
 
-module _ {V : Type 0} (item_of : V → Item) (number : V → ℕ) where
+module _ {V : Type 0} (item_of : V → Item) (stamp_of : V → ℕ) where
   -- a board that stands well contains the items of its state
-  pub contains : (vs : Versions V) → AreInOrder vs.rows → StandsWell (standing item_of number vs) → (i : ItemName)
+  pub contains : (vs : Versions V) → AreInOrder vs.rows → IsGoodBoard (board_state item_of stamp_of vs) → (i : ItemName)
       → content_at item_of vs i ≡ contents (shown_state item_of vs) i
   contains vs h well the_clock = refl
   contains vs h well the_catalogue = ap regulations (sym well.catalogue_is)
@@ -134,8 +134,8 @@ module _ {V : Type 0} (item_of : V → Item) (number : V → ℕ) where
 
   -- a change that says what a call writes, applied to a board that stands well
   module _ (vs vs' : Versions V) (n : ℕ) (call : Call) (says : ItemName → Option Content)
-      (well : StandsWell (standing item_of number vs))
-      (is : IsChange (shown_state item_of vs) call says) (done : IsApplied item_of number says n vs vs') where
+      (well : IsGoodBoard (board_state item_of stamp_of vs))
+      (is : IsChange (shown_state item_of vs) call says) (done : IsApplied item_of stamp_of says n vs vs') where
     abbrev before : State
     before = shown_state item_of vs
 
@@ -153,15 +153,15 @@ module _ {V : Type 0} (item_of : V → Item) (number : V → ℕ) where
         ∙ contains vs done.were_in_order.rows well i ∙ sym (spares call before well.good i w)
 
     stamps_after : (i : ItemName) (b : Bool) → writes before call i ≡ b
-        → stamp_at number vs' i ≡ cond (is_absent_row now i) 0 (cond b n (stamp_at number vs i))
+        → stamp_at stamp_of vs' i ≡ cond (is_absent_row now i) 0 (cond b n (stamp_at stamp_of vs i))
     stamps_after i true w =
         done.stamped i (contents now i) (said i true w) ∙ ap (λ (b : Bool). cond b 0 n) (absence now i)
     stamps_after i false w =
-        ap (λ (v : Option V). option_map_or number v 0) (done.others i (said i false w))
-        ∙ stays_unstamped (stamp_at number vs i) (is_absent_row now i)
-        (was_unstamped (standing item_of number vs) now well i (spares call before well.good i w))
+        ap (λ (v : Option V). option_map_or stamp_of v 0) (done.others i (said i false w))
+        ∙ stays_unstamped (stamp_at stamp_of vs i) (is_absent_row now i)
+        (was_unstamped (board_state item_of stamp_of vs) now well i (spares call before well.good i w))
 
-    pub applied : standing item_of number vs' ≡ after n (standing item_of number vs) call
+    pub applied : board_state item_of stamp_of vs' ≡ after n (board_state item_of stamp_of vs) call
     applied =
         let all : (i : ItemName) → content_at item_of vs' i ≡ contents now i =
         λ i. contents_after i (writes before call i) refl in
@@ -169,6 +169,6 @@ module _ {V : Type 0} (item_of : V → Item) (number : V → ℕ) where
         let catalogue = catalogues (regulations_of (item_of vs'.catalogue)) (state.catalogue now) (all the_catalogue) in
         let list : (id : Text) → list_at item_of vs' id ≡ lists.list_of now id =
         λ id. list_by item_of (at_name vs'.lists id) ∙ lists_said _ _ (all (a_list id)) in
-        let stamp : (i : ItemName) → stamp_at number vs' i ≡ stamp_after n before call (stamp_at number vs) i =
+        let stamp : (i : ItemName) → stamp_at stamp_of vs' i ≡ stamp_after n before call (stamp_at stamp_of vs) i =
         λ i. stamps_after i (writes before call i) refl in
         λ j. record { state = whole j; catalogue = catalogue j; list = λ id. list id j; stamp = λ i. stamp i j }

@@ -1,11 +1,11 @@
 pub mod Change
 pub mod Board
 pub mod Next
-pub mod Standing
+pub mod BoardState
 pub mod View
 pub mod Taking
 pub mod Sets
 pub mod Applied
-pub mod WellStanding
+pub mod GoodBoard
 pub mod Alike
 pub mod Shown

@@ -11,10 +11,10 @@ use Rattle.casa_item.specs.Versions.{row_of, list_of}
 abbrev pub AreAlike : {X Y : Type 0} → (X → Y → Type 0) → List (Text × X) → List (Text × Y) → Type 0
 AreAlike {X} {Y} Goes es ws = AllZip (λ (e : Text × X) (w : Text × Y). (w.0 ≡ e.0) × Goes e.1 w.1) es ws
 
-module _ {V : Type 0} (item_of : V → Item) (number : V → ℕ) (n : ℕ) where
-  -- a version that entry n writes, whose item contains this
+module _ {V : Type 0} (item_of : V → Item) (stamp_of : V → ℕ) (position : ℕ) where
+  -- a version that the entry at this position writes, whose item contains this
   abbrev pub IsVersionWith : {X : Type 0} → (Item → X) → X → V → Type 0
-  IsVersionWith part x v = (part (item_of v) ≡ x) × (number v ≡ n)
+  IsVersionWith part x v = (part (item_of v) ≡ x) × (stamp_of v ≡ position)
 
   -- the version of what comes, if something does
   abbrev pub NextOne : {X : Type 0} → (Item → X) → Option X → Option V → Type 0

@@ -8,7 +8,7 @@ use Rattle.casa_list.specs.contracts.list.SlotList as list_row
 use Rattle.casa_filing.specs.declared.regulation.Regulation.{Regulation}
 use Rattle.casa_flight.specs.declared.state.State.{State}
 use Rattle.casa_flight.specs.Listing.{Listing}
-use Rattle.casa_view.specs.Standing.{Standing}
+use Rattle.casa_view.specs.BoardState.{BoardState}
 
 state_set : IsSet State
 state_set = Coded-set state_row.the_row.coded
@@ -23,8 +23,8 @@ stamp_set : IsSet ℕ
 stamp_set = Coded-set coded_ℕ
 
 -- equations between standings have one proof
-pub standing_set : IsSet Standing
-standing_set s t p q = λ i j. record {
+pub board_state_set : IsSet BoardState
+board_state_set s t p q = λ i j. record {
   state = state_set s.state t.state (λ k. (p k).state) (λ k. (q k).state) i j;
   catalogue = catalogue_set s.catalogue t.catalogue (λ k. (p k).catalogue) (λ k. (q k).catalogue) i j;
   list = λ id. list_set (s.list id) (t.list id) (λ k. (p k).list id) (λ k. (q k).list id) i j;

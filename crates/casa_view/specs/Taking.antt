@@ -18,7 +18,7 @@ use Rattle.casa_item.specs.declared.item.Item.{Item}
 use Rattle.casa_view.specs.declared.view.View.{View}
 use Rattle.casa_item.specs.Crossed.{meets}
 use Rattle.casa_item.specs.Versions.{Versions, row_of, list_at, shown_state}
-use Rattle.casa_view.specs.Standing.{StandsWell, standing}
+use Rattle.casa_view.specs.BoardState.{IsGoodBoard, board_state}
 use Rattle.casa_view.specs.View.{IsTaken}
 
 -- noted is what the entries have under the names that pass the test, and nothing under others
@@ -36,11 +36,11 @@ meets_if regs None id = false
 meets_if regs (Some plan) id = meets regs plan id
 
 -- a test of names by its four parts
-abbrev pub named : Bool → Bool → (Text → Bool) → (Text → Bool) → ItemName → Bool
-named clock catalogue rows lists the_clock = clock
-named clock catalogue rows lists the_catalogue = catalogue
-named clock catalogue rows lists (a_row key) = rows key
-named clock catalogue rows lists (a_list id) = lists id
+abbrev pub name_test : Bool → Bool → (Text → Bool) → (Text → Bool) → ItemName → Bool
+name_test clock catalogue rows lists the_clock = clock
+name_test clock catalogue rows lists the_catalogue = catalogue
+name_test clock catalogue rows lists (a_row key) = rows key
+name_test clock catalogue rows lists (a_list id) = lists id
 
 -- what is noted of a flight's lists: those of the plan that it has and of a new one
 abbrev pub meets_either : List Regulation → Option FlightPlan → Option FlightPlan → Text → Bool
@@ -80,11 +80,11 @@ extends_in regs id profile =
 
 -- what new rates read, with a later end or not: all items, or the catalogue and the list
 abbrev pub read_by_rates : Text → Bool → ItemName → Bool
-read_by_rates id later = named later true (λ q. later) (λ q. same_text id q || later)
+read_by_rates id later = name_test later true (λ q. later) (λ q. same_text id q || later)
 
 -- a view with the versions of what the call reads on a board that stands well;
 -- its versions are present ones in any case
 abbrev pub IsRead : {V : Type 0} → (V → Item) → (V → ℕ) → Versions V → Call → View V → Type 0
-IsRead item_of number vs call v =
+IsRead item_of stamp_of vs call v =
     (test : ItemName → Bool) × IsTaken vs test v
-    × (StandsWell (standing item_of number vs) → (i : ItemName) → test i ≡ reads (shown_state item_of vs) call i)
+    × (IsGoodBoard (board_state item_of stamp_of vs) → (i : ItemName) → test i ≡ reads (shown_state item_of vs) call i)

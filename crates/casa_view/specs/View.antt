@@ -30,17 +30,17 @@ abbrev pub IsTaken : {V : Type 0} → Versions V → (ItemName → Bool) → Vie
 IsTaken vs test v = (i : ItemName) → seen v i ≡ (if test i then Some (version_at vs i) else None)
 
 -- what a view shows of an item that it holds
-abbrev pub shown : {V : Type 0} → (V → Item) → View V → ItemName → Option Content
-shown {V} item_of v i = option_map (λ (w : Option V). content_as i (option_map item_of w)) (seen v i)
+abbrev pub content_shown : {V : Type 0} → (V → Item) → View V → ItemName → Option Content
+content_shown {V} item_of v i = option_map (λ (w : Option V). content_as i (option_map item_of w)) (seen v i)
 
 -- a view shows a state
 abbrev pub Shows : {V : Type 0} → (V → Item) → State → View V → Type 0
-Shows item_of m v = (i : ItemName) (x : Content) → shown item_of v i ≡ Some x → contents m i ≡ x
+Shows item_of m v = (i : ItemName) (x : Content) → content_shown item_of v i ≡ Some x → contents m i ≡ x
 
 -- a view shows exactly what a call reads in a state, as it is there
 abbrev pub IsViewOf : {V : Type 0} → (V → Item) → State → Call → View V → Type 0
 IsViewOf item_of at call v =
-    (i : ItemName) → shown item_of v i ≡ (if reads at call i then Some (contents at i) else None)
+    (i : ItemName) → content_shown item_of v i ≡ (if reads at call i then Some (contents at i) else None)
 
 -- a view for a call holds what the call reads in some good state
 abbrev pub IsFor : {V : Type 0} → (V → Item) → View V → Call → Type 0

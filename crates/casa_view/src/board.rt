@@ -7,12 +7,12 @@ use crate::change::Change;
 use crate::contents::{clock_in, list_in, regulations_in, shared_list_in};
 use crate::current::same_items;
 use crate::items::Items;
+use crate::staging::fit;
 use crate::view::View;
-use crate::writing::fit;
 use casa_commit::World;
 use casa_flight::{Call, Key, RegId, Regulation, Reply, Row};
 use casa_list::{SharedList, SlotList};
-use casa_table::{Catalogue, Item, Kept, Table, Version, row_in};
+use casa_table::{Catalogue, Item, Store, Table, Version, row_in};
 use casa_time::Moment;
 use std::alloc::{AllocError, Global};
 use std::sync::Arc;
@@ -33,14 +33,14 @@ use std::sync::Arc;
 /// board.apply(1, change);
 /// assert!(&rt; board.clock() == at && !board.same(&view));
 /// ```
-pub struct Board<K: Kept> {
+pub struct Board<K: Store> {
     pub(crate) alloc: Global,
     pub(crate) store: K,
     pub(crate) items: Items<K::Version>,
     ghost orderly: { IsOrderly K.Version.item_of (versions items) } by { Prim.hlevel props },
 }
 
-impl<K: Kept> Drop for Board<K> {
+impl<K: Store> Drop for Board<K> {
     fn drop(self) {
         let Board {
             alloc: _,
@@ -50,8 +50,8 @@ impl<K: Kept> Drop for Board<K> {
     }
 }
 
-impl<K: Kept> Board<K> {
-    ghost use Rattle.casa_view.specs.Standing.{opening};
+impl<K: Store> Board<K> {
+    ghost use Rattle.casa_view.specs.BoardState.{opening};
 
     /// The board with the clock at midnight and no regulation and no flight, over this store. `AllocError` where there is
     /// no memory for it.
@@ -78,7 +78,7 @@ impl<K: Kept> Board<K> {
     }
 }
 
-impl<K: Kept> Board<K> {
+impl<K: Store> Board<K> {
     ghost use Rattle.std.specs.Option.{option_copied};
     ghost use Rattle.casa_flight.specs.State.{row_of};
 
@@ -118,17 +118,17 @@ impl<K: Kept> Board<K> {
     }
 }
 
-impl<K: Kept> World for Board<K> {
+impl<K: Store> World for Board<K> {
     ghost use Rattle.casa_view.specs.Board.{next_versions};
-    ghost use Rattle.casa_answer.specs.Sight.{says};
+    ghost use Rattle.casa_plan_spec.specs.Sight.{says};
     ghost use Rattle.casa_footprint.specs.Change.{IsChange};
     ghost use Rattle.casa_view.specs.Change.{IsApplied};
-    ghost use Rattle.casa_view.specs.Sets.{standing_set};
-    ghost use Rattle.casa_view.specs.Standing.{Standing, StandsWell, standing, opening, after, reply};
+    ghost use Rattle.casa_view.specs.Sets.{board_state_set};
+    ghost use Rattle.casa_view.specs.BoardState.{BoardState, IsGoodBoard, board_state, opening, after, reply};
     ghost use Rattle.casa_view.specs.View.{IsFor, IsCurrent, Shows};
     ghost use Rattle.casa_view.specs.Applied.{applied};
     ghost use Rattle.casa_view.specs.Alike.{like_applied, like_state, like_views};
-    ghost use Rattle.casa_view.specs.WellStanding.{opening_well, after_well};
+    ghost use Rattle.casa_view.specs.GoodBoard.{opening_is_good, after_is_good};
 
     type Call = Call;
 
@@ -138,11 +138,11 @@ impl<K: Kept> World for Board<K> {
 
     type Reply = Reply;
 
-    ghost state_type = { Standing };
+    ghost state_type = { BoardState };
 
-    ghost state_set = { standing_set };
+    ghost state_set = { board_state_set };
 
-    ghost state = { λ w. standing K.Version.item_of K.Version.number (versions w.items) };
+    ghost state = { λ w. board_state K.Version.item_of K.Version.stamp_of (versions w.items) };
 
     ghost opening = { opening };
 
@@ -150,7 +150,7 @@ impl<K: Kept> World for Board<K> {
 
     ghost reply = { reply };
 
-    ghost good = { StandsWell };
+    ghost good = { IsGoodBoard };
 
     ghost is_for = { λ v c. IsFor K.Version.item_of v c };
 
@@ -162,11 +162,11 @@ impl<K: Kept> World for Board<K> {
 
     ghost changes = { λ s c d. IsChange s.state c (says d) };
 
-    ghost alike = { λ w x. versions x.items ≡ versions w.items };
+    ghost same_but_capacity = { λ w x. versions x.items ≡ versions w.items };
 
-    ghost has_room = { λ w n d. IsApplied K.Version.item_of K.Version.number (says d) n (versions w.items) (next_versions w.items) };
+    ghost has_room = { λ w n d. IsApplied K.Version.item_of K.Version.stamp_of (says d) n (versions w.items) (next_versions w.items) };
 
-    ghost applied = { λ w n d x. IsApplied K.Version.item_of K.Version.number (says d) n (versions w.items) (versions x.items) };
+    ghost applied = { λ w n d x. IsApplied K.Version.item_of K.Version.stamp_of (says d) n (versions w.items) (versions x.items) };
 
     fn view(&self, call: &Call) -> Result<View<K::Version>, AllocError> {
         let view = self.items.view(self.alloc, call)?;
@@ -181,12 +181,18 @@ impl<K: Kept> World for Board<K> {
         self.items.consolidate()
     }
 
-    fn fits(&mut self, number: usize, change: &Change) -> Result<(), AllocError> {
-        fit(self.alloc, &mut self.store, &mut self.items, number, change)
+    fn fits(&mut self, position: usize, change: &Change) -> Result<(), AllocError> {
+        fit(
+            self.alloc,
+            &mut self.store,
+            &mut self.items,
+            position,
+            change,
+        )
     }
 
-    fn apply(&mut self, _number: usize, _change: Change) {
-        self.items.turn();
+    fn apply(&mut self, _position: usize, _change: Change) {
+        self.items.adopt();
     }
 
     fn copy_call(call: &Call) -> Result<Call, AllocError> {
@@ -197,19 +203,19 @@ impl<K: Kept> World for Board<K> {
         answer.try_clone()
     }
 
-    ghost good_opening = { opening_well };
+    ghost good_opening = { opening_is_good };
 
-    ghost good_after = { after_well };
+    ghost good_after = { after_is_good };
 
     ghost applied_after = { λ w n c d x well is done.
-        applied K.Version.item_of K.Version.number (versions w.items) (versions x.items) n c (says d) well is done };
+        applied K.Version.item_of K.Version.stamp_of (versions w.items) (versions x.items) n c (says d) well is done };
 
     ghost alike_applied = { λ w x n d y same done.
-        like_applied (versions w.items) (versions x.items) same K.Version.item_of K.Version.number (says d) n (versions y.items) done };
+        like_applied (versions w.items) (versions x.items) same K.Version.item_of K.Version.stamp_of (says d) n (versions y.items) done };
 
     ghost alike_same = { λ w. refl };
 
-    ghost alike_state = { λ w x same. like_state (versions w.items) (versions x.items) same K.Version.item_of K.Version.number };
+    ghost alike_state = { λ w x same. like_state (versions w.items) (versions x.items) same K.Version.item_of K.Version.stamp_of };
 
     ghost alike_views = { λ w x v same.
         ((λ _. tt, λ _. tt), like_views (versions w.items) (versions x.items) same K.Version.is_same v) };

@@ -4,14 +4,14 @@ ghost use Rattle.std.specs.Prelude.{◌≡◌, Some, IfOk, OnOk, OnErr};
 ghost use Rattle.std.specs.Option.{option_copied};
 ghost use Rattle.casa_filing.specs.Text.{at_name, put, without};
 ghost use Rattle.casa_flight.specs.Good.{AreInOrder};
-ghost use Rattle.casa_answer.specs.Sight.{nothing_written};
+ghost use Rattle.casa_plan_spec.specs.Sight.{nothing_written};
 ghost use Rattle.casa_view.specs.Board.{catalogue_written};
 ghost use Rattle.casa_view.specs.Next.{NextRow};
 
 use casa_flight::{Key, OfFlight, OfRegulation, RegId, Row};
 use casa_list::SharedList;
 use casa_named::Few;
-use casa_table::{Catalogue, Item, Kept, row_in};
+use casa_table::{Catalogue, Item, Store, row_in};
 use casa_time::Moment;
 use std::alloc::{AllocError, Global};
 use std::marker::Model;
@@ -30,7 +30,7 @@ pub struct Change {
 }
 
 impl Model for Change {
-    ghost use Rattle.casa_answer.specs.Sight.{Written};
+    ghost use Rattle.casa_plan_spec.specs.Sight.{Written};
     ghost use Rattle.casa_view.specs.Board.{catalogue_written};
 
     ghost Value = { Written };
@@ -192,16 +192,16 @@ impl WrittenRow {
         }
     }
 
-    /// The version that the entry with this number writes. An absent row has none.
-    pub(crate) fn version<K: Kept>(
+    /// The version that the entry at this position writes. An absent row has none.
+    pub(crate) fn version<K: Store>(
         &self,
         store: &mut K,
-        number: usize,
+        position: usize,
     ) -> Result<Option<K::Version>, AllocError>
-        ensures { IfOk result (NextRow K.Version.item_of K.Version.number number self.now) }
+        ensures { IfOk result (NextRow K.Version.item_of K.Version.stamp_of position self.now) }
     {
         match &self.item {
-            Some(item) => Ok(Some(store.put(number, Arc::try_clone(item)?)?)),
+            Some(item) => Ok(Some(store.put(position, Arc::try_clone(item)?)?)),
             None => Ok(None),
         }
     }

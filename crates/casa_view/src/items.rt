@@ -3,7 +3,7 @@
 use casa_flight::{OfFlight, OfRegulation};
 use casa_table::{FlightIndex, NoIndex, Table, Version};
 
-/// The versions of all items of a board, and those to which the next change will turn.
+/// The versions of all items of a board, and those which the next change will adopt.
 #[derive(Drop)]
 pub(crate) struct Items<V: Version> {
     pub(crate) clock: V,

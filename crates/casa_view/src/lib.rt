@@ -9,13 +9,13 @@ mod contents;
 mod current;
 mod items;
 mod laws;
+mod read_set;
 mod rows;
+mod staging;
 mod view;
-mod viewing;
-mod writing;
 
 pub use board::Board;
-pub use casa_table::{Catalogue, Copied, Copies, Crossings, Item, Kept, Version};
+pub use casa_table::{Catalogue, Copied, Copies, Crossings, Item, Store, Version};
 pub use change::{Change, WrittenRow};
 pub use laws::rows_are_those_shown;
 pub use rows::Rows;

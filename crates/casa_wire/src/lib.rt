@@ -5,14 +5,14 @@
 
 mod fault;
 mod laws;
-mod lines;
 mod member;
 mod parts;
 mod reading;
-mod texts;
+mod reply_lines;
+mod reply_values;
 
 pub use fault::{Field, WireFault};
 pub use laws::line_has_its_first_fault;
-pub use lines::{push_fault, push_reply, reply_line};
 pub use reading::read_call;
-pub use texts::{fault_text, field_text, reply_value, too_long_line};
+pub use reply_lines::{push_fault, push_reply, reply_line};
+pub use reply_values::{fault_text, field_text, reply_value, too_long_line};

@@ -12,7 +12,7 @@ use Rattle.casa_world.specs.declared.event.Event.{Event}
 use Rattle.casa_world.specs.declared.event.Event.TheVariants.{Read, Compute, Commit, Abandon}
 use Rattle.casa_world.specs.declared.event.Outcome.{Outcome}
 use Rattle.casa_world.specs.declared.event.Outcome.TheVariants.{Accepted, Refused}
-use Rattle.casa_world.specs.Scenes.{Hand, nothing, view, answer, Worker, Scene, most_workers, opening_scene, with_worker, with_hand, read, compute, told, accepted, refused, Commits, Happens, Leads}
+use Rattle.casa_world.specs.Scenes.{Hand, nothing, view, answer, Worker, Scene, most_workers, opening_scene, with_worker, with_hand, read, compute, worker_after, accepted_scene, refused_scene, Commits, Happens, Leads}
 use Rattle.casa_world.specs.Causes.{CommitsIn, AreCommitted, AreAtTheirPositions, HaveCauses}
 use Rattle.casa_world.proofs.Workers.{worker_same, worker_other}
 use Rattle.casa_world.proofs.Happening.{leads_push}
@@ -46,16 +46,16 @@ keeps_outcomes {C} {R} w x m same v =
 
 -- with a worker that was told this, it was told this, and the others what they were told
 told_or_kept : {C R : Type 0} → (w v : ℕ) (outcome : Outcome) (m : Scene C R)
-    → ((v ≡ w) × (outcome_in (with_worker w (told outcome) m) v ≡ Some outcome))
-    ⊎ ((v ≢ w) × (outcome_in (with_worker w (told outcome) m) v ≡ outcome_in m v))
+    → ((v ≡ w) × (outcome_in (with_worker w (worker_after outcome) m) v ≡ Some outcome))
+    ⊎ ((v ≢ w) × (outcome_in (with_worker w (worker_after outcome) m) v ≡ outcome_in m v))
 told_or_kept {C} {R} w v outcome m =
     elim (cases_eq v w) [
       | inl is ↦ inl (
         is,
-        subst (λ (k : ℕ). outcome_in (with_worker w (told outcome) m) k ≡ Some outcome) (sym is)
-            (ap (λ (y : Worker C R). y.outcome) (worker_same w (told outcome) m)),
+        subst (λ (k : ℕ). outcome_in (with_worker w (worker_after outcome) m) k ≡ Some outcome) (sym is)
+            (ap (λ (y : Worker C R). y.outcome) (worker_same w (worker_after outcome) m)),
       )
-      | inr other ↦ inr (other, ap (λ (y : Worker C R). y.outcome) (worker_other w v (told outcome) m other))
+      | inr other ↦ inr (other, ap (λ (y : Worker C R). y.outcome) (worker_other w v (worker_after outcome) m other))
     ]
 
 module _ {C R : Type 0} (reply : List (Entry C R) → C → R) (IsUnmoved : List (Entry C R) → C → List (Entry C R) → Type 0) where
@@ -70,8 +70,8 @@ module _ {C R : Type 0} (reply : List (Entry C R) → C → R) (IsUnmoved : List
   abbrev IsDecided : Event C → Scene C R → Scene C R → Type 0
   IsDecided e m n =
       (w : ℕ) × (c : C) × (before : List (Entry C R)) × (e ≡ Commit w) × ((m.workers w).hand ≡ answer c before)
-      × ((IsUnmoved before c m.history × (n ≡ accepted reply w c before m))
-      ⊎ ((¬ (IsUnmoved before c m.history)) × (n ≡ refused w m)))
+      × ((IsUnmoved before c m.history × (n ≡ accepted_scene reply w c before m))
+      ⊎ ((¬ (IsUnmoved before c m.history)) × (n ≡ refused_scene w m)))
 
   quiet_same : (m n : Scene C R) → n ≡ m → IsQuiet m n
   quiet_same m n is = (ap (λ (x : Scene C R). x.history) is, λ v. ap (λ (x : Scene C R). outcome_in x v) is)
@@ -153,14 +153,14 @@ module _ {C R : Type 0} (reply : List (Entry C R) → C → R) (IsUnmoved : List
         | inl quiet ↦ cause_kept es e v (all v (sym (quiet.1 v) ∙ was))
         | inr (w, c, before, is, holds, inl stays) ↦
             let longer : Scene C R = record m { history = m.history ++ entry w c (reply before c) ∷ [] } in
-            let here : outcome_in n v ≡ outcome_in (accepted reply w c before m) v =
+            let here : outcome_in n v ≡ outcome_in (accepted_scene reply w c before m) v =
             ap (λ (x : Scene C R). outcome_in x v) stays.1 in
             elim (told_or_kept w v (Accepted (length m.history + 1)) longer) [
               | inl now ↦ let bad : Some (Accepted (length m.history + 1)) ≡ Some Refused = sym now.1 ∙ sym here ∙ was in absurd (cc)
               | inr kept ↦ cause_kept es e v (all v (sym kept.1 ∙ sym here ∙ was))
             ]
         | inr (w, c, before, is, holds, inr moved) ↦
-            let here : outcome_in n v ≡ outcome_in (refused w m) v = ap (λ (x : Scene C R). outcome_in x v) moved.1 in
+            let here : outcome_in n v ≡ outcome_in (refused_scene w m) v = ap (λ (x : Scene C R). outcome_in x v) moved.1 in
             elim (told_or_kept w v Refused m) [
               | inl now ↦
                   subst (λ (k : ℕ). Cause (es ++ e ∷ []) k) (sym now.0)
@@ -233,7 +233,7 @@ module _ {C R : Type 0} (reply : List (Entry C R) → C → R) (IsUnmoved : List
         | inr (w, c, before, is, holds, inl stays) ↦
             let last : Entry C R = entry w c (reply before c) in
             let longer : Scene C R = record m { history = m.history ++ last ∷ [] } in
-            let here : outcome_in n v ≡ outcome_in (accepted reply w c before m) v =
+            let here : outcome_in n v ≡ outcome_in (accepted_scene reply w c before m) v =
             ap (λ (x : Scene C R). outcome_in x v) stays.1 in
             let grown : n.history ≡ m.history ++ last ∷ [] = ap (λ (x : Scene C R). x.history) stays.1 in
             subst (λ (h : List (Entry C R)). Place h v p) (sym grown)
@@ -247,7 +247,7 @@ module _ {C R : Type 0} (reply : List (Entry C R) → C → R) (IsUnmoved : List
                   (h.0, h.1, h.2, at_before m.history (last ∷ []) h.0 h.1 h.3, h.4)
             ])
         | inr (w, c, before, is, holds, inr moved) ↦
-            let here : outcome_in n v ≡ outcome_in (refused w m) v = ap (λ (x : Scene C R). outcome_in x v) moved.1 in
+            let here : outcome_in n v ≡ outcome_in (refused_scene w m) v = ap (λ (x : Scene C R). outcome_in x v) moved.1 in
             let same : n.history ≡ m.history = ap (λ (x : Scene C R). x.history) moved.1 in
             subst (λ (h : List (Entry C R)). Place h v p) (sym same)
             (elim (told_or_kept w v Refused m) [

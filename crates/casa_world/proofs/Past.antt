@@ -5,8 +5,8 @@ use Rattle.casa_commit.specs.Legal.{entry}
 use Rattle.casa_world.specs.declared.event.Event.{Event}
 use Rattle.casa_world.specs.declared.event.Event.TheVariants.{Read, Compute, Commit, Abandon}
 use Rattle.casa_world.specs.declared.event.Outcome.TheVariants.{Accepted, Refused}
-use Rattle.casa_world.specs.Scenes.{Hand, nothing, view, answer, Worker, Scene, most_workers, with_worker, with_hand, read, compute, told, Commits, Happens, Leads}
-use Rattle.casa_world.specs.Standing.{Begins}
+use Rattle.casa_world.specs.Scenes.{Hand, nothing, view, answer, Worker, Scene, most_workers, with_worker, with_hand, read, compute, worker_after, Commits, Happens, Leads}
+use Rattle.casa_world.specs.Desks.{Begins}
 use Rattle.casa_world.specs.Past.{HandBegins, AllBegin}
 use Rattle.casa_world.proofs.Workers.{worker_same, worker_other}
 
@@ -50,9 +50,9 @@ module _ {C R : Type 0} (reply : List (Entry C R) → C → R) (IsUnmoved : List
       let e : Entry C R = entry w c (reply before c) in
       let longer : Scene C R = record m { history = m.history ++ e ∷ [] } in
       let grown : AllBegin longer = λ v. hand_push m.history e (m.workers v).hand (all v) in
-      subst AllBegin (sym stays.1) (with_begins w (told (Accepted (length m.history + 1))) longer grown tt)
+      subst AllBegin (sym stays.1) (with_begins w (worker_after (Accepted (length m.history + 1))) longer grown tt)
   commits_begin w (answer c before) m n all (inr moved) =
-      subst AllBegin (sym moved.1) (with_begins w (told Refused) m all tt)
+      subst AllBegin (sym moved.1) (with_begins w (worker_after Refused) m all tt)
 
   pub happens_begin : (e : Event C) (m n : Scene C R) → AllBegin m → Happens reply IsUnmoved e m n → AllBegin n
   happens_begin (Read w c) m n all is =

@@ -11,7 +11,7 @@ use Rattle.casa_world.specs.declared.desk.Held.{Held}
 use Rattle.casa_world.specs.declared.desk.Held.TheVariants.{Nothing, View, Answer}
 use Rattle.casa_world.specs.declared.desk.Desk.{Desk}
 use Rattle.casa_world.specs.Scenes.{Hand, nothing, view, answer, Worker, Scene, opening_scene}
-use Rattle.casa_world.specs.Standing.{Holds, StandsFor, IsScene, AreSeated, IsForHeld, IsOfHeld, AreFresh, outcome_of, outcome_at}
+use Rattle.casa_world.specs.Desks.{Holds, IsWorker, IsScene, AreSeated, IsForHeld, IsOfHeld, AreFresh, outcome_of, outcome_at}
 
 -- what stands in a list of which one element was changed
 pub at_set : {X : Type 0} → (xs : List X) (i : ℕ) (y : X) (k : ℕ) (x : X) → slice_get (set xs i y) k ≡ Some x
@@ -84,10 +84,10 @@ pub scene_turn : {C R V P : Type 0} → (Known Known' : Pass C R → Type 0)
     (IsView IsView' : C → List (Entry C R) → V → Type 0) (IsAnswer IsAnswer' : C → List (Entry C R) → P → Type 0)
     (es fs : List (Entry C R)) (ds : List (Desk C R V P)) (i : ℕ) (d d' : Desk C R V P) (m n : Scene C R)
     → slice_get ds i ≡ Some d → IsScene Known IsView IsAnswer es ds m
-    → n.history ≡ fs → desk_of d'.pass ≡ desk_of d.pass → Known' d'.pass → StandsFor IsView' IsAnswer' d' (n.workers i)
+    → n.history ≡ fs → desk_of d'.pass ≡ desk_of d.pass → Known' d'.pass → IsWorker IsView' IsAnswer' d' (n.workers i)
     → ((v : ℕ) → v ≢ i → n.workers v ≡ m.workers v)
     → ((p : Pass C R) → desk_of p ≢ desk_of d.pass → Known p → Known' p)
-    → ((y : Desk C R V P) (x : Worker C R) → StandsFor IsView IsAnswer y x → StandsFor IsView' IsAnswer' y x)
+    → ((y : Desk C R V P) (x : Worker C R) → IsWorker IsView IsAnswer y x → IsWorker IsView' IsAnswer' y x)
     → IsScene Known' IsView' IsAnswer' fs (set ds i d') n
 scene_turn {C} {R} {V} {P} Known Known' IsView IsView' IsAnswer IsAnswer' es fs ds i d d' m n at scene history desk known stands others known_still stands_still =
     let sits : desk_of d.pass ≡ i = (scene.1 i d at).0 in (
@@ -98,15 +98,15 @@ scene_turn {C} {R} {V} {P} Known Known' IsView IsView' IsAnswer IsAnswer' es fs 
             let seat : w ≡ i = here.0 in (
               ap (λ (y : Desk C R V P). desk_of y.pass) this ∙ desk ∙ sits ∙ sym seat,
               subst (λ (y : Desk C R V P). Known' y.pass) (sym this) known,
-              subst (λ (k : ℕ). StandsFor IsView' IsAnswer' x (n.workers k)) (sym seat)
-                  (subst (λ (y : Desk C R V P). StandsFor IsView' IsAnswer' y (n.workers i)) (sym this) stands),
+              subst (λ (k : ℕ). IsWorker IsView' IsAnswer' x (n.workers k)) (sym seat)
+                  (subst (λ (y : Desk C R V P). IsWorker IsView' IsAnswer' y (n.workers i)) (sym this) stands),
             )
         | inr there ↦
             let was = scene.1 w x there.1 in
             let apart : desk_of x.pass ≢ desk_of d.pass = λ same. there.0 (sym was.0 ∙ same ∙ sits) in (
               was.0,
               known_still x.pass apart was.1,
-              subst (λ (k : Worker C R). StandsFor IsView' IsAnswer' x k) (sym (others w there.0)) (stands_still x (m.workers w) was.2),
+              subst (λ (k : Worker C R). IsWorker IsView' IsAnswer' x k) (sym (others w there.0)) (stands_still x (m.workers w) was.2),
             )
       ]),
       (λ w past.

@@ -10,8 +10,8 @@ use Rattle.casa_world.specs.Scenes.{Scene, answer, opening_scene, Leads}
 -- where a worker's last commit was accepted at a position, the entry there is this worker's
 abbrev pub AreAtTheirPositions : {C R : Type 0} → List (Entry C R) → (ℕ → Option Outcome) → Type 0
 AreAtTheirPositions {C} {R} history outcomes =
-    (w n : ℕ) → outcomes w ≡ Some (Accepted n) →
-    (k : ℕ) × (e : Entry C R) × (n ≡ k + 1) × (slice_get history k ≡ Some e) × (e.desk ≡ w)
+    (w position : ℕ) → outcomes w ≡ Some (Accepted position) →
+    (k : ℕ) × (e : Entry C R) × (position ≡ k + 1) × (slice_get history k ≡ Some e) × (e.desk ≡ w)
 
 module _ {C R : Type 0} (reply : List (Entry C R) → C → R) (IsUnmoved : List (Entry C R) → C → List (Entry C R) → Type 0) where
   -- one of the events is a commit of a worker that holds the answer to a call, worked out on a view that it took after a

@@ -1,5 +1,5 @@
 pub mod Scenes
-pub mod Standing
+pub mod Desks
 pub mod Past
 pub mod Rooms
 pub mod Board

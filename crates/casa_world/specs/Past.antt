@@ -2,7 +2,7 @@
 use Rattle.std.specs.Prelude.{ℕ, List}
 use Rattle.casa_history.specs.declared.entry.Entry.{Entry}
 use Rattle.casa_world.specs.Scenes.{Hand, nothing, view, answer, Scene}
-use Rattle.casa_world.specs.Standing.{Begins}
+use Rattle.casa_world.specs.Desks.{Begins}
 
 -- what a worker holds was taken after a history with which this one begins
 abbrev pub HandBegins : {C R : Type 0} → List (Entry C R) → Hand C R → Type 0

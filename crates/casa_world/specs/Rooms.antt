@@ -10,34 +10,34 @@ use Rattle.casa_commit.specs.Rooms.{Admits, world_of, entries_of}
 use Rattle.casa_world.specs.declared.desk.Desk.{Desk}
 use Rattle.casa_world.specs.declared.stamped.Stamped.{Ghosts as StampedOf}
 use Rattle.casa_world.specs.Scenes.{Worker, Scene}
-use Rattle.casa_world.specs.Standing.{Taken, Answered, StandsFor, IsScene, AreSeated}
+use Rattle.casa_world.specs.Desks.{IsViewTaken, IsReplyOnView, IsWorker, IsScene, AreSeated}
 
 -- the reply to a call after a history
 abbrev pub reply_after : {W C V D R : Type 0} → WorldOf W C V D R → List (Entry C R) → C → R
 reply_after world before call = world.reply (replay world.after world.opening before) call
 
 -- a view that a desk of the room holds was taken for this call after that history
-abbrev pub IsTaken : {W C V D R : Type 0} (world : WorldOf W C V D R) → StampedOf W C V D R → Room W C V D R world
+abbrev pub IsRoomView : {W C V D R : Type 0} (world : WorldOf W C V D R) → StampedOf W C V D R → Room W C V D R world
     → C → List (Entry C R) → V → Type 0
-IsTaken world stamped room =
-    Taken world.is_for world.is_of world.shows stamped.is_view_of stamped.is_tied (replay world.after world.opening) (world_of room) (entries_of room)
+IsRoomView world stamped room =
+    IsViewTaken world.is_for world.is_of world.shows stamped.is_view_of stamped.is_tied (replay world.after world.opening) (world_of room) (entries_of room)
 
 -- an answer that a desk of the room holds was worked out for this call on such a view
-abbrev pub IsAnswered : {W C V D R : Type 0} (world : WorldOf W C V D R) → StampedOf W C V D R → Room W C V D R world
+abbrev pub IsRoomAnswer : {W C V D R : Type 0} (world : WorldOf W C V D R) → StampedOf W C V D R → Room W C V D R world
     → C → List (Entry C R) → Prepared W C V D R world → Type 0
-IsAnswered world stamped room call before p =
-    Answered world.is_of stamped.is_view_of stamped.is_tied (reply_after world) (world_of room) (entries_of room) call before (call_of p) (view_of p) (reply_of p)
+IsRoomAnswer world stamped room call before p =
+    IsReplyOnView world.is_of stamped.is_view_of stamped.is_tied (reply_after world) (world_of room) (entries_of room) call before (call_of p) (view_of p) (reply_of p)
 
 -- a desk of the room stands for a worker
-abbrev pub Stands : {W C V D R : Type 0} (world : WorldOf W C V D R) → StampedOf W C V D R → Room W C V D R world
+abbrev pub IsRoomWorker : {W C V D R : Type 0} (world : WorldOf W C V D R) → StampedOf W C V D R → Room W C V D R world
     → Desk C R V (Prepared W C V D R world) → Worker C R → Type 0
-Stands world stamped room desk x = StandsFor (IsTaken world stamped room) (IsAnswered world stamped room) desk x
+IsRoomWorker world stamped room desk x = IsWorker (IsRoomView world stamped room) (IsRoomAnswer world stamped room) desk x
 
 -- the room with its desks stands for a scene
-abbrev pub Shows : {W C V D R : Type 0} (world : WorldOf W C V D R) → StampedOf W C V D R → Room W C V D R world
+abbrev pub IsRoomScene : {W C V D R : Type 0} (world : WorldOf W C V D R) → StampedOf W C V D R → Room W C V D R world
     → List (Desk C R V (Prepared W C V D R world)) → Scene C R → Type 0
-Shows world stamped room desks m =
-    IsScene (Admits room) (IsTaken world stamped room) (IsAnswered world stamped room) (entries_of room) desks m
+IsRoomScene world stamped room desks m =
+    IsScene (Admits room) (IsRoomView world stamped room) (IsRoomAnswer world stamped room) (entries_of room) desks m
 
 -- each desk of the room is its worker's, and what it holds can be handed in
 abbrev pub AreOfRoom : {W C V D R : Type 0} (world : WorldOf W C V D R) → Room W C V D R world

@@ -5,7 +5,7 @@ use Rattle.casa_commit.specs.declared.world.World.{Ghosts as WorldOf}
 use Rattle.casa_commit.specs.Rooms.{world_of, entries_of}
 use Rattle.casa_world.specs.declared.event.Outcome.{Outcome}
 use Rattle.casa_world.specs.declared.run.Run.{Run}
-use Rattle.casa_world.specs.Standing.{outcome_at}
+use Rattle.casa_world.specs.Desks.{outcome_at}
 
 module _ {W C V D R : Type 0} {world : WorldOf W C V D R} where
   -- the history of a run

@@ -20,10 +20,10 @@ use Rattle.casa_item.specs.declared.item.Item.{Item}
 use Rattle.casa_view.specs.declared.view.View.{View}
 use Rattle.casa_table.specs.Same.{same_version}
 use Rattle.casa_item.specs.Versions.{Versions, IsOrderly, version_at, content_at, content_as, stamp_at, shown_state, row_of}
-use Rattle.casa_view.specs.View.{seen, shown, Shows, IsViewOf, IsFor, IsCurrent}
+use Rattle.casa_view.specs.View.{seen, content_shown, Shows, IsViewOf, IsFor, IsCurrent}
 use Rattle.casa_view.specs.Change.{is_absence, IsApplied}
-use Rattle.casa_view.specs.Standing.{Standing, StandsWell, standing, opening, after}
-use Rattle.casa_view.specs.WellStanding.{opening_well, after_well}
+use Rattle.casa_view.specs.BoardState.{BoardState, IsGoodBoard, board_state, opening, after}
+use Rattle.casa_view.specs.GoodBoard.{opening_is_good, after_is_good}
 use Rattle.casa_view.specs.Applied.{contains}
 use Rattle.casa_plan.proofs.Replayed.{state_replayed, stamp_replayed}
 use Rattle.casa_world.specs.Board.{HasSameStamps, IsViewAfter, IsTied}
@@ -44,33 +44,33 @@ is_read : (b : Bool) (x y : Content) → Some x ≡ (if b then Some y else None)
 is_read true x y e = (refl, cc)
 is_read false x y e = absurd (cc)
 
-module _ {V : Type 0} (item_of : V → Item) (number : V → ℕ) (is_same : V → V → Bool)
-    (same_number : (v w : V) → is_same v w ≡ true → number v ≡ number w) where
+module _ {V : Type 0} (item_of : V → Item) (stamp_of : V → ℕ) (is_same : V → V → Bool)
+    (same_stamp : (v w : V) → is_same v w ≡ true → stamp_of v ≡ stamp_of w) where
   -- the stamp of a version; none is stamped 0
-  abbrev stamp_of : Option V → ℕ
-  stamp_of w = option_map_or number w 0
+  abbrev stamp_held : Option V → ℕ
+  stamp_held w = option_map_or stamp_of w 0
 
   -- equal versions have the same stamp
-  same_stamp : (x y : Option V) → same_version is_same x y ≡ true → stamp_of x ≡ stamp_of y
+  same_stamp : (x y : Option V) → same_version is_same x y ≡ true → stamp_held x ≡ stamp_held y
   same_stamp None None e = refl
   same_stamp None (Some w) e = absurd (cc)
   same_stamp (Some v) None e = absurd (cc)
-  same_stamp (Some v) (Some w) e = same_number v w e
+  same_stamp (Some v) (Some w) e = same_stamp v w e
 
   -- what a view shows of an item that it holds
   shown_held : (v : View V) (i : ItemName) (w : Option V) → seen v i ≡ Some w
-      → shown item_of v i ≡ Some (content_as i (option_map item_of w))
+      → content_shown item_of v i ≡ Some (content_as i (option_map item_of w))
   shown_held v i w is = ap (option_map (λ (w : Option V). content_as i (option_map item_of w))) is
 
-  module _ (vs : Versions V) (history : Entries) (is : standing item_of number vs ≡ replay after opening history) where
+  module _ (vs : Versions V) (history : Entries) (is : board_state item_of stamp_of vs ≡ replay after opening history) where
     state_is : shown_state item_of vs ≡ state_after history
-    state_is = ap (λ (s : Standing). s.state) is ∙ state_replayed history
+    state_is = ap (λ (s : BoardState). s.state) is ∙ state_replayed history
 
-    stamp_is : (i : ItemName) → stamp_at number vs i ≡ stamp history i
-    stamp_is i = ap (λ (s : Standing). s.stamp i) is ∙ stamp_replayed history i
+    stamp_is : (i : ItemName) → stamp_at stamp_of vs i ≡ stamp history i
+    stamp_is i = ap (λ (s : BoardState). s.stamp i) is ∙ stamp_replayed history i
 
-    stands_well : StandsWell (standing item_of number vs)
-    stands_well = good_state StandsWell after after_well opening opening_well history (standing item_of number vs) is
+    stands_well : IsGoodBoard (board_state item_of stamp_of vs)
+    stands_well = good_state IsGoodBoard after after_is_good opening opening_is_good history (board_state item_of stamp_of vs) is
 
     module _ (orderly : IsOrderly item_of vs) (v : View V) (call : Call) (for_call : IsFor item_of v call)
         (current : IsCurrent is_same vs v) (shows : Shows item_of (shown_state item_of vs) v) where
@@ -112,10 +112,10 @@ module _ {V : Type 0} (item_of : V → Item) (number : V → ℕ) (is_same : V �
               let kept : content_at item_of vs (a_row key) ≡ row_or_none (row_of (item_of z)) =
               ap (λ (o : Option V). content_as (a_row key) (option_map item_of o)) there in
               let same = same_row (row_of (item_of z)) (row_of (item_of w))
-              (sym kept ∙ contains item_of number vs orderly.in_order.rows stands_well (a_row key) ∙ shown_so) in
+              (sym kept ∙ contains item_of stamp_of vs orderly.in_order.rows stands_well (a_row key) ∙ shown_so) in
               subst IsSome same (orderly.rows_are_there key z there)
 
-      pub present_view : IsViewAfter item_of number history call v
+      pub present_view : IsViewAfter item_of stamp_of history call v
       present_view = record {
         shows = shows_now;
         stamped = λ i w holds. sym (same_stamp (version_at vs i) w (current i w holds)) ∙ stamp_is i;
@@ -123,14 +123,14 @@ module _ {V : Type 0} (item_of : V → Item) (number : V → ℕ) (is_same : V �
       }
 
   -- what a call reads after a history, the view of it holds
-  holds_read : (before : Entries) (call : Call) (v : View V) (viewed : IsViewAfter item_of number before call v) (i : ItemName)
+  holds_read : (before : Entries) (call : Call) (v : View V) (viewed : IsViewAfter item_of stamp_of before call v) (i : ItemName)
       → reads (state_after before) call i ≡ true → (w : Option V) × (seen v i ≡ Some w)
   holds_read before call v viewed i read_it =
       held (λ (w : Option V). content_as i (option_map item_of w)) (seen v i) (contents (state_after before) i)
       (viewed.shows i ∙ ap (λ b. if b then Some (contents (state_after before) i) else None) read_it)
 
   -- and nothing else, as it is there
-  reads_held : (before : Entries) (call : Call) (v : View V) (viewed : IsViewAfter item_of number before call v) (i : ItemName)
+  reads_held : (before : Entries) (call : Call) (v : View V) (viewed : IsViewAfter item_of stamp_of before call v) (i : ItemName)
       (w : Option V) → seen v i ≡ Some w
       → (reads (state_after before) call i ≡ true) × (content_as i (option_map item_of w) ≡ contents (state_after before) i)
   reads_held before call v viewed i w holds =
@@ -139,8 +139,8 @@ module _ {V : Type 0} (item_of : V → Item) (number : V → ℕ) (is_same : V �
 
   -- the versions of a view are the present ones exactly where the stamps are
   pub current_unmoved : (vs : Versions V) (before later : Entries) (call : Call) (v : View V)
-      → standing item_of number vs ≡ replay after opening (before ++ later)
-      → IsTied is_same number vs v → IsViewAfter item_of number before call v
+      → board_state item_of stamp_of vs ≡ replay after opening (before ++ later)
+      → IsTied is_same stamp_of vs v → IsViewAfter item_of stamp_of before call v
       → (IsCurrent is_same vs v ↔ HasSameStamps before call (before ++ later))
   current_unmoved vs before later call v is tied viewed = (
     (λ current i read_it.
@@ -166,32 +166,32 @@ module _ {V : Type 0} (item_of : V → Item) (number : V → ℕ) (is_same : V �
       ap (λ (o : Option Row). not (is_some o)) (sym (same_row (Some row) (row_in m key) same))
   there_not_absent m key None some same = absurd (cc)
 
-  module _ (before : Entries) (call : Call) (v : View V) (viewed : IsViewAfter item_of number before call v) where
+  module _ (before : Entries) (call : Call) (v : View V) (viewed : IsViewAfter item_of stamp_of before call v) where
     -- the version of a row in a view has a stamp
-    row_version_stamped : (key : Text) (y : V) → seen v (a_row key) ≡ Some (Some y) → 1 ≤ number y
+    row_version_stamped : (key : Text) (y : V) → seen v (a_row key) ≡ Some (Some y) → 1 ≤ stamp_of y
     row_version_stamped key y holds =
         let there = there_not_absent (state_after before) key (row_of (item_of y)) (viewed.rows_are_there key y holds)
         (reads_held before call v viewed (a_row key) (Some y) holds).1 in
-        let same : number y ≡ stamp before (a_row key) = viewed.stamped (a_row key) (Some y) holds in
+        let same : stamp_of y ≡ stamp before (a_row key) = viewed.stamped (a_row key) (Some y) holds in
         omega (arith, same, row_stamped before (a_row key) refl there)
 
     module _ (later : Entries) (vs vs' : Versions V) (n : ℕ) (says : ItemName → Option Content)
-        (number_is : n ≡ length (before ++ later) + 1) (done : IsApplied item_of number says n vs vs')
-        (tied : IsTied is_same number vs v) where
+        (number_is : n ≡ length (before ++ later) + 1) (done : IsApplied item_of stamp_of says n vs vs')
+        (tied : IsTied is_same stamp_of vs v) where
       -- a view stays tied as the next entry's change is applied
-      pub applied_tied : IsTied is_same number vs' v
+      pub applied_tied : IsTied is_same stamp_of vs' v
       applied_tied i w holds same = by (says i) refl
         where
-          seen_stamp : stamp_of w ≡ stamp before i
+          seen_stamp : stamp_held w ≡ stamp before i
           seen_stamp = viewed.stamped i w holds
 
           unsaid : says i ≡ None → same_version is_same (version_at vs' i) w ≡ true
           unsaid none =
               let as_before = done.others i none in
               ap (λ (o : Option V). same_version is_same o w) as_before
-              ∙ tied i w holds (same ∙ ap stamp_of as_before)
+              ∙ tied i w holds (same ∙ ap stamp_held as_before)
 
-          gone : (key : Text) (o : Option V) → seen v (a_row key) ≡ Some o → stamp_of o ≡ 0
+          gone : (key : Text) (o : Option V) → seen v (a_row key) ≡ Some o → stamp_held o ≡ 0
               → same_version is_same None o ≡ true
           gone key None h e = refl
           gone key (Some y) h e = absurd (omega (arith, row_version_stamped key y h, e))
@@ -201,11 +201,11 @@ module _ {V : Type 0} (item_of : V → Item) (number : V → ℕ) (is_same : V �
               let none : version_at vs' i ≡ None = done.without i x said absence in
               let row = row_absent vs' i (ap is_absence (done.written i x said) ∙ absence) in
               ap (λ (o : Option V). same_version is_same o w) none
-              ∙ gone row.0 w (subst (λ (k : ItemName). seen v k ≡ Some w) row.1 holds) (same ∙ ap stamp_of none)
+              ∙ gone row.0 w (subst (λ (k : ItemName). seen v k ≡ Some w) row.1 holds) (same ∙ ap stamp_held none)
 
           present : (x : Content) → says i ≡ Some x → is_absence x ≡ false → same_version is_same (version_at vs' i) w ≡ true
           present x said here =
-              let new : stamp_at number vs' i ≡ n = done.stamped i x said ∙ ap (λ b. cond b 0 n) here in
+              let new : stamp_at stamp_of vs' i ≡ n = done.stamped i x said ∙ ap (λ b. cond b 0 n) here in
               let old : stamp before i ≤ length before = stamp_within before i in
               absurd (omega (arith, seen_stamp, same, new, old, number_is, length-append before later))
 

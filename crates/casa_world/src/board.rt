@@ -7,29 +7,29 @@ ghost use Rattle.casa_world.specs.Board.{HasSameStamps, IsViewAfter, IsTied};
 ghost use Rattle.casa_world.specs.Tied.{present_view, current_unmoved, applied_tied};
 
 use crate::stamped::Stamped;
-use casa_view::{Board, Kept};
+use casa_view::{Board, Store};
 
-impl<K: Kept> Stamped for Board<K> {
+impl<K: Store> Stamped for Board<K> {
     ghost is_unmoved = { HasSameStamps };
 
-    ghost is_view_of = { IsViewAfter K.Version.item_of K.Version.number };
+    ghost is_view_of = { IsViewAfter K.Version.item_of K.Version.stamp_of };
 
-    ghost is_tied = { λ v w. IsTied K.Version.is_same K.Version.number (versions w.items) v };
+    ghost is_tied = { λ v w. IsTied K.Version.is_same K.Version.stamp_of (versions w.items) v };
 
     ghost present_view = { λ w c v es is for_call of_world current shown.
-        present_view K.Version.item_of K.Version.number K.Version.is_same K.Version.same_number (versions w.items) es is
+        present_view K.Version.item_of K.Version.stamp_of K.Version.is_same K.Version.same_stamp (versions w.items) es is
         w.orderly v c for_call current shown };
 
     ghost present_tied = { λ w v of_world current. λ i x holds stamped. current i x holds };
 
     ghost alike_tied = { λ w x v same tied.
-        subst (λ (vs : Versions K.Version). IsTied K.Version.is_same K.Version.number vs v) (sym same) tied };
+        subst (λ (vs : Versions K.Version). IsTied K.Version.is_same K.Version.stamp_of vs v) (sym same) tied };
 
     ghost applied_tied = { λ w n d x c v before later is number of_world seen done tied.
-        applied_tied K.Version.item_of K.Version.number K.Version.is_same K.Version.same_number before c v seen later
+        applied_tied K.Version.item_of K.Version.stamp_of K.Version.is_same K.Version.same_stamp before c v seen later
         (versions w.items) (versions x.items) n _ number done tied };
 
     ghost current_unmoved = { λ w c v before later is of_world tied seen.
-        current_unmoved K.Version.item_of K.Version.number K.Version.is_same K.Version.same_number (versions w.items) before
+        current_unmoved K.Version.item_of K.Version.stamp_of K.Version.is_same K.Version.same_stamp (versions w.items) before
         later c v is tied seen };
 }

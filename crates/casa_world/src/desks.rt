@@ -3,12 +3,12 @@
 ghost use Rattle.std.specs.Prelude.{◌≡◌, ◌≢◌, ◌+◌, ◌∷◌, [], ◌++◌, ◌⊎◌, ℕ, length, vec_len, IfOk, OnOk, Some};
 ghost use Rattle.casa_commit.specs.Rooms.{world_of, history_of, entries_of, open_desks as opened};
 ghost use Rattle.casa_world.specs.Scenes.{Scene, opening_scene, Happens, Leads, most_workers};
-ghost use Rattle.casa_world.specs.Rooms.{reply_after, Shows, AreOfRoom};
+ghost use Rattle.casa_world.specs.Rooms.{reply_after, IsRoomScene, AreOfRoom};
 
 use crate::desk::{Desk, Held};
 use crate::event::Event;
 use crate::stamped::Stamped;
-use crate::turns::turn;
+use crate::worker::act;
 use casa_commit::{DeskFault, Gate, Prepared, Room};
 use casa_plan::Direct;
 use std::alloc::{AllocError, Global};
@@ -26,7 +26,7 @@ pub(crate) fn open_desks<W: Stamped>(
     ensures same_world { world_of room.new ≡ world_of room.old }
     ensures same_history { history_of room.new ≡ history_of room.old }
     ensures all { IfOk result (λ ds. vec_len ds ≡ most_workers) }
-    ensures scene { IfOk result (λ ds. Shows W.World W.Stamped.own room.new ds.items opening_scene) }
+    ensures scene { IfOk result (λ ds. IsRoomScene W.World W.Stamped.own room.new ds.items opening_scene) }
 {
     let mut desks = Vec::new(alloc);
     for _ in 0..MAX_WORKERS {
@@ -55,15 +55,15 @@ where
     Direct: Gate<W>,
     requires seated { AreOfRoom W.World room.old desks.old }
     requires all { length desks.old ≡ most_workers }
-    ensures happens { OnOk result ((m : Scene W.Call W.Reply) → Shows W.World W.Stamped.own room.old desks.old m →
+    ensures happens { OnOk result ((m : Scene W.Call W.Reply) → IsRoomScene W.World W.Stamped.own room.old desks.old m →
         (n : Scene W.Call W.Reply) × Happens (reply_after W.World) W.is_unmoved event.now m n
-        × Shows W.World W.Stamped.own room.new desks.new n) }
+        × IsRoomScene W.World W.Stamped.own room.new desks.new n) }
 {
     let at = event.worker() as usize;
     if at >= desks.len() {
         return Ok(());
     }
-    turn(alloc, room, &mut desks[at], event)?;
+    act(alloc, room, &mut desks[at], event)?;
     Ok(())
 }
 
@@ -76,10 +76,10 @@ pub(crate) fn happen_all<W: Stamped>(
 ) -> Result<(), AllocError>
 where
     Direct: Gate<W>,
-    requires scene { Shows W.World W.Stamped.own room.old desks.old opening_scene }
+    requires scene { IsRoomScene W.World W.Stamped.own room.old desks.old opening_scene }
     requires all { length desks.old ≡ most_workers }
     ensures leads { OnOk result ((n : Scene W.Call W.Reply) × Leads (reply_after W.World) W.is_unmoved events.now opening_scene n
-        × Shows W.World W.Stamped.own room.new desks.new n) }
+        × IsRoomScene W.World W.Stamped.own room.new desks.new n) }
 {
     for event in events {
         happen(alloc, room, desks, event)?;

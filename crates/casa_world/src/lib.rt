@@ -5,12 +5,12 @@ mod board;
 mod desk;
 mod desks;
 mod event;
-mod handing;
+mod hand_in;
 mod laws;
 mod playing;
 mod run;
 mod stamped;
-mod turns;
+mod worker;
 
 pub use event::{Event, Outcome};
 pub use laws::events_lead_to_one_scene;

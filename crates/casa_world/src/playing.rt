@@ -2,7 +2,7 @@
 
 ghost use Rattle.std.specs.Prelude.{◌≡◌, IfOk};
 ghost use Rattle.casa_history.specs.Entries.{entries};
-ghost use Rattle.casa_plan.specs.Rooms.{IsSequential, StandsAfter};
+ghost use Rattle.casa_plan.specs.Rooms.{IsSequential, IsBoardAfter};
 ghost use Rattle.casa_world.specs.Scenes.{IsRun};
 ghost use Rattle.casa_world.specs.Board.{sequential_reply, HasSameStamps, RefusalsHaveCauses};
 ghost use Rattle.casa_world.specs.Causes.{AreCommitted, AreAtTheirPositions};
@@ -14,10 +14,10 @@ use casa_commit::World;
 use casa_flight::{Call, Reply};
 use casa_history::History;
 use casa_plan::board_of;
-use casa_view::{Board, Kept};
+use casa_view::{Board, Store};
 use std::alloc::{AllocError, Global};
 
-impl<K: Kept> Run<Board<K>> {
+impl<K: Store> Run<Board<K>> {
     /// The history: one of a single thread.
     pub fn history(&self) -> &History<Call, Reply>
         ensures same { entries result.now ≡ run_history self.now }
@@ -30,7 +30,7 @@ impl<K: Kept> Run<Board<K>> {
     /// The board, as it stands after the history.
     pub fn state(&self) -> &Board<K>
         ensures same { result.now ≡ run_world self.now }
-        ensures stands { StandsAfter (run_history self.now) (⟦<Board<K> as World>⟧.state result.now) }
+        ensures stands { IsBoardAfter (run_history self.now) (⟦<Board<K> as World>⟧.state result.now) }
     {
         board_of(&self.room)
     }
@@ -48,14 +48,14 @@ impl<K: Kept> Run<Board<K>> {
 
 /// Plays the events, one after the other, from the empty board over this store. Workers are numbered from 0 to 1,023; an
 /// event of another worker, or out of its place, changes nothing. `AllocError` where there is no memory for an event.
-pub fn play<K: Kept>(
+pub fn play<K: Store>(
     alloc: Global,
     store: K,
     events: &[Event<Call>],
 ) -> Result<Run<Board<K>>, AllocError>
     ensures run { IfOk result (λ run. IsRun sequential_reply HasSameStamps events.now (run_history run) (run_outcomes run)) }
     ensures sequential { IfOk result (λ run. IsSequential (run_history run)) }
-    ensures stands { IfOk result (λ run. StandsAfter (run_history run) (⟦<Board<K> as World>⟧.state (run_world run))) }
+    ensures stands { IfOk result (λ run. IsBoardAfter (run_history run) (⟦<Board<K> as World>⟧.state (run_world run))) }
     ensures committed { IfOk result (λ run. AreCommitted sequential_reply HasSameStamps events.now (run_history run)) }
     ensures accepted { IfOk result (λ run. AreAtTheirPositions (run_history run) (run_outcomes run)) }
     ensures refused { IfOk result (λ run. RefusalsHaveCauses events.now (run_outcomes run)) }

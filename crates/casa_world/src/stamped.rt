@@ -24,7 +24,7 @@ pub(crate) trait Stamped: World {
     ghost present_tied: { (w : Self) (v : Self.View) → Self.is_of v w → Self.is_current w v → is_tied v w };
 
     /// A view stays tied to a world that differs in spare memory.
-    ghost alike_tied: { (w w' : Self) (v : Self.View) → Self.alike w w' → is_tied v w → is_tied v w' };
+    ghost alike_tied: { (w w' : Self) (v : Self.View) → Self.same_but_capacity w w' → is_tied v w → is_tied v w' };
 
     /// A view stays tied when the next entry's change is applied, since the number of this entry is new.
     ghost applied_tied: { (w : Self) (n : ℕ) (d : Self.Change) (w' : Self) (c : Self.Call) (v : Self.View)

@@ -8,6 +8,6 @@ use Rattle.cells.specs.Copies.{is_full}
 abbrev pub IsChange : ℕ → ℕ → Change → Type 0
 IsChange v to d = (d.writes ≡ not (is_full v)) × (d.to ≡ to) × (d.writes ≡ true → d.value ≡ v + 1)
 
--- the cells with a change by entry n
+-- the cells with a change by the entry at a position
 abbrev pub changed : ℕ → Change → List Cell → List Cell
-changed n d cells = if d.writes then slice_set cells d.to (record { value = d.value; version = n }) else cells
+changed position d cells = if d.writes then slice_set cells d.to (record { value = d.value; version = position }) else cells

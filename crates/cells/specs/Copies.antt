@@ -29,8 +29,8 @@ answer_of v = if is_full v then Full else Value v
 abbrev pub reply : List Cell → Copying → Answer
 reply cells c = answer_of (cell_at cells c.from).value
 
--- the cells after a copy that is entry n of the history
+-- the cells after a copy that is the entry at this position of the history
 abbrev pub after : ℕ → List Cell → Copying → List Cell
-after n cells c =
+after position cells c =
     if is_full (cell_at cells c.from).value then cells
-    else slice_set cells c.to (record { value = (cell_at cells c.from).value + 1; version = n })
+    else slice_set cells c.to (record { value = (cell_at cells c.from).value + 1; version = position })

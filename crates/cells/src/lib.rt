@@ -1,6 +1,6 @@
 //! A world of four cells, the smallest on which commits can meet: for the tests of casa_commit.
 //!
-//! A call copies one cell's value, plus one, into another. Each cell is an item, and its version is the number of
+//! A call copies one cell's value, plus one, into another. Each cell is an item, and its version is the position of
 //! the entry that wrote it last.
 #![tactic(auto)]
 

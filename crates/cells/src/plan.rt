@@ -16,7 +16,7 @@ impl Gate<Cells> for Copier {
         &self,
         _alloc: Global,
         _desk: u32,
-        _turn: u32,
+        _attempt: u32,
         view: &View,
         call: &Copying,
     ) -> Result<(Answer, Change), AllocError> {

@@ -72,7 +72,7 @@ impl World for Cells {
 
     ghost changes = { λ s c d. IsChange (cell_at s c.from).value c.to d };
 
-    ghost alike = { λ w x. x ≡ w };
+    ghost same_but_capacity = { λ w x. x ≡ w };
 
     ghost has_room = { λ w n d. Unit {0} };
 
@@ -98,11 +98,11 @@ impl World for Cells {
         Ok(())
     }
 
-    fn apply(&mut self, number: usize, change: Change) {
+    fn apply(&mut self, position: usize, change: Change) {
         if change.writes {
             self.cells[change.to] = Cell {
                 value: change.value,
-                version: number,
+                version: position,
             };
         }
     }

@@ -1,8 +1,8 @@
 use Rattle.std.proofs.Common.{List, ap, ◌∙◌, None, Some}
 use Rattle.casa_filing.specs.declared.regulation.Regulation.{Regulation}
 use Rattle.casa_filing.specs.Text.{Text, put}
-use Rattle.casa_answer.specs.Sight.{Sight, Written}
-use Rattle.casa_answer.specs.Enter.{with_entries}
+use Rattle.casa_plan_spec.specs.Sight.{Sight, Written}
+use Rattle.casa_plan_spec.specs.Enter.{with_entries}
 use Rattle.casa_plan.proofs.Closed.{closing_as}
 use Rattle.casa_plan.proofs.closing.after_closing.Goals as goal
 

@@ -2,7 +2,7 @@ use Rattle.std.proofs.Common.{◌≡◌, ◌++◌, drop}
 use Rattle.std.specs.List.{filter_map}
 use Rattle.casa_flight.specs.declared.row.Stance.{Stance}
 use Rattle.casa_filing.specs.Text.{Text}
-use Rattle.casa_answer.specs.Closing.{governed_comp}
+use Rattle.casa_plan_spec.specs.Closing.{governed_comp}
 use Rattle.casa_plan.proofs.closing.governed_flights.Given as goal
 
 abbrev pub invariant-loop-member : goal.invariant-loop-member

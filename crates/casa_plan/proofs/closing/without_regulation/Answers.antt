@@ -1,6 +1,6 @@
 use Rattle.std.proofs.Common.{ap, ◌∙◌}
 use Rattle.std.proofs.lemmas.Result.{IfOk-weaker}
-use Rattle.casa_answer.specs.Closing.{without_regulation}
+use Rattle.casa_plan_spec.specs.Closing.{without_regulation}
 use Rattle.casa_plan.proofs.Closed.{without_as}
 use Rattle.casa_plan.proofs.closing.without_regulation.Goals as goal
 

@@ -1,5 +1,5 @@
 use Rattle.std.proofs.Common.{◌≡◌, drop}
-use Rattle.casa_answer.specs.Enter.{with_entries}
+use Rattle.casa_plan_spec.specs.Enter.{with_entries}
 use Rattle.casa_plan.proofs.entering.enter_all.Given as goal
 
 abbrev pub invariant-loop-comp : goal.invariant-loop-comp

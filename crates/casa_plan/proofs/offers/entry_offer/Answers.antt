@@ -3,8 +3,8 @@ use Rattle.casa_flight.specs.declared.row.Row.{Row}
 use Rattle.casa_filing.specs.Subject.{is_gone}
 use Rattle.casa_flight.specs.State.{is_exempt}
 use Rattle.casa_flight.specs.Entry.{Offer, most_penalising}
-use Rattle.casa_answer.specs.Sight.{Sight, clock_in, list_with}
-use Rattle.casa_answer.specs.OneFlight.{offers_of, best_offer}
+use Rattle.casa_plan_spec.specs.Sight.{Sight, clock_in, list_with}
+use Rattle.casa_plan_spec.specs.OneFlight.{offers_of, best_offer}
 use Rattle.casa_plan.proofs.offers.entry_offer.Goals as goal
 
 pub returns : goal.returns

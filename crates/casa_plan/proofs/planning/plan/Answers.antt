@@ -1,6 +1,6 @@
 use Rattle.std.proofs.Common.{sym, subst}
 use Rattle.std.proofs.lemmas.Result.{IfOk-weaker}
-use Rattle.casa_answer.specs.Sight.{IsSightOf}
+use Rattle.casa_plan_spec.specs.Sight.{IsSightOf}
 use Rattle.casa_plan.proofs.Seen.{seen_of_each}
 use Rattle.casa_plan.proofs.planning.plan.Goals as goal
 

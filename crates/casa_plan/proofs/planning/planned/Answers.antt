@@ -1,18 +1,18 @@
 use Rattle.casa_flight.specs.declared.call.Call.TheVariants.{File, Amend, Cancel, Revise, Exempt, OpenReg, CloseReg, Rates, Tick, Show, List, Swap}
-use Rattle.casa_answer.specs.FlightCalls.{file, amend, cancel, revise, exempt, show}
-use Rattle.casa_answer.specs.Opening.{open_reg}
-use Rattle.casa_answer.specs.Closing.{close_reg}
-use Rattle.casa_answer.specs.NewRates.{rates}
-use Rattle.casa_answer.specs.Issue.{tick}
-use Rattle.casa_answer.specs.Look.{list}
-use Rattle.casa_answer.specs.Swapping.{swap}
-use Rattle.casa_answer.proofs.FlightCalls.{file_planned, amend_planned, cancel_planned, revise_planned, exempt_planned, show_planned}
-use Rattle.casa_answer.proofs.Opens.{open_planned}
-use Rattle.casa_answer.proofs.Closes.{close_planned}
-use Rattle.casa_answer.proofs.NewRates.{rates_planned}
-use Rattle.casa_answer.proofs.Ticks.{tick_planned}
-use Rattle.casa_answer.proofs.Listed.{list_planned}
-use Rattle.casa_answer.proofs.Swaps.{swap_planned}
+use Rattle.casa_plan_spec.specs.FlightCalls.{file, amend, cancel, revise, exempt, show}
+use Rattle.casa_plan_spec.specs.Opening.{open_reg}
+use Rattle.casa_plan_spec.specs.Closing.{close_reg}
+use Rattle.casa_plan_spec.specs.NewRates.{rates}
+use Rattle.casa_plan_spec.specs.Issue.{tick}
+use Rattle.casa_plan_spec.specs.Look.{list}
+use Rattle.casa_plan_spec.specs.Swapping.{swap}
+use Rattle.casa_plan_spec.proofs.FlightCalls.{file_planned, amend_planned, cancel_planned, revise_planned, exempt_planned, show_planned}
+use Rattle.casa_plan_spec.proofs.Opens.{open_planned}
+use Rattle.casa_plan_spec.proofs.Closes.{close_planned}
+use Rattle.casa_plan_spec.proofs.NewRates.{rates_planned}
+use Rattle.casa_plan_spec.proofs.Ticks.{tick_planned}
+use Rattle.casa_plan_spec.proofs.Listed.{list_planned}
+use Rattle.casa_plan_spec.proofs.Swaps.{swap_planned}
 use Rattle.casa_plan.proofs.Answered.{answered}
 use Rattle.casa_plan.proofs.planning.planned.Goals as goal
 

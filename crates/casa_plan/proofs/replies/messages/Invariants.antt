@@ -3,7 +3,7 @@ use Rattle.std.specs.Option.{option_and_then}
 use Rattle.std.specs.List.{filter_map}
 use Rattle.casa_flight.specs.declared.row.Row.{Row}
 use Rattle.casa_filing.specs.Text.{Text}
-use Rattle.casa_answer.specs.Told.{message_shown, messages_shown}
+use Rattle.casa_plan_spec.specs.Messages.{message_shown, messages_shown}
 use Rattle.casa_plan.proofs.replies.messages.Given as goal
 
 abbrev pub invariant-loop-key : goal.invariant-loop-key

@@ -4,8 +4,8 @@ use Rattle.std.specs.List.{filter}
 use Rattle.std.specs.Map.{keys_of}
 use Rattle.casa_flight.specs.declared.comp.Comp.{Comp}
 use Rattle.casa_flight.specs.Steps.{may_compete}
-use Rattle.casa_answer.specs.Sight.{row_in}
-use Rattle.casa_answer.specs.Enter.{with_entries}
+use Rattle.casa_plan_spec.specs.Sight.{row_in}
+use Rattle.casa_plan_spec.specs.Enter.{with_entries}
 use Rattle.casa_table.specs.Asking.{HaveRows}
 use Rattle.casa_plan.proofs.taking_in.enter_newcomers.Given as goal
 

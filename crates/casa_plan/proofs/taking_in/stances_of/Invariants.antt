@@ -4,7 +4,7 @@ use Rattle.std.specs.List.{fold}
 use Rattle.casa_flight.specs.declared.comp.Comp.{Comp}
 use Rattle.casa_flight.specs.declared.row.Stance.{Stance}
 use Rattle.casa_filing.specs.Text.{Text, put}
-use Rattle.casa_answer.specs.TakingIn.{stance_by}
+use Rattle.casa_plan_spec.specs.TakingIn.{stance_by}
 use Rattle.casa_item.specs.Versions.{row_of}
 use Rattle.casa_plan.specs.TakingIn.{stances_of}
 use Rattle.casa_plan.proofs.taking_in.stances_of.Given as goal

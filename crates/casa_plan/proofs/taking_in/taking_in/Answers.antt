@@ -7,8 +7,8 @@ use Rattle.casa_filing.specs.declared.regulation.Regulation.{Regulation}
 use Rattle.casa_flight.specs.Steps.{may_compete}
 use Rattle.casa_filing.specs.Text.{put}
 use Rattle.casa_flight.specs.Listing.{Listing}
-use Rattle.casa_answer.specs.Sight.{Sight, Written, row_in}
-use Rattle.casa_answer.specs.Enter.{with_entries}
+use Rattle.casa_plan_spec.specs.Sight.{Sight, Written, row_in}
+use Rattle.casa_plan_spec.specs.Enter.{with_entries}
 use Rattle.casa_plan.proofs.TakenIn.{taking_in_as, stances_shown}
 use Rattle.casa_plan.proofs.taking_in.taking_in.Goals as goal
 

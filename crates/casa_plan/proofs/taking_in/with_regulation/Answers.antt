@@ -1,6 +1,6 @@
 use Rattle.std.proofs.Common.{ap, ◌∙◌}
 use Rattle.std.proofs.lemmas.Result.{IfOk-weaker}
-use Rattle.casa_answer.specs.TakingIn.{with_regulation}
+use Rattle.casa_plan_spec.specs.TakingIn.{with_regulation}
 use Rattle.casa_plan.proofs.TakenIn.{with_as}
 use Rattle.casa_plan.proofs.taking_in.with_regulation.Goals as goal
 

@@ -5,7 +5,7 @@ use Rattle.casa_flight.specs.declared.row.Stance.TheVariants.{Competing}
 use Rattle.casa_flight.specs.Good.{AreInOrder}
 use Rattle.casa_flight.specs.Listing.{Listing, cto_as}
 use Rattle.casa_flight.specs.Entry.{with_competitor}
-use Rattle.casa_answer.specs.Write.{with_flight}
+use Rattle.casa_plan_spec.specs.Write.{with_flight}
 use Rattle.casa_stance.proofs.Standing.{absent_without, put_again}
 use Rattle.casa_stance.proofs.times.time_anew.Goals as goal
 

@@ -3,7 +3,7 @@ use Rattle.std.specs.List.{AllByRecursion}
 use Rattle.std.specs.Map.{keys_of}
 use Rattle.std.specs.Option.{option_and_then}
 use Rattle.casa_flight.specs.Good.{AreInOrder}
-use Rattle.casa_flight.specs.Listing.{kept}
+use Rattle.casa_flight.specs.Listing.{filter_map_values}
 use Rattle.casa_filing.specs.Text.{Text, at_name}
 use Rattle.casa_filing.proofs.Entries.{each_found}
 use Rattle.casa_table.specs.Flights.{row_named, rows_named}
@@ -16,8 +16,8 @@ use Rattle.casa_table.proofs.asking.flights_over_named.Goals as goal
 pub loop-key-init : goal.loop-key-init
 loop-key-init g c =
     let all = c.into_iter-key-iterator.ensures.into_iter_gives ∙ c.iter-key-items.ensures.entries in (
-      ap (λ es. inserted (keys_of c.new-flights.result.entries) (kept (λ w. option_and_then (over_row c.args.regulation.now) (row_named g.V.Version.item_of w)) es)) all
-          ∙ ap (λ cs. inserted cs (kept (λ w. option_and_then (over_row c.args.regulation.now) (row_named g.V.Version.item_of w)) c.args.rows.now)) (ap keys_of c.new-flights.ensures.empty),
+      ap (λ es. inserted (keys_of c.new-flights.result.entries) (filter_map_values (λ w. option_and_then (over_row c.args.regulation.now) (row_named g.V.Version.item_of w)) es)) all
+          ∙ ap (λ cs. inserted cs (filter_map_values (λ w. option_and_then (over_row c.args.regulation.now) (row_named g.V.Version.item_of w)) c.args.rows.now)) (ap keys_of c.new-flights.ensures.empty),
       subst (HaveRows g.V.Version.item_of (rows_named g.V.Version.item_of c.args.rows.now)) (sym c.new-flights.ensures.empty) tt,
       subst (AllByRecursion (λ e. at_name c.args.rows.now e.0 ≡ Some e.1)) (sym all)
           (each_found c.args.rows.now c.iter-key-items.ensures.ordered),
@@ -33,9 +33,9 @@ loop-key-preserved g c =
     let before = c.loop-key.flights.entries in
     let key = c.in-Some.key.now in
     let put = c.in_ok-put_flight.ensures ∙ ap (with_flight before key) c.in_ok-answer.ensures in (
-      ap (λ es. inserted (keys_of es) (kept (λ w. option_and_then (over_row r) (row_named item_of w)) c.next.new.self)) put
+      ap (λ es. inserted (keys_of es) (filter_map_values (λ w. option_and_then (over_row r) (row_named item_of w)) c.next.new.self)) put
           ∙ one_named item_of r before key c.in-Some.value.now c.next.new.self
-          ∙ ap (λ es. inserted (keys_of before) (kept (λ w. option_and_then (over_row r) (row_named item_of w)) es)) (sym next)
+          ∙ ap (λ es. inserted (keys_of before) (filter_map_values (λ w. option_and_then (over_row r) (row_named item_of w)) es)) (sym next)
           ∙ c.loop-key.invariant.0,
       subst (HaveRows item_of (rows_named item_of c.args.rows.now)) (sym put)
           (rows_named_put item_of r c.args.rows.now before key c.in-Some.value.now c.iter-key-items.ensures.ordered left.0 c.loop-key.invariant.1),
@@ -46,7 +46,7 @@ pub returns-clause-over : goal.returns-clause-over
 returns-clause-over g c =
     let sorted : AreInOrder c.args.rows.now = search rules in
     let none : c.loop-key.key-iterator ≡ [] = search rules in
-    ap (λ es. inserted (keys_of c.loop-key.flights.entries) (kept (λ w. option_and_then (over_row c.args.regulation.now) (row_named g.V.Version.item_of w)) es)) (sym none)
+    ap (λ es. inserted (keys_of c.loop-key.flights.entries) (filter_map_values (λ w. option_and_then (over_row c.args.regulation.now) (row_named g.V.Version.item_of w)) es)) (sym none)
     ∙ c.loop-key.invariant.0 ∙ named_in_order g.V.Version.item_of c.args.regulation.now c.args.rows.now sorted
 
 pub returns-clause-rows : goal.returns-clause-rows

@@ -4,7 +4,7 @@ use Rattle.casa_commit.specs.Prepared.{view_of}
 use Rattle.casa_commit.specs.Rooms.{Admits, world_of, entries_of}
 use Rattle.casa_world.specs.declared.event.Event.{Event}
 use Rattle.casa_world.specs.Scenes.{opening_scene, Leads}
-use Rattle.casa_world.specs.Rooms.{reply_after, IsTaken, IsAnswered}
+use Rattle.casa_world.specs.Rooms.{reply_after, IsRoomView, IsRoomAnswer}
 use Rattle.casa_world.proofs.Happening.{leads_push}
 use Rattle.casa_world.proofs.Seats.{seated}
 use Rattle.casa_world.proofs.desks.happen_all.Goals as goal
@@ -13,7 +13,7 @@ pub happen-requires-clause-seated : goal.happen-requires-clause-seated
 happen-requires-clause-seated g c =
     let room = c.loop-event.room in
     let inv = c.loop-event.invariant in
-    seated (Admits room) (IsTaken g.W.World g.W.Stamped room) (IsAnswered g.W.World g.W.Stamped room)
+    seated (Admits room) (IsRoomView g.W.World g.W.Stamped room) (IsRoomAnswer g.W.World g.W.Stamped room)
     g.W.World.is_for (λ p. g.W.World.is_of (view_of p) (world_of room)) (entries_of room) c.loop-event.desks inv.0
     (λ k b v sees. sees.0) (λ k b p is. is.1) inv.2
 

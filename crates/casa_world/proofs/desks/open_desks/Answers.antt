@@ -9,7 +9,7 @@ use Rattle.casa_commit.specs.declared.prepared.Prepared.{Prepared}
 use Rattle.casa_world.specs.declared.desk.Desk.{Desk}
 use Rattle.casa_world.specs.declared.desk.Held.TheVariants.{Nothing}
 use Rattle.casa_world.proofs.desks.open_desks.Given.{Over}
-use Rattle.casa_world.specs.Standing.{AreFresh}
+use Rattle.casa_world.specs.Desks.{AreFresh}
 use Rattle.casa_world.proofs.Passes.{fresh_admitted}
 use Rattle.casa_world.proofs.Seats.{fresh_push, fresh_scene}
 use Rattle.casa_world.proofs.desks.open_desks.Goals as goal

@@ -7,13 +7,13 @@ use Rattle.casa_history.specs.declared.entry.Entry.{Entry}
 use Rattle.casa_commit.specs.Legal.{replay}
 use Rattle.casa_commit.proofs.Replays.{good_state}
 use Rattle.casa_footprint.proofs.Written.{unwritten_stamp}
-use Rattle.casa_view.specs.Standing.{StandsWell, opening, after}
-use Rattle.casa_view.specs.WellStanding.{opening_well, after_well}
+use Rattle.casa_view.specs.BoardState.{IsGoodBoard, opening, after}
+use Rattle.casa_view.specs.GoodBoard.{opening_is_good, after_is_good}
 use Rattle.casa_plan.proofs.Replayed.{state_replayed, sequential, stands}
 use Rattle.casa_world.specs.declared.event.Event.{Event}
 use Rattle.casa_world.specs.declared.event.Outcome.{Outcome}
 use Rattle.casa_world.specs.Scenes.{Hand, IsRun, opening_scene}
-use Rattle.casa_world.specs.Standing.{Begins}
+use Rattle.casa_world.specs.Desks.{Begins}
 use Rattle.casa_world.specs.Past.{HandBegins}
 use Rattle.casa_world.specs.Causes.{AreCommitted}
 use Rattle.casa_world.specs.Board.{sequential_reply, HasSameStamps}
@@ -74,4 +74,4 @@ pub returns-clause-stands : goal.returns-clause-stands
 returns-clause-stands g c =
     let history = run_history c.in_ok-played.played in
     let is = c.in_ok-played.ensures.state in
-    stands history _ is (good_state StandsWell after after_well opening opening_well history _ is)
+    stands history _ is (good_state IsGoodBoard after after_is_good opening opening_is_good history _ is)

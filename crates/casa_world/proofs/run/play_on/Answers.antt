@@ -2,14 +2,14 @@ use Rattle.std.proofs.Common.{◌≡◌, List, length, sym, ap, subst, ◌∙◌
 use Rattle.casa_commit.specs.Rooms.{Admits, entries_of}
 use Rattle.casa_world.specs.declared.desk.Desk.{Desk}
 use Rattle.casa_world.specs.Scenes.{opening_scene}
-use Rattle.casa_world.specs.Standing.{outcome_at}
-use Rattle.casa_world.specs.Rooms.{IsTaken, IsAnswered, Shows}
+use Rattle.casa_world.specs.Desks.{outcome_at}
+use Rattle.casa_world.specs.Rooms.{IsRoomView, IsRoomAnswer, IsRoomScene}
 use Rattle.casa_world.proofs.Seats.{scene_outcome, written_back}
 use Rattle.casa_world.proofs.run.play_on.Goals as goal
 
 pub happen_all-requires-clause-scene : goal.happen_all-requires-clause-scene
 happen_all-requires-clause-scene g c =
-    subst (λ (ds : List (Desk _ _ _ _)). Shows g.W.World g.W.Stamped c.open_desks.new.room ds opening_scene)
+    subst (λ (ds : List (Desk _ _ _ _)). IsRoomScene g.W.World g.W.Stamped c.open_desks.new.room ds opening_scene)
     (sym c.as_mut_slice.ensures.value) c.in_ok-desks.ensures.scene
 
 pub returns-clause-run : goal.returns-clause-run
@@ -27,6 +27,6 @@ returns-clause-run g c =
       leads.1,
       sym leads.2.0,
       (λ w. ap (λ (xs : List (Desk _ _ _ _)). outcome_at xs w) back
-          ∙ scene_outcome (Admits room) (IsTaken g.W.World g.W.Stamped room) (IsAnswered g.W.World g.W.Stamped room)
+          ∙ scene_outcome (Admits room) (IsRoomView g.W.World g.W.Stamped room) (IsRoomAnswer g.W.World g.W.Stamped room)
           (entries_of room) ds leads.0 leads.2 w),
     )

@@ -1,6 +1,6 @@
 use Rattle.std.proofs.Common.{subst}
 use Rattle.casa_flight.specs.Good.{AreInOrder}
-use Rattle.casa_answer.specs.Sight.{Sight}
+use Rattle.casa_plan_spec.specs.Sight.{Sight}
 use Rattle.casa_view.proofs.ViewRows.{rows-ordered}
 use Rattle.casa_plan.proofs.shown.Shown.flights_over.Goals as goal
 

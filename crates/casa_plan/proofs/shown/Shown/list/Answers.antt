@@ -1,5 +1,5 @@
 use Rattle.std.proofs.Common.{ap, sym, ◌∙◌}
-use Rattle.casa_answer.specs.Sight.{Sight, list_in}
+use Rattle.casa_plan_spec.specs.Sight.{Sight, list_in}
 use Rattle.casa_view.proofs.ViewLists.{lists-shown}
 use Rattle.casa_plan.proofs.shown.Shown.list.Goals as goal
 

@@ -9,7 +9,7 @@ use Rattle.casa_history.specs.declared.entry.Entry.{Entry}
 use Rattle.casa_history.specs.declared.entry.Receipt.{Receipt}
 use Rattle.casa_commit.specs.Legal.{replay}
 use Rattle.casa_commit.specs.Rooms.{entries_of}
-use Rattle.casa_view.specs.Standing.{Standing, after, opening}
+use Rattle.casa_view.specs.BoardState.{BoardState, after, opening}
 use Rattle.casa_session.specs.Played.{calls_in, receipts_played, state_after}
 use Rattle.casa_session.proofs.Alone.{alone-answered, receipt-answered}
 use Rattle.casa_session.proofs.Shown.{state-replayed}

@@ -1,6 +1,6 @@
 use Rattle.std.proofs.Common.{sym, ap, ◌∙◌, subst}
 use Rattle.std.proofs.lemmas.Result.{IfOk-weaker}
-use Rattle.casa_flight.specs.Listing.{in_order, is_before}
+use Rattle.casa_flight.specs.Listing.{sorted_by, is_before}
 use Rattle.casa_table.specs.declared.asking.Question.TheVariants.{Over}
 use Rattle.casa_table.specs.Flights.{rows_of}
 use Rattle.casa_table.specs.Passing.{comps}
@@ -14,8 +14,8 @@ returns-clause-over g c =
     let item_of = g.V.Version.item_of in
     IfOk-weaker c.in_order.result _ _
     (λ flights h. h
-    ∙ ap (λ es. in_order is_before (comps (times es))) c.in_ok-found.ensures.found
-    ∙ ap (λ ts. in_order is_before (comps ts)) (times-answered item_of (Over c.args.regulation.now) c.args.self.now)
+    ∙ ap (λ es. sorted_by is_before (comps (times es))) c.in_ok-found.ensures.found
+    ∙ ap (λ ts. sorted_by is_before (comps ts)) (times-answered item_of (Over c.args.regulation.now) c.args.self.now)
     ∙ sequence_is c.args.regulation.now (rows_of item_of c.args.self.now)) c.in_order.ensures.comps
 
 pub returns-clause-rows : goal.returns-clause-rows

@@ -1,5 +1,5 @@
 use Rattle.std.proofs.Common.{sym, subst}
-use Rattle.casa_answer.specs.Sight.{says}
+use Rattle.casa_plan_spec.specs.Sight.{says}
 use Rattle.casa_view.specs.Board.{versions, next_versions}
 use Rattle.casa_item.specs.Versions.{IsOrderly}
 use Rattle.casa_view.specs.Change.{IsApplied}
@@ -11,8 +11,8 @@ invariant_of-self g c =
     let version = g.K.Version.Version in
     let items = c.args.self.now.items in
     record {
-      orderly = subst (IsOrderly version.item_of) (sym c.turn.ensures)
-          (orderly_kept version.item_of version.number (says c.args._change) c.args._number (versions items)
+      orderly = subst (IsOrderly version.item_of) (sym c.adopt.ensures)
+          (orderly_kept version.item_of version.stamp_of (says c.args._change) c.args._position (versions items)
           (next_versions items)
           c.requires c.args.self.now.orderly);
     }
@@ -20,4 +20,4 @@ invariant_of-self g c =
 pub returns : goal.returns
 returns g c =
     let version = g.K.Version.Version in
-    subst (IsApplied version.item_of version.number (says c.args._change) c.args._number (versions c.args.self.now.items)) (sym c.turn.ensures) c.requires
+    subst (IsApplied version.item_of version.stamp_of (says c.args._change) c.args._position (versions c.args.self.now.items)) (sym c.adopt.ensures) c.requires

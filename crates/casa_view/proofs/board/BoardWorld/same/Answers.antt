@@ -6,5 +6,5 @@ pub returns-clause-shown : goal.returns-clause-shown
 returns-clause-shown g c = λ same well.
     let version = g.K.Version.Version in
     let board = c.args.self.now in
-    same_shows version.item_of version.number (versions board.items) c.args.view.now board.orderly.in_order.rows well
+    same_shows version.item_of version.stamp_of (versions board.items) c.args.view.now board.orderly.in_order.rows well
     (c.same_items.ensures.shows same)

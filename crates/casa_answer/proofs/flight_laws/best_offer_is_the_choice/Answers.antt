@@ -1,5 +1,0 @@
-use Rattle.casa_answer.proofs.Crossings.{best_is}
-use Rattle.casa_answer.proofs.flight_laws.best_offer_is_the_choice.Goals as goal
-
-pub returns : goal.returns
-returns c = best_is

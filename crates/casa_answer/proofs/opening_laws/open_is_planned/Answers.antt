@@ -1,5 +1,0 @@
-use Rattle.casa_answer.proofs.Opens.{open_planned}
-use Rattle.casa_answer.proofs.opening_laws.open_is_planned.Goals as goal
-
-pub returns : goal.returns
-returns c = open_planned

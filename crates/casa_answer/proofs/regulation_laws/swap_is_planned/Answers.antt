@@ -1,5 +1,0 @@
-use Rattle.casa_answer.proofs.Swaps.{swap_planned}
-use Rattle.casa_answer.proofs.regulation_laws.swap_is_planned.Goals as goal
-
-pub returns : goal.returns
-returns c = swap_planned

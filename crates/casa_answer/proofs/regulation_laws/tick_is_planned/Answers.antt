@@ -1,5 +1,0 @@
-use Rattle.casa_answer.proofs.Ticks.{tick_planned}
-use Rattle.casa_answer.proofs.regulation_laws.tick_is_planned.Goals as goal
-
-pub returns : goal.returns
-returns c = tick_planned

@@ -1,0 +1,41 @@
+use Rattle.std.proofs.KnownBytes.{Appends-trans}
+use Rattle.casa_report.specs.Heading.{heading_line}
+use Rattle.casa_report.specs.Table.{table}
+use Rattle.casa_app.proofs.Reported.{broken_first, broken_second, ends_broken, ends_unlisted}
+use Rattle.casa_app.proofs.reports.report.Goals as goal
+
+pub returns-in_err-list-clause-ends : goal.returns-in_err-list-clause-ends
+returns-in_err-list-clause-ends g c =
+    ends_unlisted c.args.reg.now c.args.day c.from_residual-in_err-list.result c.in_err-list.field-0.0 c.in_ok-lone.lone _ _ _ c.from_residual-in_err-list.ensures.1 c.in_ok-lone.ensures.whole c.in_err-list.ensures.untold
+
+pub returns-in_err-heading-clause-ends : goal.returns-in_err-heading-clause-ends
+returns-in_err-heading-clause-ends g c =
+    let fault = c.in_err-heading.field-0.0 in
+    ends_broken c.args.reg.now c.args.day c.from_residual-in_err-heading.result fault _ (g.R.Read.remaining c.answer_lines.new.reader) _ _ c.from_residual-in_err-heading.ensures.1 record {
+      answered = c.in_ok-lone.lone;
+      whole = c.in_ok-lone.ensures.whole;
+      list = c.in_ok-list.list;
+      told = c.in_ok-list.ensures.told;
+      is_so = broken_first (heading_line c.args.reg.now c.args.day) (table c.in_ok-list.list.rows) fault _ _ c.in_err-heading.ensures.cut_off c.in_err-heading.ensures.no_memory;
+    }
+
+pub returns-in_err-list_table-clause-ends : goal.returns-in_err-list_table-clause-ends
+returns-in_err-list_table-clause-ends g c =
+    let fault = c.in_err-list_table.field-0.0 in
+    ends_broken c.args.reg.now c.args.day c.from_residual-in_err-list_table.result fault _ (g.R.Read.remaining c.answer_lines.new.reader) _ _ c.from_residual-in_err-list_table.ensures.1 record {
+      answered = c.in_ok-lone.lone;
+      whole = c.in_ok-lone.ensures.whole;
+      list = c.in_ok-list.list;
+      told = c.in_ok-list.ensures.told;
+      is_so = broken_second (heading_line c.args.reg.now c.args.day) (table c.in_ok-list.list.rows) fault _ (g.W.Write.contents c.heading.new.writer) _ c.in_ok-heading.ensures.ok c.in_err-list_table.ensures.fault c.in_err-list_table.ensures.cut_off;
+    }
+
+pub returns-clause-ends : goal.returns-clause-ends
+returns-clause-ends g c =
+    record {
+      answered = c.in_ok-lone.lone;
+      whole = c.in_ok-lone.ensures.whole;
+      list = c.in_ok-list.list;
+      told = c.in_ok-list.ensures.told;
+      is_so = Appends-trans _ (g.W.Write.contents c.heading.new.writer) (g.W.Write.contents c.list_table.new.writer) (heading_line c.args.reg.now c.args.day) (table c.in_ok-list.list.rows) c.in_ok-heading.ensures.ok c.in_ok-list_table.ensures.ok;
+    }

@@ -1,0 +1,131 @@
+//! Desks over connections, and a timer beside them.
+
+ghost use Rattle.std.specs.Prelude.{◌≡◌, IfOk};
+ghost use Rattle.casa_engine.specs.Ledgers.{IsBlankOf};
+
+use crate::fault::ProgramFault;
+use casa_engine::{Direct, Engine, blank};
+use casa_server::{DayClock, ServeFault, Served, moment_at, serve, timer};
+use casa_shelf::{Shelf, Shelving};
+use casa_time::Moment;
+use casa_view::{Item, Store};
+use jiff::Timestamp;
+use jiff::civil::Date;
+use std::alloc::Global;
+use std::marker::Brand;
+use std::net::{Ipv4Addr, Net, TcpListener, TcpStream};
+use std::sync::ledger::{Blank, Ledger};
+use std::sync::{Arc, Wait};
+use std::thread;
+use std::thread::Threads;
+use std::time::{Clock, Duration};
+
+/// The number of the engine. There is no other from which it would have to be told.
+const ENGINE: u32 = 0;
+
+/// How the clock of an engine is moved: so often, once a second, to the seconds from this day's midnight UTC.
+#[derive(Clone, Copy)]
+pub struct Timing {
+    pub day: Date,
+    pub turns: u32,
+}
+
+/// The system's clock, which tells the moment of the day once a second.
+#[derive(Drop)]
+struct EachSecond<'a, R> {
+    rt: &'a R,
+    day: Date,
+}
+
+impl<'a, R: Clock> DayClock for EachSecond<'a, R> {
+    fn next(&mut self) -> Option<Moment> {
+        thread::sleep(self.rt, Duration::from_secs(1));
+        let now = Timestamp::now(self.rt).ok()?;
+        moment_at(self.day, now)
+    }
+}
+
+/// Listens on this port of 127.0.0.1, accepts that many connections, and answers the lines of each by a desk of its own,
+/// while the timer moves the clock. Ends when the sessions and the timer have ended, and says what became of them.
+///
+/// `BindFailed` where the port cannot be had, as where another program listens on it; then `NoMemory` where there is none
+/// for the board; then the server's fault. A fault of the timer ends the timer alone.
+pub fn serve_desks<
+    R: Net<Listener = TcpListener, Stream = TcpStream> + Threads + Wait + Clock + Sync,
+>(
+    rt: &R,
+    alloc: Global,
+    port: u16,
+    connections: u32,
+    timing: Option<Timing>,
+) -> Result<Served, ProgramFault>
+    ensures { IfOk result (λ served. served.sessions ≡ connections) }
+{
+    let Ok(listener) = TcpListener::bind(rt, (Ipv4Addr::LOCALHOST, port)) else {
+        return Err(ProgramFault::BindFailed);
+    };
+    let items = boxcar::Vec::new(alloc)?;
+    serve_on::<Brand, Brand, R>(rt, alloc, &listener, &items, blank(), connections, timing)
+}
+
+/// Serves the connections of this listener on a new engine, whose ledger is this one, and whose versions lie on the shelf
+/// that is this vector.
+fn serve_on<
+    V: Shelving + Send + Sync,
+    L: Ledger + Send + Sync,
+    R: Net<Listener = TcpListener, Stream = TcpStream> + Threads + Wait + Clock + Sync,
+>(
+    rt: &R,
+    alloc: Global,
+    listener: &TcpListener,
+    items: &boxcar::Vec<Arc<Item>>,
+    blank: Blank,
+    connections: u32,
+    timing: Option<Timing>,
+) -> Result<Served, ProgramFault>
+    requires vector { items.now ≡ V.shelves }
+    requires ledger { IsBlankOf L.name L.parts blank.name blank.parts }
+    ensures { IfOk result (λ served. served.sessions ≡ connections) }
+{
+    let shelf: Shelf<V, R> = Shelf::new(items, rt);
+    let engine = Engine::<Shelf<V, R>, L, Direct>::new(alloc, shelf, blank, ENGINE, Direct)?;
+    Ok(serve_by(rt, alloc, listener, &engine, connections, timing)?)
+}
+
+/// Serves the connections of this listener by the desks of this engine, while the timer moves its clock.
+fn serve_by<
+    K: Store<Version: Send + Sync> + Send,
+    L: Ledger + Send + Sync,
+    R: Threads + Wait + Clock + Sync,
+>(
+    rt: &R,
+    alloc: Global,
+    listener: &TcpListener,
+    engine: &Engine<K, L, Direct>,
+    connections: u32,
+    timing: Option<Timing>,
+) -> Result<Served, ServeFault>
+    ensures { IfOk result (λ served. served.sessions ≡ connections) }
+{
+    let (served, ()) = thread::join(
+        rt,
+        || serve(rt, alloc, listener, engine, connections),
+        || keep_time(rt, alloc, engine, timing),
+    );
+    served
+}
+
+/// Moves the clock of the engine, if it is to be moved.
+fn keep_time<K: Store, L: Ledger + Send + Sync, R: Threads + Wait + Clock + Sync>(
+    rt: &R,
+    alloc: Global,
+    engine: &Engine<K, L, Direct>,
+    timing: Option<Timing>,
+) {
+    let Some(Timing { day, turns }) = timing else {
+        return;
+    };
+    let mut clock = EachSecond { rt, day };
+    // What the timer could not do is nobody's loss but the clock's, so the server goes on.
+    let _ = timer(rt, alloc, &mut clock, engine, turns);
+}

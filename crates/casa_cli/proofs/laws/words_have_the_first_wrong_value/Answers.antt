@@ -1,0 +1,23 @@
+use Rattle.casa_cli.proofs.FirstWrong.{nothing_asked, run_asked, report_asked, load_asked, summary_asked, why_asked, serve_asked}
+use Rattle.casa_cli.proofs.laws.words_have_the_first_wrong_value.Goals as goal
+
+pub returns-clause-unread : goal.returns-clause-unread
+returns-clause-unread c = nothing_asked
+
+pub returns-clause-run : goal.returns-clause-run
+returns-clause-run c = run_asked
+
+pub returns-clause-report : goal.returns-clause-report
+returns-clause-report c = report_asked
+
+pub returns-clause-load : goal.returns-clause-load
+returns-clause-load c = load_asked
+
+pub returns-clause-summary : goal.returns-clause-summary
+returns-clause-summary c = summary_asked
+
+pub returns-clause-why : goal.returns-clause-why
+returns-clause-why c = why_asked
+
+pub returns-clause-serve : goal.returns-clause-serve
+returns-clause-serve c = serve_asked

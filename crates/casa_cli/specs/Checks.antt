@@ -1,0 +1,74 @@
+-- inner contracts: which value of an option can be wrong, in the order of the checks, and what is asked for else
+use Rattle.std.specs.Prelude.{◌≡◌, Bool, false, not, ◌&&◌, ◌==◌, List, [], ◌∷◌, find, Option, Some, None, is_none, option_and_then, option_map, codes, Result, Ok, Err}
+use Rattle.std.specs.Option.{option_map_or}
+use Rattle.clap.specs.Words.{Row, fault_of, first_of, subcommand_of}
+use Rattle.casa_filing.specs.Text.{Text}
+use Rattle.casa_cli.specs.Words.{Request, WrongValue, report, load, summary, why, serve, wrong_reg, wrong_key, wrong_day, casa_app, connections_of, day_in, day_of, named_in, number_of, step_of, turns_of}
+
+-- clap finds no fault in the words, and they are this subcommand with these options
+abbrev pub AreRead : List Text → Text → List Row → Type 0
+AreRead words name rows = (fault_of casa_app words ≡ []) × (subcommand_of casa_app words ≡ Some (name, rows))
+
+-- whether something is wrong, and the value that this is
+abbrev pub Check : Type 0
+Check = Bool × WrongValue
+
+-- the value of the first check that holds
+abbrev pub first_wrong : List Check → Option WrongValue
+first_wrong checks = option_map (λ (check : Check). check.1) (find (λ (check : Check). check.0) checks)
+
+-- of `report` and `load`: what stands after `--reg` is no identifier; what stands after `--day` is no day
+abbrev pub report_checks : List Row → List Check
+report_checks rows = (is_none (named_in (codes "reg") rows), wrong_reg) ∷ (is_none (day_in rows), wrong_day) ∷ []
+
+-- of `summary`: what stands after `--day` is no day
+abbrev pub summary_checks : List Row → List Check
+summary_checks rows = (is_none (day_in rows), wrong_day) ∷ []
+
+-- of `why`: what stands after `--key` is no key of a flight; what stands after `--day` is no day
+abbrev pub why_checks : List Row → List Check
+why_checks rows = (is_none (named_in (codes "key") rows), wrong_key) ∷ (is_none (day_in rows), wrong_day) ∷ []
+
+-- of `serve`: what stands after `--day` is no day; the clock is to be moved, and no day is given
+abbrev pub serve_checks : List Row → List Check
+serve_checks rows =
+    (option_map_or (λ text. is_none (day_of text)) (first_of (codes "day") rows) false, wrong_day) ∷
+    (not (turns_of rows == 0) && is_none (first_of (codes "day") rows), wrong_day) ∷ []
+
+infixl 10 ◌>>=◌
+abbrev ◌>>=◌ : {A B : Type 0} → Option A → (A → Option B) → Option B
+found >>= next = option_and_then next found
+
+-- what the options ask for, where each is what it must be
+abbrev pub report_request : List Row → Option Request
+report_request rows = do
+  reg ← named_in (codes "reg") rows
+  day ← day_in rows
+  Some (report reg day)
+
+abbrev pub load_request : List Row → Option Request
+load_request rows = do
+  reg ← named_in (codes "reg") rows
+  day ← day_in rows
+  Some (load reg day (step_of rows))
+
+abbrev pub summary_request : List Row → Option Request
+summary_request rows = do
+  day ← day_in rows
+  Some (summary day)
+
+abbrev pub why_request : List Row → Option Request
+why_request rows = do
+  key ← named_in (codes "key") rows
+  day ← day_in rows
+  Some (why key day)
+
+abbrev pub serve_request : List Row → Option Request
+serve_request rows = do
+  port ← number_of (codes "port") rows
+  Some (serve port (connections_of rows) (turns_of rows) (day_in rows))
+
+-- what is wrong, or else what is asked for
+abbrev pub unless_wrong : Option WrongValue → Option Request → Option (Result Request WrongValue)
+unless_wrong (Some wrong) asked = Some (Err wrong)
+unless_wrong None asked = option_map (λ request. Ok request) asked

@@ -1,0 +1,25 @@
+//! The law of the definition of what words ask for, on a function that does nothing.
+
+ghost use Rattle.std.specs.Prelude.{◌≡◌, List, [], Ok, None, Some, codes};
+ghost use Rattle.clap.specs.Words.{Row, fault_of};
+ghost use Rattle.casa_filing.specs.Text.{Text};
+ghost use Rattle.casa_cli.specs.Checks.{AreRead, first_wrong, load_request, report_checks, report_request, serve_checks, serve_request, summary_checks, summary_request, unless_wrong, why_checks, why_request};
+ghost use Rattle.casa_cli.specs.Words.{casa_app, request_of, run};
+
+/// Words in which clap finds a fault ask for nothing. Of words that it reads, the value that is wrong is that of the
+/// first check that holds, in the order of the subcommand's list; where none holds, they ask for what its options say.
+pub fn words_have_the_first_wrong_value()
+    ensures unread { (words : List Text) → (fault_of casa_app words ≡ [] → ⊥) → request_of words ≡ None }
+    ensures run { (words : List Text) (rows : List Row) → AreRead words (codes "run") rows →
+        request_of words ≡ Some (Ok run) }
+    ensures report { (words : List Text) (rows : List Row) → AreRead words (codes "report") rows →
+        request_of words ≡ unless_wrong (first_wrong (report_checks rows)) (report_request rows) }
+    ensures load { (words : List Text) (rows : List Row) → AreRead words (codes "load") rows →
+        request_of words ≡ unless_wrong (first_wrong (report_checks rows)) (load_request rows) }
+    ensures summary { (words : List Text) (rows : List Row) → AreRead words (codes "summary") rows →
+        request_of words ≡ unless_wrong (first_wrong (summary_checks rows)) (summary_request rows) }
+    ensures why { (words : List Text) (rows : List Row) → AreRead words (codes "why") rows →
+        request_of words ≡ unless_wrong (first_wrong (why_checks rows)) (why_request rows) }
+    ensures serve { (words : List Text) (rows : List Row) → AreRead words (codes "serve") rows →
+        request_of words ≡ unless_wrong (first_wrong (serve_checks rows)) (serve_request rows) }
+{}

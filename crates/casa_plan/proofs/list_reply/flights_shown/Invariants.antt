@@ -1,0 +1,10 @@
+use Rattle.std.proofs.Common.{◌≡◌, map, take}
+use Rattle.casa_flight.specs.declared.comp.Comp.{Comp}
+use Rattle.casa_slots.specs.declared.standing.Standing.{Standing}
+use Rattle.casa_list.specs.Standings.{standings}
+use Rattle.casa_plan.specs.Rows.{row_as}
+use Rattle.casa_plan.proofs.list_reply.flights_shown.Given as goal
+
+abbrev pub invariant-loop-n : goal.invariant-loop-n
+invariant-loop-n g l =
+    l.rows.items ≡ map (λ (f : Comp × Standing). row_as l.view l.list f.0 f.1) (take l.n (standings l.list))

@@ -1,0 +1,13 @@
+pub mod Sight
+pub mod Write
+pub mod OneFlight
+pub mod FlightCalls
+pub mod Messages
+pub mod Enter
+pub mod TakingIn
+pub mod Opening
+pub mod NewRates
+pub mod Issue
+pub mod Swapping
+pub mod Look
+pub mod Closing

@@ -1,0 +1,84 @@
+-- inner contracts: what a view shows to a planner, and when an answer by it is the right one
+use Rattle.std.specs.Prelude.{◌≡◌, ℕ, List, [], true, Option, None, Some, unwrap_or}
+use Rattle.std.specs.Option.{option_map, option_flatten}
+use Rattle.casa_flight.specs.declared.call.Call.{Call}
+use Rattle.casa_filing.specs.declared.regulation.Regulation.{Regulation}
+use Rattle.casa_flight.specs.declared.reply.Reply.{Reply}
+use Rattle.casa_flight.specs.declared.row.Row.{Row}
+use Rattle.casa_flight.specs.declared.state.State.{State}
+use Rattle.casa_filing.specs.Text.{Text, at_name}
+use Rattle.casa_flight.specs.State.{row_of, catalogue}
+use Rattle.casa_flight.specs.Listing.{Listing, list_of}
+use Rattle.casa_flight.specs.Entry.{Situation}
+use Rattle.casa_flight.specs.Good.{IsGood}
+use Rattle.casa_flight.specs.Replies.{reply}
+use Rattle.casa_footprint.specs.Items.{ItemName, the_clock, the_catalogue, a_row, a_list}
+use Rattle.casa_footprint.specs.Items.{Content, moment, regulations, row_or_none, list_or_none}
+use Rattle.casa_footprint.specs.Footprint.{reads}
+use Rattle.casa_footprint.specs.Change.{IsChange}
+
+-- what a view shows: the clock and the catalogue, if it holds them; the rows that it holds and that are there, in the order
+-- of their keys; and the lists that it holds, by their identifiers, or that there is none
+pub record Sight : Type 0 where
+  pub clock : Option ℕ
+  pub catalogue : Option (List Regulation)
+  pub rows : List (Text × Row)
+  pub lists : List (Text × Option Listing)
+
+-- the row under a key and the list under an identifier, where they are shown
+abbrev pub row_in : Sight → Text → Option Row
+row_in v key = at_name v.rows key
+
+abbrev pub list_in : Sight → Text → Option Listing
+list_in v id = option_flatten (at_name v.lists id)
+
+-- a view for a call on a state shows what the call reads there
+pub record IsSightOf (m : State) (call : Call) (v : Sight) : Type 0 where
+  pub clock : reads m call the_clock ≡ true → v.clock ≡ Some m.clock
+  pub catalogue : reads m call the_catalogue ≡ true → v.catalogue ≡ Some (catalogue m)
+  pub row : (key : Text) → reads m call (a_row key) ≡ true → row_in v key ≡ row_of m key
+  pub list : (id : Text) → reads m call (a_list id) ≡ true → list_in v id ≡ list_of m id
+  pub rows : ((key : Text) → reads m call (a_row key) ≡ true) → v.rows ≡ m.rows
+
+-- the clock and the catalogue that are shown
+abbrev pub clock_in : Sight → ℕ
+clock_in v = unwrap_or v.clock 0
+
+abbrev pub regulations_in : Sight → List Regulation
+regulations_in v = unwrap_or v.catalogue []
+
+-- what a flight that enters finds in a view
+abbrev pub situation_in : Sight → Situation
+situation_in v = record { clock = clock_in v; regulations = regulations_in v; lists = list_in v }
+
+-- what a change writes: the clock, the catalogue, and rows and lists by their names, or that there is none
+pub record Written : Type 0 where
+  pub clock : Option ℕ
+  pub catalogue : Option (List Regulation)
+  pub rows : List (Text × Option Row)
+  pub lists : List (Text × Option Listing)
+
+abbrev pub nothing_written : Written
+nothing_written = record { clock = None; catalogue = None; rows = []; lists = [] }
+
+-- what a change says of an item, if it says anything
+abbrev pub says : Written → ItemName → Option Content
+says w the_clock = option_map moment w.clock
+says w the_catalogue = option_map regulations w.catalogue
+says w (a_row key) = option_map row_or_none (at_name w.rows key)
+says w (a_list id) = option_map list_or_none (at_name w.lists id)
+
+-- the row under a key and the list under an identifier, as a view shows them with a change laid over it
+abbrev pub row_with : Sight → Written → Text → Option Row
+row_with v w key = unwrap_or (at_name w.rows key) (row_in v key)
+
+abbrev pub list_with : Sight → Written → Text → Option Listing
+list_with v w id = unwrap_or (at_name w.lists id) (list_in v id)
+
+-- the answer to a call in a state: its reply, and a change of what it writes
+abbrev pub IsAnswerIn : State → Call → Reply × Written → Type 0
+IsAnswerIn m call p = (p.0 ≡ reply m call) × IsChange m call (says p.1)
+
+-- and so in every good state of which the view shows what the call reads
+abbrev pub IsPlanned : Sight → Call → Reply × Written → Type 0
+IsPlanned v call p = (m : State) → IsGood m → IsSightOf m call v → IsAnswerIn m call p

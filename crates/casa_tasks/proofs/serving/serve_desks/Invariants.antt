@@ -1,7 +1,0 @@
-use Rattle.casa_tasks.proofs.serving.serve_desks.Given as goal
-
-abbrev pub ghosts-serve_on-V-Shelving : goal.ghosts-serve_on-V-Shelving
-ghosts-serve_on-V-Shelving g a = record { shelves = a.items.now }
-
-abbrev pub ghosts-serve_on-L-Ledger : goal.ghosts-serve_on-L-Ledger
-ghosts-serve_on-L-Ledger g a = record { name = a.blank.name; parts = a.blank.parts }

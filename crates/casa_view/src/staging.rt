@@ -1,0 +1,187 @@
+//! How a change is written: its versions are made, and then they are adopted.
+
+ghost use Rattle.std.specs.Prelude.{◌≡◌, [], OnOk, IfOk, unwrap_or};
+ghost use Rattle.casa_filing.specs.Text.{put};
+ghost use Rattle.casa_flight.specs.Good.{AreInOrder};
+ghost use Rattle.casa_plan_spec.specs.Sight.{says};
+ghost use Rattle.casa_view.specs.Board.{versions, next_versions, catalogue_written};
+ghost use Rattle.casa_view.specs.Change.{IsApplied};
+ghost use Rattle.casa_item.specs.Versions.{IsInOrder, moment_of, regulations_of};
+ghost use Rattle.casa_view.specs.Next.{AreAlike, NextOne, NextRow, NextList};
+
+use crate::change::{Change, WrittenRow};
+use crate::items::Items;
+use casa_flight::{Name, OfFlight, OfRegulation, RegId};
+use casa_list::SharedList;
+use casa_named::Few;
+use casa_table::{Changes, Item, Store, Version};
+use casa_time::Moment;
+use std::alloc::{AllocError, Global};
+use std::sync::Arc;
+
+/// The version of an item.
+fn version<K: Store>(
+    alloc: Global,
+    store: &mut K,
+    position: usize,
+    item: Item,
+) -> Result<K::Version, AllocError>
+    ensures item { IfOk result (λ v. K.Version.item_of v ≡ item) }
+    ensures number { IfOk result (λ v. K.Version.stamp_of v ≡ position) }
+{
+    store.put(position, Arc::new(alloc, item)?)
+}
+
+/// The version of the clock, if it is written.
+fn clock_version<K: Store>(
+    alloc: Global,
+    store: &mut K,
+    position: usize,
+    clock: Option<Moment>,
+) -> Result<Option<K::Version>, AllocError>
+    ensures { IfOk result (NextOne K.Version.item_of K.Version.stamp_of position moment_of clock) }
+{
+    match clock {
+        Some(at) => Ok(Some(version(alloc, store, position, Item::Clock(at))?)),
+        None => Ok(None),
+    }
+}
+
+/// The version of the catalogue, if it is written.
+fn catalogue_version<K: Store>(
+    store: &mut K,
+    position: usize,
+    catalogue: &Option<Arc<Item>>,
+) -> Result<Option<K::Version>, AllocError>
+    ensures { IfOk result (NextOne K.Version.item_of K.Version.stamp_of position regulations_of
+        (catalogue_written catalogue.now)) }
+{
+    match catalogue {
+        Some(item) => Ok(Some(store.put(position, Arc::try_clone(item)?)?)),
+        None => Ok(None),
+    }
+}
+
+/// The version of a list, or of its absence, which keeps the number of the close.
+fn list_version<K: Store>(
+    alloc: Global,
+    store: &mut K,
+    position: usize,
+    id: RegId,
+    list: &Option<SharedList>,
+) -> Result<Option<K::Version>, AllocError>
+    ensures { IfOk result (NextList K.Version.item_of K.Version.stamp_of position list.now) }
+{
+    let list = match list {
+        Some(list) => Some(list.share()?),
+        None => None,
+    };
+    Ok(Some(version(alloc, store, position, Item::List(id, list))?))
+}
+
+/// Puts a version, or that there is none, under a name.
+fn put_version<Kind, V: Drop>(
+    versions: &mut Changes<Kind, V>,
+    name: Name<Kind>,
+    version: Option<V>,
+) -> Result<(), AllocError>
+    ensures put { OnOk result (versions.new.entries ≡ put versions.old.entries name version) }
+    ensures ordered { AreInOrder versions.new.entries }
+{
+    versions.insert(name, version)?;
+    Ok(())
+}
+
+/// The versions of the rows of a change, in memory that is to spare.
+fn row_versions<K: Store>(
+    store: &mut K,
+    position: usize,
+    rows: &Few<OfFlight, WrittenRow>,
+    spare: Changes<OfFlight, K::Version>,
+) -> Result<Changes<OfFlight, K::Version>, AllocError>
+    requires { spare.entries ≡ [] }
+    ensures versions { IfOk result (λ versions.
+        AreAlike (NextRow K.Version.item_of K.Version.stamp_of position) rows.now versions.entries) }
+    ensures ordered { IfOk result (λ versions. AreInOrder versions.entries) }
+{
+    let mut versions = spare;
+    for (key, row) in rows.iter() {
+        let version = row.version(store, position)?;
+        put_version(&mut versions, *key, version)?;
+    }
+    Ok(versions)
+}
+
+/// The versions of the lists of a change, in memory that is to spare.
+fn list_versions<K: Store>(
+    alloc: Global,
+    store: &mut K,
+    position: usize,
+    lists: &Few<OfRegulation, Option<SharedList>>,
+    spare: Changes<OfRegulation, K::Version>,
+) -> Result<Changes<OfRegulation, K::Version>, AllocError>
+    requires { spare.entries ≡ [] }
+    ensures versions { IfOk result (λ versions.
+        AreAlike (NextList K.Version.item_of K.Version.stamp_of position) lists.now versions.entries) }
+    ensures ordered { IfOk result (λ versions. AreInOrder versions.entries) }
+{
+    let mut versions = spare;
+    for (id, list) in lists.iter() {
+        let version = list_version(alloc, store, position, *id, list)?;
+        put_version(&mut versions, *id, version)?;
+    }
+    Ok(versions)
+}
+
+/// Puts the next version in place of the present one, if there is a next one.
+fn adopt_next<V: Drop>(version: &mut V, next: &mut Option<V>)
+    ensures { version.new ≡ unwrap_or next.old version.old }
+{
+    if let Some(next) = next.take() {
+        *version = next;
+    }
+}
+
+impl<V: Version> Items<V> {
+    /// Moves in what lies beside the rows and the lists, where no view has them. `AllocError` where there is no memory for
+    /// it.
+    pub(crate) fn consolidate(&mut self) -> Result<(), AllocError>
+        ensures { versions self.new ≡ versions self.old }
+    {
+        self.rows.consolidate()?;
+        self.lists.consolidate()
+    }
+
+    /// Adopts the versions that were made ready. It takes no memory, and no longer for many items than for one.
+    pub(crate) fn adopt(&mut self)
+        ensures { versions self.new ≡ next_versions self.old }
+    {
+        adopt_next(&mut self.clock, &mut self.next_clock);
+        adopt_next(&mut self.catalogue, &mut self.next_catalogue);
+        self.rows.adopt();
+        self.lists.adopt();
+    }
+}
+
+/// Makes ready what a change writes as the entry at this position. `AllocError` where there is no memory for it; the
+/// versions are then as they were.
+pub(crate) fn fit<K: Store>(
+    alloc: Global,
+    store: &mut K,
+    items: &mut Items<K::Version>,
+    position: usize,
+    change: &Change,
+) -> Result<(), AllocError>
+    requires { IsInOrder (versions items.old) }
+    ensures same { versions items.new ≡ versions items.old }
+    ensures room { OnOk result (IsApplied K.Version.item_of K.Version.stamp_of (says change.now) position (versions items.new) (next_versions items.new)) }
+{
+    items.next_clock = clock_version(alloc, store, position, change.clock())?;
+    items.next_catalogue = catalogue_version(store, position, change.catalogue())?;
+    let spare = items.rows.spare();
+    let rows = row_versions(store, position, change.rows(), spare)?;
+    let spare = items.lists.spare();
+    let lists = list_versions(alloc, store, position, change.lists(), spare)?;
+    items.rows.fit(rows)?;
+    items.lists.fit(lists)
+}

@@ -1,6 +1,0 @@
-use Rattle.serde_json.proofs.OnLiterals.{serde_json_on_literals}
-use Rattle.casa_wire.proofs.lines.push_flight.Goals as goal
-
-pub returns : goal.returns
-unfolding serde_json_on_literals
-returns c = rw (c.secs.ensures.value, c.truth_text.ensures, c.truth_text-2.ensures, c.as_bytes.ensures, c.name_or_null.ensures) at c.push_parts.ensures
