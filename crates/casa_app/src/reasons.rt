@@ -110,7 +110,8 @@ fn held(
 
 /// What each open regulation to which a flight is subject would offer it, in the order of their identifiers.
 fn offers(alloc: Global, lone: &Lone, key: Key, plan: &Plan) -> Result<Vec<Offer>, AllocError>
-    ensures { IfOk result (λ all. all.items ≡ offers (situation (state_after lone.now)) key plan.now) }
+    ensures { IfOk result (λ all. all.items
+        ≡ offers (situation (state_after lone.now)) key plan.now) }
 {
     let mut all = Vec::new(alloc);
     for regulation in lone.catalogue() {
@@ -128,7 +129,8 @@ fn offer_of(
     key: Key,
     plan: &Plan,
 ) -> Result<Option<Offer>, AllocError>
-    ensures { IfOk result (λ made. made ≡ offer (situation (state_after lone.now)) key plan.now regulation.now) }
+    ensures { IfOk result (λ made. made
+        ≡ offer (situation (state_after lone.now)) key plan.now regulation.now) }
 {
     match lone.list(&regulation.id) {
         Some(list) => offer(regulation, list, key, plan),

@@ -29,7 +29,8 @@ pub fn report<R: Read, W: Write>(
 ) -> Result<(), ProgramFault>
     ensures ends { ReportEnds reg.now day result (R.remaining reader.old) (R.remaining reader.new)
         (W.contents writer.old) (W.contents writer.new) }
-    ensures session { IfErr result (λ fault. (cause : SessionFault) → fault ≡ ProgramFault.Session cause →
+    ensures session { IfErr result (λ fault. (cause : SessionFault)
+        → fault ≡ ProgramFault.Session cause →
         W.contents writer.new ≡ W.contents writer.old) }
     ensures no_regulation { IfErr result (λ fault. fault ≡ ProgramFault.NoRegulation →
         W.contents writer.new ≡ W.contents writer.old) }

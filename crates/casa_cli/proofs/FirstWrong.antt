@@ -6,14 +6,14 @@ use Rattle.std.proofs.lemmas.Bool.Decides.{nat_tests}
 use Rattle.jiff_fmt.specs.Temporal.{DateParts}
 use Rattle.clap.specs.Words.{Row, fault_of, first_of, one_of, subcommand_of}
 use Rattle.casa_filing.specs.Text.{Text}
-use Rattle.casa_cli.specs.Words.{Request, WrongValue, run, report, load, summary, why, serve, wrong_reg, wrong_key, wrong_day, casa_app, request_of, named_request, serve_at, or_wrong, ◌>>=◌, number_of, day_in, day_of, named_in, step_of, turns_of, connections_of, checked_day}
+use Rattle.casa_cli.specs.Words.{Request, WrongValue, run, report, load, summary, why, serve, wrong_reg, wrong_key, wrong_day, whole_app, request_of, named_request, serve_at, or_wrong, ◌>>=◌, number_of, day_in, day_of, named_in, step_of, turns_of, connections_of, checked_day}
 use Rattle.casa_cli.specs.Checks.{AreRead, first_wrong, report_checks, report_request, load_request, summary_checks, summary_request, why_checks, why_request, serve_checks, serve_request, unless_wrong}
 use Rattle.casa_cli.proofs.Served.{serve_checked}
 
-pub nothing_asked : (words : List Text) → (fault_of casa_app words ≡ [] → ⊥) → request_of words ≡ None
-nothing_asked words h = go (fault_of casa_app words) h
+pub nothing_asked : (words : List Text) → (fault_of whole_app words ≡ [] → ⊥) → request_of words ≡ None
+nothing_asked words h = go (fault_of whole_app words) h
   where
-    go : {X : Type 0} (faults : List X) → (faults ≡ [] → ⊥) → cond (length faults == 0) (option_and_then named_request (subcommand_of casa_app words)) None ≡ None
+    go : {X : Type 0} (faults : List X) → (faults ≡ [] → ⊥) → cond (length faults == 0) (option_and_then named_request (subcommand_of whole_app words)) None ≡ None
     go [] h = absurd (h refl)
     go (x ∷ xs) h = let filled : (length (x ∷ xs) == 0) ≡ false = grind (arith, nat_tests) in rw filled refl
 

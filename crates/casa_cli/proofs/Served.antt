@@ -15,7 +15,7 @@ use Rattle.clap.specs.Words.{IsSignedIn, without_minus}
 use Rattle.clap.specs.declared.builder.action.ArgAction.TheVariants.{Set}
 use Rattle.clap.specs.declared.builder.value_parser.ValueParser.TheVariants.{Signed}
 use Rattle.clap.proofs.ValueTestLemmas.{accepts-Accepts}
-use Rattle.casa_cli.specs.Words.{casa_app}
+use Rattle.casa_cli.specs.Words.{whole_app}
 use Rattle.casa_cli.specs.Tasks.{AreChecked, IsNumber, IsStepped}
 use Rattle.casa_cli.proofs.Walks.{AreBeside, ArePassed, IsOneValued, level-passed, or_else-left, or_else-right, row-passed}
 
@@ -69,7 +69,7 @@ given_in_rows q rows passed given = go (find (λ r. bytes_eq r.id q.id) rows) re
 -- ---- the options of `serve`
 
 abbrev serve_shape : Shape
-serve_shape = unwrap_or (slice_get (built casa_app).subs 5) (new_shape [])
+serve_shape = unwrap_or (slice_get (built whole_app).subs 5) (new_shape [])
 
 abbrev rule_at : ℕ → Rule
 rule_at k = unwrap_or (slice_get serve_shape.rules k) (new_rule [])
@@ -148,7 +148,7 @@ served words e =
 -- ---- the options of `load`
 
 abbrev load_shape : Shape
-load_shape = unwrap_or (slice_get (built casa_app).subs 2) (new_shape [])
+load_shape = unwrap_or (slice_get (built whole_app).subs 2) (new_shape [])
 
 abbrev load_rule : ℕ → Rule
 load_rule k = unwrap_or (slice_get load_shape.rules k) (new_rule [])
@@ -195,31 +195,31 @@ module _ (label : Text) (own : Shape) (IsSo : List Row → Type 0)
       go false f rest = rest f
 
   -- where clap finds no fault and the words name this subcommand, so are the rows of its options
-  subcommand_shown : AreNamed (built casa_app).subs → (words : List Text) (name : Text) (rows : List Row) → fault_of casa_app words ≡ []
-      → subcommand_of casa_app words ≡ Some (name, rows) → bytes_eq name label ≡ true → IsSo rows
+  subcommand_shown : AreNamed (built whole_app).subs → (words : List Text) (name : Text) (rows : List Row) → fault_of whole_app words ≡ []
+      → subcommand_of whole_app words ≡ Some (name, rows) → bytes_eq name label ≡ true → IsSo rows
   subcommand_shown are_named words name rows clean e same =
-      go (stop_after (built casa_app).top.rules (names_of (built casa_app)) (argument_words casa_app words))
+      go (stop_after (built whole_app).top.rules (names_of (built whole_app)) (argument_words whole_app words))
       (or_else-left _ _ (or_else-right _ _ clean)) e
     where
-      at : (p : Text × List Text) (o : Option Shape) → find (λ s. answers_to p.0 (label_of s)) (built casa_app).subs ≡ o
+      at : (p : Text × List Text) (o : Option Shape) → find (λ s. answers_to p.0 (label_of s)) (built whole_app).subs ≡ o
           → option_map_or (λ s. level_fault s [] nothing_held p.1 false []) o [] ≡ []
           → option_map (λ s. rows_at s p.1) o ≡ Some (name, rows) → IsSo rows
       at p None is f g = absurd (cc)
       at p (Some s) is f g =
           let named : s.name ≡ name = ap (λ (o : Option (Text × List Row)). (unwrap_or o (name, rows)).0) g in
           let same_rows : rows_after s.rules [] p.1 ≡ rows = ap (λ (o : Option (Text × List Row)). (unwrap_or o (name, rows)).1) g in
-          let its : s ≡ own = shape_named (λ (t : Shape). answers_to p.0 (label_of t)) (built casa_app).subs s are_named is (subst (λ (t : Text). bytes_eq t label ≡ true) (sym named) same) in
+          let its : s ≡ own = shape_named (λ (t : Shape). answers_to p.0 (label_of t)) (built whole_app).subs s are_named is (subst (λ (t : Text). bytes_eq t label ≡ true) (sym named) same) in
           subst IsSo same_rows
           (subst (λ t. level_fault t [] nothing_held p.1 false [] ≡ [] → IsSo (rows_after t.rules [] p.1)) (sym its) (shown p.1) f)
 
-      go : (o : Option (Text × List Text)) → entered_fault (built casa_app) o ≡ [] → entered (built casa_app) o ≡ Some (name, rows)
+      go : (o : Option (Text × List Text)) → entered_fault (built whole_app) o ≡ [] → entered (built whole_app) o ≡ Some (name, rows)
           → IsSo rows
       go None f g = absurd (cc)
-      go (Some p) f g = at p (find (λ s. answers_to p.0 (label_of s)) (built casa_app).subs) refl f g
+      go (Some p) f g = at p (find (λ s. answers_to p.0 (label_of s)) (built whole_app).subs) refl f g
 
 -- the numbers of `serve` and of `load` are checked
-pub serve_checked : (words : List Text) (name : Text) (rows : List Row) → fault_of casa_app words ≡ []
-    → subcommand_of casa_app words ≡ Some (name, rows) → bytes_eq name (codes "serve") ≡ true → AreChecked rows
+pub serve_checked : (words : List Text) (name : Text) (rows : List Row) → fault_of whole_app words ≡ []
+    → subcommand_of whole_app words ≡ Some (name, rows) → bytes_eq name (codes "serve") ≡ true → AreChecked rows
 serve_checked =
     subcommand_shown (codes "serve") serve_shape AreChecked served
     (other, (other, (other, (other, (other, (λ e. refl, (other, tt)))))))
@@ -227,8 +227,8 @@ serve_checked =
     other : {A : Type 0} → false ≡ true → A
     other e = absurd (true≢false (sym e))
 
-pub load_checked : (words : List Text) (name : Text) (rows : List Row) → fault_of casa_app words ≡ []
-    → subcommand_of casa_app words ≡ Some (name, rows) → bytes_eq name (codes "load") ≡ true → IsStepped rows
+pub load_checked : (words : List Text) (name : Text) (rows : List Row) → fault_of whole_app words ≡ []
+    → subcommand_of whole_app words ≡ Some (name, rows) → bytes_eq name (codes "load") ≡ true → IsStepped rows
 load_checked =
     subcommand_shown (codes "load") load_shape IsStepped stepped
     (other, (other, (λ e. refl, (other, (other, (other, (other, tt)))))))

@@ -3,11 +3,11 @@ use Rattle.std.specs.Prelude.{◌≡◌, Bool, false, not, ◌&&◌, ◌==◌, L
 use Rattle.std.specs.Option.{option_map_or}
 use Rattle.clap.specs.Words.{Row, fault_of, first_of, subcommand_of}
 use Rattle.casa_filing.specs.Text.{Text}
-use Rattle.casa_cli.specs.Words.{Request, WrongValue, report, load, summary, why, serve, wrong_reg, wrong_key, wrong_day, casa_app, connections_of, day_in, day_of, named_in, number_of, step_of, turns_of}
+use Rattle.casa_cli.specs.Words.{Request, WrongValue, report, load, summary, why, serve, wrong_reg, wrong_key, wrong_day, whole_app, connections_of, day_in, day_of, named_in, number_of, step_of, turns_of}
 
 -- clap finds no fault in the words, and they are this subcommand with these options
 abbrev pub AreRead : List Text → Text → List Row → Type 0
-AreRead words name rows = (fault_of casa_app words ≡ []) × (subcommand_of casa_app words ≡ Some (name, rows))
+AreRead words name rows = (fault_of whole_app words ≡ []) × (subcommand_of whole_app words ≡ Some (name, rows))
 
 -- whether something is wrong, and the value that this is
 abbrev pub Check : Type 0

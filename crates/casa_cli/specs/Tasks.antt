@@ -5,7 +5,7 @@ use Rattle.clap.specs.Words.{IsSignedIn, Row, fault_of, one_of, without_minus, s
 use Rattle.clap.specs.declared.parser.matches.ArgMatches.{ArgMatches}
 use Rattle.jiff_fmt.specs.Temporal.{date_parts}
 use Rattle.casa_filing.specs.Text.{Text}
-use Rattle.casa_cli.specs.Words.{Request, WrongValue, run, report, load, summary, why, serve, wrong_reg, wrong_key, wrong_day, casa_app, request_of}
+use Rattle.casa_cli.specs.Words.{Request, WrongValue, run, report, load, summary, why, serve, wrong_reg, wrong_key, wrong_day, whole_app, request_of}
 use Rattle.casa_cli.specs.declared.tasks.Task.{Task}
 use Rattle.casa_cli.specs.declared.tasks.Task.TheVariants.{Run, Report, Load, Summary, Why, Serve}
 use Rattle.casa_cli.specs.declared.tasks.TaskFault.{TaskFault}
@@ -25,7 +25,7 @@ Asks words task = request_of words ≡ Some (Ok (request task))
 
 -- they are refused by this fault: by clap for what is wrong with them, or since it has no memory; or for a value
 abbrev pub AreRefused : List Text → TaskFault → Type 0
-AreRefused words (Words error) = HasKind (fault_of casa_app words) error
+AreRefused words (Words error) = HasKind (fault_of whole_app words) error
 AreRefused words BadReg = request_of words ≡ Some (Err wrong_reg)
 AreRefused words BadKey = request_of words ≡ Some (Err wrong_key)
 AreRefused words BadDay = request_of words ≡ Some (Err wrong_day)
@@ -45,8 +45,8 @@ IsNumber low high name rows = IfSome (one_of name rows) (λ text. (value : Text)
 
 -- clap finds no fault in the words, and has read them
 abbrev pub HasRead : List Text → ArgMatches → Type 0
-HasRead words matches = (fault_of casa_app words ≡ [])
-    × (subcommand_rows_of matches ≡ subcommand_of casa_app words)
+HasRead words matches = (fault_of whole_app words ≡ [])
+    × (subcommand_rows_of matches ≡ subcommand_of whole_app words)
     × (is_some (subcommand_rows_of matches) ≡ true)
 
 -- what clap has seen to of the option of `load` with a number

@@ -65,8 +65,8 @@ casa_alone =
 abbrev pub casa_of_lists : App
 casa_of_lists = with_subcommand (with_subcommand (with_subcommand casa_alone run_app.top) report_app.top) load_app.top
 
-abbrev pub casa_app : App
-casa_app = with_subcommand (with_subcommand (with_subcommand casa_of_lists summary_app.top) why_app.top) serve_app.top
+abbrev pub whole_app : App
+whole_app = with_subcommand (with_subcommand (with_subcommand casa_of_lists summary_app.top) why_app.top) serve_app.top
 
 -- what the words can ask for
 pub data Request : Type 0 where
@@ -189,4 +189,4 @@ named_request (name, rows) =
 -- what the words ask for, where clap finds no fault in them and they name a subcommand
 abbrev pub request_of : List Text → Option (Result Request WrongValue)
 request_of words =
-    if is_empty (fault_of casa_app words) then option_and_then named_request (subcommand_of casa_app words) else None
+    if is_empty (fault_of whole_app words) then option_and_then named_request (subcommand_of whole_app words) else None

@@ -4,12 +4,13 @@ ghost use Rattle.std.specs.Prelude.{◌≡◌, List, [], Ok, None, Some, codes};
 ghost use Rattle.clap.specs.Words.{Row, fault_of};
 ghost use Rattle.casa_filing.specs.Text.{Text};
 ghost use Rattle.casa_cli.specs.Checks.{AreRead, first_wrong, load_request, report_checks, report_request, serve_checks, serve_request, summary_checks, summary_request, unless_wrong, why_checks, why_request};
-ghost use Rattle.casa_cli.specs.Words.{casa_app, request_of, run};
+ghost use Rattle.casa_cli.specs.Words.{whole_app, request_of, run};
 
 /// Words in which clap finds a fault ask for nothing. Of words that it reads, the value that is wrong is that of the
 /// first check that holds, in the order of the subcommand's list; where none holds, they ask for what its options say.
 pub fn words_have_the_first_wrong_value()
-    ensures unread { (words : List Text) → (fault_of casa_app words ≡ [] → ⊥) → request_of words ≡ None }
+    ensures unread { (words : List Text) → (fault_of whole_app words ≡ [] → ⊥)
+        → request_of words ≡ None }
     ensures run { (words : List Text) (rows : List Row) → AreRead words (codes "run") rows →
         request_of words ≡ Some (Ok run) }
     ensures report { (words : List Text) (rows : List Row) → AreRead words (codes "report") rows →

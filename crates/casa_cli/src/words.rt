@@ -4,7 +4,7 @@ ghost use Rattle.clap.specs.declared.error.Error.{Error};
 ghost use Rattle.clap.specs.declared.builder.command.Command.TheViews.{out-Command as fields_of};
 ghost use Rattle.jiff_fmt.specs.Temporal.{date_parts};
 ghost use Rattle.casa_cli.specs.Tasks.{AreChecked, AreRefused, Asks, HasRead, IsNumber, IsOutcome, IsStepped};
-ghost use Rattle.casa_cli.specs.Words.{are_digits, casa_alone, casa_app, casa_of_lists, day_in, day_of, is_day_shaped, is_digit, load_app, load_of, named_in, needed, number_between, number_of, option_rule, report_app, report_of, run_app, serve_app, serve_at, serve_without_clock, summary_app, summary_of, why_app, why_of};
+ghost use Rattle.casa_cli.specs.Words.{are_digits, casa_alone, whole_app, casa_of_lists, day_in, day_of, is_day_shaped, is_digit, load_app, load_of, named_in, needed, number_between, number_of, option_rule, report_app, report_of, run_app, serve_app, serve_at, serve_without_clock, summary_app, summary_of, why_app, why_of};
 
 use crate::help;
 use crate::tasks::{Task, TaskFault};
@@ -48,7 +48,7 @@ pub fn task<'a>(alloc: Global, words: &'a [&'a str]) -> Result<Task, TaskFault>
 fn matches_in<'a>(alloc: Global, words: &'a [&'a str]) -> Result<ArgMatches<'a>, TaskFault>
     ensures ok { IfOk result (HasRead (map (λ word. word.now) words.entry.now)) }
     ensures err { IfErr result (λ fault. (error : Error) × (fault ≡ TaskFault.Words error)
-        × HasKind (fault_of casa_app (map (λ word. word.now) words.entry.now)) error) }
+        × HasKind (fault_of whole_app (map (λ word. word.now) words.entry.now)) error) }
 {
     let command = match casa_command(alloc) {
         Ok(command) => command,
@@ -135,7 +135,8 @@ fn port_in(values: &ArgMatches<'_>) -> u16
 
 /// The number after an option, where there is one.
 fn number_in(values: &ArgMatches<'_>, name: &str) -> Option<u32>
-    requires { (low high : ℕ) × (high < 2 ^ 32) × IsNumber low high name.now (rows_of (found_of values.now)) }
+    requires { (low high : ℕ) × (high < 2 ^ 32)
+        × IsNumber low high name.now (rows_of (found_of values.now)) }
     ensures { result ≡ number_of name.now (rows_of (found_of values.now)) }
 {
     values.get_one(name)
@@ -163,7 +164,8 @@ fn day_in(values: &ArgMatches<'_>) -> Option<Date>
 
 /// What stands after an option.
 fn value_of<'a>(values: &ArgMatches<'a>, name: &str) -> Option<&'a str>
-    ensures { option_map (λ text. text.now) result ≡ first_of name.now (rows_of (found_of values.now)) }
+    ensures { option_map (λ text. text.now) result
+        ≡ first_of name.now (rows_of (found_of values.now)) }
 {
     values.get_str(name)
 }
@@ -207,7 +209,7 @@ fn is_digit(c: u8) -> bool
 
 /// `casa` with its subcommands.
 fn casa_command<'a>(alloc: Global) -> Result<Command<'a>, AllocError>
-    ensures app { IfOk result (λ command. app_of command ≡ casa_app) }
+    ensures app { IfOk result (λ command. app_of command ≡ whole_app) }
     ensures local { IfOk result (λ command. (fields_of command).has_globals ≡ false) }
 {
     casa_of_lists(alloc)?

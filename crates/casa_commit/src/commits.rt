@@ -19,7 +19,8 @@ pub fn commit<W: World>(
     prepared: Prepared<W>,
 ) -> Result<Receipt<W::Call, W::Reply>, (CommitFault, Prepared<W>)>
     requires { W.is_of (view_of prepared) (world_of room.old) }
-    ensures foreign { (fault_of result ≡ Some CommitFault.ForeignPass) ↔ ¬ (Admits room.old pass.old) }
+    ensures foreign { (fault_of result ≡ Some CommitFault.ForeignPass)
+        ↔ ¬ (Admits room.old pass.old) }
     ensures stale { (fault_of result ≡ Some CommitFault.Stale) ↔
         (Admits room.old pass.old × ¬ (W.is_current (world_of room.old) (view_of prepared))) }
     ensures no_memory { fault_of result ≡ Some CommitFault.NoMemory →
@@ -28,7 +29,8 @@ pub fn commit<W: World>(
     ensures reply { OnOk result
         (reply_of prepared ≡ W.reply (W.state (world_of room.old)) (call_of prepared)) }
     ensures accepted { IfOk result (λ receipt.
-        Accepts room.old pass.old (call_of prepared) (change_of prepared) receipt room.new pass.new) }
+        Accepts room.old pass.old (call_of prepared)
+        (change_of prepared) receipt room.new pass.new) }
     ensures refused { OnErr result (AreUnchanged room.old pass.old room.new pass.new) }
     ensures back { IfErr result (λ e. e.1 ≡ prepared) }
 {

@@ -140,7 +140,8 @@ impl<W: World> Room<W> {
         ensures foreign { (result ≡ Err CallFault.ForeignPass) ↔ ¬ (Admits self.old pass.old) }
         ensures no_memory { result ≡ Err CallFault.NoMemory → Admits self.old pass.old }
         ensures accepted { IfOk result (λ receipt.
-            (change : W.Change) × Accepts self.old pass.old call.now change receipt self.new pass.new) }
+            (change : W.Change) × Accepts self.old pass.old call.now change receipt self.new
+            pass.new) }
         ensures refused { OnErr result (AreUnchanged self.old pass.old self.new pass.new) }
     {
         if !self.admits(pass) {
@@ -226,7 +227,8 @@ impl<W: World> Room<W> {
     ) -> Result<EntryWithReceipt<W::Call, W::Reply>, AllocError>
         ensures pass { SamePass pass.old pass.new }
         ensures room { OnOk result (HasRoomForReceipt pass.new) }
-        ensures entry { IfOk result (λ r. r.0 ≡ entry (desk_of pass.old) answered.now.call answered.now.reply) }
+        ensures entry { IfOk result (λ r. r.0
+            ≡ entry (desk_of pass.old) answered.now.call answered.now.reply) }
         ensures receipt { IfOk result (λ r. r.1 ≡ receipt (next_position self.now)
             (entry (desk_of pass.old) answered.now.call answered.now.reply)) }
     {
@@ -277,7 +279,8 @@ impl<W: World> Room<W> {
         ensures number { room_number self.new ≡ room_number self.old }
         ensures desks { self.new.desks ≡ self.old.desks }
         ensures history_room { OnOk result (HasRoomForEntry (history_of self.new)) }
-        ensures world_room { OnOk result (W.has_room (world_of self.new) (next_position self.old) change.now) }
+        ensures world_room { OnOk result (W.has_room (world_of self.new)
+            (next_position self.old) change.now) }
         ensures given { IfOk result (λ r. r ≡ receipt (next_position self.old) answered.now) }
     {
         self.history.reserve()?;

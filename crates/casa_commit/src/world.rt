@@ -101,11 +101,13 @@ pub trait World {
     ghost good_opening: { good opening };
 
     /// Each call keeps the state in order.
-    ghost good_after: { (position : ℕ) (s : state_type) (c : Self.Call) → good s → good (after position s c) };
+    ghost good_after: { (position : ℕ) (s : state_type) (c : Self.Call) → good s
+        → good (after position s c) };
 
     /// To apply what a call writes gives the state after the call.
     ghost applied_after: { (w : Self) (position : ℕ) (c : Self.Call) (d : Self.Change) (w' : Self) →
-        good (state w) → changes (state w) c d → applied w position d w' → state w' ≡ after position (state w) c };
+        good (state w) → changes (state w) c d → applied w position d w'
+        → state w' ≡ after position (state w) c };
 
     /// A change is applied to a world as to one that differs in spare memory.
     ghost alike_applied: { (w w' : Self) (position : ℕ) (d : Self.Change) (w'' : Self) →

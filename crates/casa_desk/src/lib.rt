@@ -23,7 +23,8 @@ pub trait Desk {
     /// The receipt of the call. After a fault the desk has answered nothing more; `ForeignPass` only comes of a
     /// desk that may be foreign.
     fn answer(&mut self, alloc: Global, call: &Call) -> Result<Receipt<Call, Reply>, CallFault>
-        ensures ok { IfOk result (λ receipt. answered self.new ≡ answered self.old ++ receipt ∷ []) }
+        ensures ok { IfOk result (λ receipt. answered self.new
+            ≡ answered self.old ++ receipt ∷ []) }
         ensures called { IfOk result (λ receipt. receipt.entry.call ≡ call.now) }
         ensures err { OnErr result (answered self.new ≡ answered self.old) }
         ensures foreign { result ≡ Err CallFault.ForeignPass → may_be_foreign };

@@ -73,8 +73,10 @@ impl<W: World, L: Ledger> CountedRoom<W, L> {
     /// Opens the next desk and gives its pass; `TooManyDesks` where 1,024 are open, else `NoMemory` where there is no
     /// memory for it.
     pub(crate) fn open_desk(&mut self) -> Result<CountedPass<W, L>, DeskFault>
-        ensures full { (result ≡ Err DeskFault.TooManyDesks) ↔ (open_desks self.old.room ≡ most_desks) }
-        ensures number { IfOk result (λ desk. number_of (pass_of desk) ≡ room_number self.old.room) }
+        ensures full { (result ≡ Err DeskFault.TooManyDesks)
+            ↔ (open_desks self.old.room ≡ most_desks) }
+        ensures number { IfOk result (λ desk. number_of (pass_of desk)
+            ≡ room_number self.old.room) }
         ensures desk { IfOk result (λ desk. desk_of (pass_of desk) ≡ open_desks self.old.room) }
         ensures empty { IfOk result (λ desk. receipts (pass_of desk) ≡ []) }
         ensures opened { OnOk result (open_desks self.new.room ≡ open_desks self.old.room + 1) }
@@ -94,7 +96,8 @@ impl<W: World, L: Ledger> CountedRoom<W, L> {
         prepared: Prepared<W>,
     ) -> Result<Receipt<W::Call, W::Reply>, (CommitFault, Prepared<W>)>
         requires { W.is_of (view_of prepared) (world_of self.old.room) }
-        ensures stands { IfOk result (λ r. IsReceiptOf W.World (pass_of desk.old) (call_of prepared) r (pass_of desk.new)) }
+        ensures stands { IfOk result (λ r. IsReceiptOf W.World (pass_of desk.old)
+            (call_of prepared) r (pass_of desk.new)) }
         ensures same_pass { OnErr result (SamePass (pass_of desk.old) (pass_of desk.new)) }
     {
         let CountedRoom {
@@ -116,7 +119,8 @@ impl<W: World, L: Ledger> CountedRoom<W, L> {
         call: &W::Call,
         gate: &G,
     ) -> Result<Receipt<W::Call, W::Reply>, CallFault>
-        ensures stands { IfOk result (λ r. IsReceiptOf W.World (pass_of desk.old) call.now r (pass_of desk.new)) }
+        ensures stands { IfOk result (λ r. IsReceiptOf W.World (pass_of desk.old) call.now r
+            (pass_of desk.new)) }
         ensures same_pass { OnErr result (SamePass (pass_of desk.old) (pass_of desk.new)) }
     {
         let CountedRoom {
@@ -136,7 +140,8 @@ impl<K: Store, L: Ledger> CountedRoom<Board<K>, L> {
     /// `AllocError` where there is no memory for that.
     pub(crate) fn lists(&self, alloc: Global) -> Result<Vec<SharedList>, AllocError>
         ensures sequential { IsSequential (entries_of self.now.room) }
-        ensures lists { IfOk result (λ lists. lists.items ≡ lists_in (state_after (entries_of self.now.room))) }
+        ensures lists { IfOk result (λ lists. lists.items
+            ≡ lists_in (state_after (entries_of self.now.room))) }
     {
         shared_lists(alloc, &self.room)
     }
@@ -153,9 +158,12 @@ impl<W: Shareable + Drop, L: Ledger> CountedRoom<W, L> {
         ensures desks { result.1 ≡ open_desks self.room }
         ensures opened { length passes.items ≤ result.1 }
         ensures legal { IsLegal W.after W.reply W.opening (entries result.0) }
-        ensures settled { IfOk result.2 (λ s. (d : ℕ) → IsSettled d (entries result.0) (passes_in passes.items)) }
-        ensures counts { IfOk result.2 (λ s. (s.desks ≡ length passes.items) × (s.entries ≡ length (entries result.0))) }
-        ensures torn { IfErr result.2 (λ t. ¬ (IsSettled t.0 (entries result.0) (passes_in passes.items))) }
+        ensures settled { IfOk result.2 (λ s. (d : ℕ)
+            → IsSettled d (entries result.0) (passes_in passes.items)) }
+        ensures counts { IfOk result.2 (λ s. (s.desks ≡ length passes.items)
+            × (s.entries ≡ length (entries result.0))) }
+        ensures torn { IfErr result.2 (λ t. ¬
+            (IsSettled t.0 (entries result.0) (passes_in passes.items))) }
         ensures least { IfErr result.2 (λ t. (d : ℕ) → d < t.0 →
             IsSettled d (entries result.0) (passes_in passes.items)) }
         ensures all_calls { length passes.items ≡ result.1 →

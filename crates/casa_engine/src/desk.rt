@@ -50,8 +50,10 @@ where
 {
     /// Answers a call and gives its receipt, as `call` of the room does.
     pub fn answer(&mut self, call: &W::Call) -> Result<Receipt<W::Call, W::Reply>, CallFault>
-        ensures stands { IfOk result (λ r. IsReceiptOf W.World (pass_of self.old.pass) call.now r (pass_of self.new.pass)) }
-        ensures same_pass { OnErr result (SamePass (pass_of self.old.pass) (pass_of self.new.pass)) }
+        ensures stands { IfOk result (λ r. IsReceiptOf W.World (pass_of self.old.pass) call.now r
+            (pass_of self.new.pass)) }
+        ensures same_pass { OnErr result (SamePass (pass_of self.old.pass)
+            (pass_of self.new.pass)) }
     {
         self.room.call(self.rt, &mut self.pass, call)
     }

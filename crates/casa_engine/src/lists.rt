@@ -21,7 +21,8 @@ pub(crate) fn shared_lists<K: Store>(
     room: &Room<Board<K>>,
 ) -> Result<Vec<SharedList>, AllocError>
     ensures sequential { IsSequential (entries_of room.now) }
-    ensures lists { IfOk result (λ lists. lists.items ≡ lists_in (state_after (entries_of room.now))) }
+    ensures lists { IfOk result (λ lists. lists.items
+        ≡ lists_in (state_after (entries_of room.now))) }
 {
     let board = board_of(room);
     let regulations = board.catalogue();
@@ -34,7 +35,8 @@ pub(crate) fn shared_lists<K: Store>(
 
 /// Adds a list, if there is one, which is shared. `AllocError` where there is no memory for that.
 pub fn push_shared(lists: &mut Vec<SharedList>, list: Option<&SharedList>) -> Result<(), AllocError>
-    ensures { OnOk result (lists.new.items ≡ lists.old.items ++ cons_option (option_copied list.entry) []) }
+    ensures { OnOk result (lists.new.items
+        ≡ lists.old.items ++ cons_option (option_copied list.entry) []) }
 {
     if let Some(list) = list {
         lists.push(list.share()?)?;

@@ -111,7 +111,8 @@ where
         desk: &mut CountedPass<W, L>,
         call: &W::Call,
     ) -> Result<Receipt<W::Call, W::Reply>, CallFault>
-        ensures stands { IfOk result (λ r. IsReceiptOf W.World (pass_of desk.old) call.now r (pass_of desk.new)) }
+        ensures stands { IfOk result (λ r. IsReceiptOf W.World (pass_of desk.old) call.now r
+            (pass_of desk.new)) }
         ensures same_pass { OnErr result (SamePass (pass_of desk.old) (pass_of desk.new)) }
     {
         for attempt in 0..TRIES {
@@ -133,7 +134,8 @@ where
         call: &W::Call,
         attempt: u32,
     ) -> Result<Receipt<W::Call, W::Reply>, CommitFault>
-        ensures stands { IfOk result (λ r. IsReceiptOf W.World (pass_of desk.old) call.now r (pass_of desk.new)) }
+        ensures stands { IfOk result (λ r. IsReceiptOf W.World (pass_of desk.old) call.now r
+            (pass_of desk.new)) }
         ensures same_pass { OnErr result (SamePass (pass_of desk.old) (pass_of desk.new)) }
     {
         let Ok(copy) = W::copy_call(call) else {
@@ -159,7 +161,8 @@ where
         desk: &mut CountedPass<W, L>,
         call: &W::Call,
     ) -> Result<Receipt<W::Call, W::Reply>, CallFault>
-        ensures stands { IfOk result (λ r. IsReceiptOf W.World (pass_of desk.old) call.now r (pass_of desk.new)) }
+        ensures stands { IfOk result (λ r. IsReceiptOf W.World (pass_of desk.old) call.now r
+            (pass_of desk.new)) }
         ensures same_pass { OnErr result (SamePass (pass_of desk.old) (pass_of desk.new)) }
     {
         self.held(rt).locked(self.alloc, desk, call, &Direct)
@@ -175,9 +178,12 @@ impl<W: Shareable + Drop, L: Ledger, G: Drop> SharedRoom<W, L, G> {
     ) -> (History<W::Call, W::Reply>, u32, Result<Settled, Torn>)
         ensures opened { length passes.items ≤ result.1 }
         ensures legal { IsLegal W.after W.reply W.opening (entries result.0) }
-        ensures settled { IfOk result.2 (λ s. (d : ℕ) → IsSettled d (entries result.0) (passes_in passes.items)) }
-        ensures counts { IfOk result.2 (λ s. (s.desks ≡ length passes.items) × (s.entries ≡ length (entries result.0))) }
-        ensures torn { IfErr result.2 (λ t. ¬ (IsSettled t.0 (entries result.0) (passes_in passes.items))) }
+        ensures settled { IfOk result.2 (λ s. (d : ℕ)
+            → IsSettled d (entries result.0) (passes_in passes.items)) }
+        ensures counts { IfOk result.2 (λ s. (s.desks ≡ length passes.items)
+            × (s.entries ≡ length (entries result.0))) }
+        ensures torn { IfErr result.2 (λ t. ¬
+            (IsSettled t.0 (entries result.0) (passes_in passes.items))) }
         ensures least { IfErr result.2 (λ t. (d : ℕ) → d < t.0 →
             IsSettled d (entries result.0) (passes_in passes.items)) }
         ensures all_calls { length passes.items ≡ result.1 →

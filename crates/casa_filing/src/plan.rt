@@ -145,7 +145,13 @@ impl Plan {
         sts: Sts,
     ) -> Result<Plan, PlanFault>
         ensures { MatchOption (plan_fault key.now eobt taxi via.now)
-            ((result ≡ Ok (record { key = key.now; eobt = eobt; taxi = taxi; via = via.now; sts = sts }))
+            ((result ≡ Ok (record {
+              key = key.now;
+              eobt = eobt;
+              taxi = taxi;
+              via = via.now;
+              sts = sts;
+            }))
             ⊎ (result ≡ Err PlanFault.NoMemory))
             (λ fault. result ≡ Err fault) }
     {
@@ -167,7 +173,13 @@ impl Plan {
         sts: Sts,
     ) -> Result<Plan, PlanFault>
         ensures { MatchOption (plan_fault key.now eobt taxi via.items)
-            ((result ≡ Ok (record { key = key.now; eobt = eobt; taxi = taxi; via = via.items; sts = sts }))
+            ((result ≡ Ok (record {
+              key = key.now;
+              eobt = eobt;
+              taxi = taxi;
+              via = via.items;
+              sts = sts;
+            }))
             ⊎ (result ≡ Err PlanFault.NoMemory))
             (λ fault. result ≡ Err fault) }
     {

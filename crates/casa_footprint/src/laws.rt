@@ -33,20 +33,26 @@ pub fn equal_stamps_show_equal_items()
     ensures item { (history later : List (Entry Call Reply)) (i : ItemName) →
         stamp history i ≡ stamp (history ++ later) i →
         contents (state_after history) i ≡ contents (state_after (history ++ later)) i }
-    ensures view { (history later : List (Entry Call Reply)) (view : View) → IsUnmoved view history →
-        IsUnmoved view (history ++ later) → AgreeOn view.has (state_after history) (state_after (history ++ later)) }
+    ensures view { (history later : List (Entry Call Reply)) (view : View)
+        → IsUnmoved view history →
+        IsUnmoved view (history ++ later)
+        → AgreeOn view.has (state_after history) (state_after (history ++ later)) }
     ensures absent { (history later : List (Entry Call Reply)) (id : Text) →
         stamp history the_catalogue ≡ stamp (history ++ later) the_catalogue →
-        list_of (state_after history) id ≡ None → list_of (state_after (history ++ later)) id ≡ None }
+        list_of (state_after history) id ≡ None
+        → list_of (state_after (history ++ later)) id ≡ None }
 {}
 
 /// An item has another stamp after more entries exactly where one of these wrote it, but for an absent row that is
 /// absent again.
 pub fn stamps_change_where_written()
-    ensures unwritten { (history later : List (Entry Call Reply)) (i : ItemName) → ¬ (IsWritten history later i) →
+    ensures unwritten { (history later : List (Entry Call Reply)) (i : ItemName)
+        → ¬ (IsWritten history later i) →
         stamp (history ++ later) i ≡ stamp history i }
-    ensures written { (history later : List (Entry Call Reply)) (i : ItemName) → IsWritten history later i →
+    ensures written { (history later : List (Entry Call Reply)) (i : ItemName)
+        → IsWritten history later i →
         ¬ (IsAbsentStill history later i) → stamp (history ++ later) i ≢ stamp history i }
-    ensures absent { (history later : List (Entry Call Reply)) (i : ItemName) → IsAbsentStill history later i →
+    ensures absent { (history later : List (Entry Call Reply)) (i : ItemName)
+        → IsAbsentStill history later i →
         stamp (history ++ later) i ≡ stamp history i }
 {}

@@ -33,9 +33,12 @@ pub fn settle<C: PartialEq, R: PartialEq, P: Holds<C, R>>(
 ) -> Result<Settled, Torn>
     requires calls { (x y : C) → C.eq x y ≡ true ↔ x ≡ y }
     requires replies { (x y : R) → R.eq x y ≡ true ↔ x ≡ y }
-    ensures settled { IfOk result (λ s. (d : ℕ) → IsSettled d (entries history.now) (map P.held passes.now)) }
-    ensures counts { IfOk result (λ s. (s.desks ≡ length passes.now) × (s.entries ≡ length (entries history.now))) }
-    ensures torn { IfErr result (λ t. ¬ (IsSettled t.0 (entries history.now) (map P.held passes.now))) }
+    ensures settled { IfOk result (λ s. (d : ℕ)
+        → IsSettled d (entries history.now) (map P.held passes.now)) }
+    ensures counts { IfOk result (λ s. (s.desks ≡ length passes.now)
+        × (s.entries ≡ length (entries history.now))) }
+    ensures torn { IfErr result (λ t. ¬
+        (IsSettled t.0 (entries history.now) (map P.held passes.now))) }
     ensures least { IfErr result (λ t. (d : ℕ) → d < t.0 →
         IsSettled d (entries history.now) (map P.held passes.now)) }
 {
@@ -56,9 +59,11 @@ fn torn_pass<C: PartialEq, R: PartialEq, P: Holds<C, R>>(
 ) -> Option<u32>
     requires calls { (x y : C) → C.eq x y ≡ true ↔ x ≡ y }
     requires replies { (x y : R) → R.eq x y ≡ true ↔ x ≡ y }
-    ensures torn { IfSome result (λ d. ¬ (IsSettled d (entries history.now) (map P.held passes.now))) }
+    ensures torn { IfSome result (λ d. ¬
+        (IsSettled d (entries history.now) (map P.held passes.now))) }
     ensures others { All (λ (p : Pass C R). Precedes (desk_of p) result →
-        IsSettled (desk_of p) (entries history.now) (map P.held passes.now)) (map P.held passes.now) }
+        IsSettled (desk_of p) (entries history.now) (map P.held passes.now))
+        (map P.held passes.now) }
 {
     let mut torn = None;
     for holder in passes {
@@ -73,7 +78,8 @@ fn torn_pass<C: PartialEq, R: PartialEq, P: Holds<C, R>>(
 /// The least desk that has an entry and no pass.
 #[tactic(auto, using(crate::proofs::Settling::torn_without_pass))]
 fn torn_entry<C, R, P: Holds<C, R>>(history: &History<C, R>, passes: &[P]) -> Option<u32>
-    ensures torn { IfSome result (λ d. ¬ (IsSettled d (entries history.now) (map P.held passes.now))) }
+    ensures torn { IfSome result (λ d. ¬
+        (IsSettled d (entries history.now) (map P.held passes.now))) }
     ensures others { All (λ (e : Entry C R). Precedes e.desk result →
         passes_of e.desk (map P.held passes.now) ≢ []) (entries history.now) }
 {
@@ -118,7 +124,8 @@ fn is_settled<C: PartialEq, R: PartialEq, P: Holds<C, R>>(
     requires calls { (x y : C) → C.eq x y ≡ true ↔ x ≡ y }
     requires replies { (x y : R) → R.eq x y ≡ true ↔ x ≡ y }
     requires among { Contains (map P.held passes.now) pass.now }
-    ensures { IsTrue result ↔ IsSettled (desk_of pass.now) (entries history.now) (map P.held passes.now) }
+    ensures { IsTrue result ↔ IsSettled (desk_of pass.now) (entries history.now)
+        (map P.held passes.now) }
 {
     count_passes(passes, pass.desk()) == 1 && are_receipts(history, pass)
 }
@@ -153,7 +160,8 @@ fn count_passes<C, R, P: Holds<C, R>>(passes: &[P], desk: u32) -> usize
 fn are_receipts<C: PartialEq, R: PartialEq>(history: &History<C, R>, pass: &Pass<C, R>) -> bool
     requires calls { (x y : C) → C.eq x y ≡ true ↔ x ≡ y }
     requires replies { (x y : R) → R.eq x y ≡ true ↔ x ≡ y }
-    ensures { IsTrue result ↔ (receipts pass.now ≡ receipts_of (desk_of pass.now) (entries history.now)) }
+    ensures { IsTrue result ↔ (receipts pass.now
+        ≡ receipts_of (desk_of pass.now) (entries history.now)) }
 {
     let desk = pass.desk();
     let mut rest = pass.receipts();

@@ -182,9 +182,11 @@ fn count_calculated(rows: &[ListRow], span: &Span) -> usize
 /// The steps, with what is behind the last, have each flight of a list once as planned, and once as calculated, where no
 /// time over is before the start; and they have each slot once.
 pub fn steps_have_each_once()
-    ensures planned { (ps : List Period) (rows : List ListRow) (minutes : ℕ) → All (λ row. start_of ps ≤ row.eto) rows →
+    ensures planned { (ps : List Period) (rows : List ListRow) (minutes : ℕ)
+        → All (λ row. start_of ps ≤ row.eto) rows →
         sum_by (λ (s : Step). s.planned) (steps ps rows minutes) ≡ length rows }
-    ensures calculated { (ps : List Period) (rows : List ListRow) (minutes : ℕ) → All (λ row. start_of ps ≤ row.cto) rows →
+    ensures calculated { (ps : List Period) (rows : List ListRow) (minutes : ℕ)
+        → All (λ row. start_of ps ≤ row.cto) rows →
         sum_by (λ (s : Step). s.calculated) (steps ps rows minutes) ≡ length rows }
     ensures slots { (ps : List Period) (rows : List ListRow) (minutes : ℕ) → IsProfile ps →
         sum_by (λ (s : Step). s.slots) (steps ps rows minutes) ≡ length (slots ps) }

@@ -83,7 +83,8 @@ impl Cost {
         ensures forced { self.new.forced ≡ self.old.forced + count is_forced list.now.rows }
         ensures over { self.new.over ≡ self.old.over + count is_over list.now.rows }
         ensures delay { self.new.delay ≡ self.old.delay }
-        ensures longest { self.new.longest ≡ max self.old.longest (greatest (governed_delays list.now.rows)) }
+        ensures longest { self.new.longest ≡ max self.old.longest
+            (greatest (governed_delays list.now.rows)) }
     {
         let rows = list.rows.as_slice();
         self.slots += list.slots as u128;

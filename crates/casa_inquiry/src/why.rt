@@ -80,7 +80,8 @@ pub fn offer(
 /// the list.
 fn time_anew(list: &SlotList, comp: &Comp) -> Result<Moment, AllocError>
     ensures { IfOk result (λ time. time ≡
-        cto_as (with_competitor list.now comp.now.key comp.now.eto) comp.now.key (Stance.Competing comp.now.eto)) }
+        cto_as (with_competitor list.now comp.now.key comp.now.eto) comp.now.key
+        (Stance.Competing comp.now.eto)) }
 {
     let mut rest = list.try_clone()?;
     // What stands beside the grid: the flights are in the order of their keys.

@@ -96,7 +96,8 @@ impl Catalogue {
     /// These regulations with this one, in place of the one with its identifier if there is one. `AllocError` where there
     /// is no memory for the catalogue of them.
     pub fn with(&self, alloc: Global, regulation: Regulation) -> Result<Catalogue, AllocError>
-        ensures { IfOk result (λ catalogue. by_id catalogue ≡ put (by_id self.now) regulation.id regulation) }
+        ensures { IfOk result (λ catalogue. by_id catalogue
+            ≡ put (by_id self.now) regulation.id regulation) }
     {
         let regulations = all_with(alloc, self.as_slice(), regulation)?;
         Catalogue::of(alloc, regulations)
@@ -196,7 +197,8 @@ fn places_of(
     alloc: Global,
     regulations: &[Regulation],
 ) -> Result<BTreeMap<Loc, Vec<Regulation>>, AllocError>
-    ensures { IfOk result (λ places. HasPlaces regulations.now (at_place (λ v. v.items) places.entries)) }
+    ensures { IfOk result (λ places. HasPlaces regulations.now
+        (at_place (λ v. v.items) places.entries)) }
 {
     let mut places = BTreeMap::new(alloc);
     for regulation in regulations {
@@ -226,7 +228,8 @@ fn with_one(
     there: Option<Vec<Regulation>>,
     regulation: &Regulation,
 ) -> Result<Vec<Regulation>, AllocError>
-    ensures { IfOk result (λ new. new.items ≡ option_map_or (λ v. v.items) there [] ++ regulation.now ∷ []) }
+    ensures { IfOk result (λ new. new.items
+        ≡ option_map_or (λ v. v.items) there [] ++ regulation.now ∷ []) }
 {
     let mut there = match there {
         Some(there) => there,
@@ -243,7 +246,8 @@ fn noted_along(
     plan: &Plan,
 ) -> Result<Crossings, AllocError>
     ensures { IfOk result (λ found.
-        HasNoted (crossed plan.now (along (at_place (λ v. v.items) places.now.entries) plan.now.via)) [] found) }
+        HasNoted (crossed plan.now
+        (along (at_place (λ v. v.items) places.now.entries) plan.now.via)) [] found) }
 {
     let mut found = Few::new(alloc);
     for crossing in plan.via() {
@@ -259,7 +263,8 @@ fn note_at(
     plan: &Plan,
     loc: &Loc,
 ) -> Result<(), AllocError>
-    ensures { OnOk result (HasNoted (crossed plan.now (at_place (λ v. v.items) places.now.entries loc.now))
+    ensures { OnOk result (HasNoted
+        (crossed plan.now (at_place (λ v. v.items) places.now.entries loc.now))
         found.old found.new) }
 {
     match places.get(loc) {

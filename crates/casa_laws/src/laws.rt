@@ -50,7 +50,8 @@ ghost use Rattle.casa_flight.specs.declared.reply.Message.{Message};
 /// First planned, first served has one answer: `assignment` is right, and nothing else is.
 pub fn assignment_is_right()
     ensures right { (o : Occupancy) (cs : List Comp) → IsRight o (assignment o cs) }
-    ensures whose { (o : Occupancy) (cs : List Comp) → map (λ (a : Assigned). a.comp) (assignment o cs) ≡ cs }
+    ensures whose { (o : Occupancy) (cs : List Comp)
+        → map (λ (a : Assigned). a.comp) (assignment o cs) ≡ cs }
     ensures only { (o : Occupancy) (all : List Assigned) → IsRight o all →
         all ≡ assignment o (map (λ (a : Assigned). a.comp) all) }
 {}
@@ -63,7 +64,8 @@ pub fn later_competitors_change_nothing()
 
 /// Along the competitors of a list, in their order, places rise; behind one that is over all are over.
 pub fn places_rise()
-    ensures { (l : Listing) (before : List Assigned) (a : Assigned) (between : List Assigned) (b : Assigned)
+    ensures { (l : Listing) (before : List Assigned) (a : Assigned) (between : List Assigned)
+        (b : Assigned)
         (after : List Assigned) →
         places l ≡ before ++ a ∷ between ++ b ∷ after → Precedes a.place b.place }
 {}
@@ -82,17 +84,21 @@ pub fn competitors_are_in_order()
 /// The flights that enter when a regulation is opened or closed are those whose rows pass the test and whose plans are
 /// subject to the regulation. Each enters once, at its time over there: the earlier first and, among equal times, by key.
 pub fn entering_flights_are_in_order()
-    ensures who { (test : Row → Bool) (r : Regulation) (rows : List (Text × Row)) (c : Comp) → AreInOrder rows →
+    ensures who { (test : Row → Bool) (r : Regulation) (rows : List (Text × Row)) (c : Comp)
+        → AreInOrder rows →
         Contains (flights_over test r rows) c ↔
-        (row : Row) × (at_name rows c.key ≡ Some row) × (test row ≡ true) × (subject row.plan r ≡ Some c.eto) }
-    ensures order { (test : Row → Bool) (r : Regulation) (rows : List (Text × Row)) → AreInOrder rows →
+        (row : Row) × (at_name rows c.key ≡ Some row) × (test row ≡ true)
+        × (subject row.plan r ≡ Some c.eto) }
+    ensures order { (test : Row → Bool) (r : Regulation) (rows : List (Text × Row))
+        → AreInOrder rows →
         AllPairs (λ (a b : Comp). is_before a b ≡ true) (flights_over test r rows) }
 {}
 
 /// The rows of a list are those of its flights, each once, by calculated time over and, among equal times, by key.
 pub fn rows_are_in_order()
     ensures who { (m : State) (l : Listing) (row : ListRow) → AreInOrder l.flights →
-        Contains (list_rows m l) row ↔ (option_map (row_in m l row.key) (stance_of l row.key) ≡ Some row) }
+        Contains (list_rows m l) row
+        ↔ (option_map (row_in m l row.key) (stance_of l row.key) ≡ Some row) }
     ensures order { (m : State) (l : Listing) → AreInOrder l.flights →
         AllPairs (λ (a b : ListRow). is_row_before a b ≡ true) (list_rows m l) }
 {}
@@ -100,7 +106,8 @@ pub fn rows_are_in_order()
 /// A written or removed row changes the entry of its own flight in each list, and nothing else there. A flight
 /// stands in a list as its row says.
 pub fn written_row_changes_its_entries()
-    ensures puts { (m : State) (key id : Text) (row : Row) (measure : Measure) (l : Listing) (s : Stance) →
+    ensures puts { (m : State) (key id : Text) (row : Row) (measure : Measure) (l : Listing)
+        (s : Stance) →
         AreInOrder m.rows → measure_of m id ≡ Some measure → list_of m id ≡ Some l →
         stance_in id measure row ≡ Some s →
         list_of (with_row m key row) id ≡ Some (record l { flights = put l.flights key s }) }
@@ -114,7 +121,8 @@ pub fn written_row_changes_its_entries()
         list_of (with_row m key row) id ≡ Some l }
     ensures cancelled { (m : State) (key id : Text) (measure : Measure) (l : Listing) →
         AreInOrder m.rows → measure_of m id ≡ Some measure → list_of m id ≡ Some l →
-        list_of (record m { rows = without m.rows key }) id ≡ Some (record l { flights = without l.flights key }) }
+        list_of (record m { rows = without m.rows key }) id
+        ≡ Some (record l { flights = without l.flights key }) }
     ensures found { (m : State) (key id : Text) (row : Row) (measure : Measure) (l : Listing) →
         AreInOrder m.rows → measure_of m id ≡ Some measure → list_of m id ≡ Some l →
         row_of m key ≡ Some row → stance_of l key ≡ stance_in id measure row }
@@ -131,8 +139,10 @@ pub fn delay_is_of_the_place()
         measure_of m id ≡ Some measure → subject row.plan (regulation id measure) ≡ Some eto →
         let place = place_of (listing m.rows id measure) key in
         delay_of m key row ≡
-        unwrap_or row.issued (cto (slots measure.profile) (end_of measure.profile) eto place) - eto }
-    ensures free { (m : State) (key : Text) (row : Row) → row.governing ≡ None → delay_of m key row ≡ 0 }
+        unwrap_or row.issued
+        (cto (slots measure.profile) (end_of measure.profile) eto place) - eto }
+    ensures free { (m : State) (key : Text) (row : Row) → row.governing ≡ None
+        → delay_of m key row ≡ 0 }
 {}
 
 /// A regulation offers a flight the delay and the calculated time over that the flight has once the regulation
@@ -142,14 +152,17 @@ pub fn offer_is_the_delay_there()
         AreInOrder m.rows → measure_of m id ≡ Some measure →
         subject row.plan (regulation id measure) ≡ Some eto →
         let there : Row = record row { governing = Some id; issued = None } in
-        option_map (λ (o : Offer). o.delay) (offer (situation m) key row.plan (regulation id measure)) ≡
+        option_map (λ (o : Offer). o.delay)
+        (offer (situation m) key row.plan (regulation id measure)) ≡
         Some (delay_of (with_row m key there) key there) }
     ensures time { (m : State) (key id : Text) (row : Row) (measure : Measure) (eto : ℕ) →
         AreInOrder m.rows → measure_of m id ≡ Some measure →
         subject row.plan (regulation id measure) ≡ Some eto →
         let there : Row = record row { governing = Some id; issued = None } in
-        option_map (λ (o : Offer). o.cto) (offer (situation m) key row.plan (regulation id measure)) ≡
-        option_and_then (λ (l : Listing). cto_of l key) (governing_list (with_row m key there) there) }
+        option_map (λ (o : Offer). o.cto)
+        (offer (situation m) key row.plan (regulation id measure)) ≡
+        option_and_then (λ (l : Listing). cto_of l key)
+        (governing_list (with_row m key there) there) }
 {}
 
 /// The choice is the most penalising of the offers: one of them, none delays more, and of those that delay as much it
@@ -160,7 +173,8 @@ pub fn choice_is_most_penalising()
     ensures greatest { (m : State) (key : Text) (plan : FlightPlan) (best : Offer) →
         choice (situation m) key plan ≡ Some best →
         All (λ (o : Offer). o.delay ≤ best.delay) (offers (situation m) key plan) }
-    ensures ties { (m : State) (key : Text) (plan : FlightPlan) (best o : Offer) → AreInOrder m.regs →
+    ensures ties { (m : State) (key : Text) (plan : FlightPlan) (best o : Offer)
+        → AreInOrder m.regs →
         choice (situation m) key plan ≡ Some best → Contains (offers (situation m) key plan) o →
         o.delay ≡ best.delay → (best ≡ o) ⊎ (slice_cmp nat_cmp best.id o.id ≡ Less) }
     ensures none { (m : State) (key : Text) (plan : FlightPlan) →
@@ -184,10 +198,13 @@ pub fn offers_are_of_open_regulations()
 /// profile every other flight keeps its place, and the places are those of before without its own. So it is for one
 /// in a slot, which the issued time then blocks, and for one that is over.
 pub fn issue_moves_nobody()
-    ensures others { (l : Listing) (key other : Text) (eto t : ℕ) → IsProfile l.profile → AreInOrder l.flights →
+    ensures others { (l : Listing) (key other : Text) (eto t : ℕ) → IsProfile l.profile
+        → AreInOrder l.flights →
         stance_of l key ≡ Some (Competing eto) → cto_of l key ≡ Some t → (other ≡ key → ⊥) →
-        place_of (record l { flights = put l.flights key (Issued eto t) }) other ≡ place_of l other }
-    ensures places { (l : Listing) (key : Text) (eto t : ℕ) → IsProfile l.profile → AreInOrder l.flights →
+        place_of (record l { flights = put l.flights key (Issued eto t) }) other
+        ≡ place_of l other }
+    ensures places { (l : Listing) (key : Text) (eto t : ℕ) → IsProfile l.profile
+        → AreInOrder l.flights →
         stance_of l key ≡ Some (Competing eto) → cto_of l key ≡ Some t →
         places (record l { flights = put l.flights key (Issued eto t) }) ≡
         filter (λ (a : Assigned). not (same_text key a.comp.key)) (places l) }
@@ -196,12 +213,18 @@ pub fn issue_moves_nobody()
 /// Two issued flights that exchange their times move nobody, wherever these times lie: in a list whose flights are in
 /// order, the places are those of before. So an exchange on a good state moves nobody in any list.
 pub fn exchange_moves_nobody()
-    ensures places { (l : Listing) (key other : Text) (eto cto its_eto its_cto : ℕ) → AreInOrder l.flights →
-        stance_of l key ≡ Some (Issued eto cto) → stance_of l other ≡ Some (Issued its_eto its_cto) →
-        places (record l { flights = put (put l.flights key (Issued eto its_cto)) other (Issued its_eto cto) }) ≡
+    ensures places { (l : Listing) (key other : Text) (eto cto its_eto its_cto : ℕ)
+        → AreInOrder l.flights →
+        stance_of l key ≡ Some (Issued eto cto)
+        → stance_of l other ≡ Some (Issued its_eto its_cto) →
+        places (record l {
+          flights = put (put l.flights key (Issued eto its_cto)) other
+              (Issued its_eto cto);
+        }) ≡
         places l }
     ensures lists { (m : State) (key other id : Text) → IsGood m →
-        option_map places (list_of (next m (Swap key other)) id) ≡ option_map places (list_of m id) }
+        option_map places (list_of (next m (Swap key other)) id)
+        ≡ option_map places (list_of m id) }
 {}
 
 /// The empty state is good, and every call leads from a good state to a good one.
@@ -249,7 +272,8 @@ pub fn issued_times_stay()
     ensures others { (m : State) (call : Call) (key : Text) (row : Row) → IsGood m →
         row_of m key ≡ Some row → may_free call key row ≡ false → may_serve m call ≡ false →
         row_of (next m call) key ≡ Some row }
-    ensures refusals { (m : State) (call : Call) (r : Refusal) → step m call ≡ refused r → next m call ≡ m }
+    ensures refusals { (m : State) (call : Call) (r : Refusal) → step m call ≡ refused r
+        → next m call ≡ m }
 {}
 
 /// What a regulation that opens or ends later and the clock give on a good state, they give to flights that had none:
@@ -257,7 +281,8 @@ pub fn issued_times_stay()
 /// only flights that were governed and not issued, at the calculated time over that they have. Each other flight
 /// stays as it is.
 pub fn only_waiting_flights_are_served()
-    ensures opened { (m : State) (id loc key : Text) (profile : List Period) (row : Row) → IsGood m →
+    ensures opened { (m : State) (id loc key : Text) (profile : List Period) (row : Row)
+        → IsGood m →
         row_of m key ≡ Some row →
         (new : Row) × (row_of (next m (OpenReg id loc profile)) key ≡ Some new) ×
         ((new ≡ row) ⊎ IsTakenIn m.clock id row new) }
@@ -303,7 +328,8 @@ pub fn valid_plan_has_no_fault()
 /// A valid plan is subject to a regulation, at an estimated time over, exactly where it crosses the regulation's location
 /// at that time and the regulation lasts then: from its start on and before its end.
 pub fn subject_is_by_the_crossing()
-    ensures { (plan : FlightPlan) (r : Regulation) (eto : ℕ) → IsValid plan.eobt plan.taxi plan.via →
+    ensures { (plan : FlightPlan) (r : Regulation) (eto : ℕ)
+        → IsValid plan.eobt plan.taxi plan.via →
         let there : Crossing = record { loc = r.loc; eto = eto } in
         (subject plan r ≡ Some eto) ↔ (Contains plan.via there × (r.start ≤ eto) × (eto < r.end)) }
 {}

@@ -59,7 +59,8 @@ fn compare(a: &Seat, b: &Seat) -> Ordering
 
 /// Puts flights in their order.
 fn sort_seats(seats: &mut Vec<Seat>) -> Result<(), AllocError>
-    ensures { OnOk result (seats.new.items ≡ sorted_by (λ (a b : Assigned). is_before a.comp b.comp) seats.old.items) }
+    ensures { OnOk result (seats.new.items
+        ≡ sorted_by (λ (a b : Assigned). is_before a.comp b.comp) seats.old.items) }
 {
     put_in_order(seats, |a, b| compare(a, b))?;
     Ok(())

@@ -55,7 +55,8 @@ impl Governed {
     /// for them.
     pub fn of(alloc: Global, flights: &Stances) -> Result<Governed, AllocError>
         ensures competitors { IfOk result (λ governed. comps_in governed.competitors ≡
-            sorted_by is_before (filter_map (λ (e : Text × Stance). competitor e.0 e.1) flights.now)) }
+            sorted_by is_before (filter_map
+            (λ (e : Text × Stance). competitor e.0 e.1) flights.now)) }
         ensures issued { IfOk result (λ governed. governed.issued ≡ sorted_by is_flight_before
             (filter_map (λ (e : Text × Stance). issued_flight e.0 e.1) flights.now)) }
         ensures ordered { AreInOrder flights.now }
@@ -111,7 +112,8 @@ impl Governed {
     pub fn reserve(&mut self) -> Result<(), AllocError>
         ensures competitors { self.new.competitors ≡ self.old.competitors }
         ensures issued { self.new.issued ≡ self.old.issued }
-        ensures room { OnOk result (length self.new.competitors + length self.new.issued < self.new.room) }
+        ensures room { OnOk result (length self.new.competitors + length self.new.issued <
+            self.new.room) }
     {
         self.seats.reserve(1)?;
         Ok(())
@@ -145,7 +147,8 @@ impl Governed {
     /// stays. Those behind the first have asked for their slots already.
     fn walk_on(&mut self, grid: &SharedGrid, blocked: &Blocked, from: usize)
         requires within { from ≤ length self.old.competitors }
-        requires follow { FollowFirst (slots grid.now) blocked.now.counts (drop from self.old.competitors) }
+        requires follow { FollowFirst (slots grid.now) blocked.now.counts
+            (drop from self.old.competitors) }
         ensures competitors { self.new.competitors ≡ followed (slots grid.now) blocked.now.counts
             (take from self.old.competitors) (comps_in (drop from self.old.competitors)) }
         ensures issued { self.new.issued ≡ self.old.issued }
@@ -155,7 +158,8 @@ impl Governed {
 
     /// Moves each competitor to its place.
     pub fn walk_all(&mut self, grid: &SharedGrid, blocked: &Blocked)
-        ensures competitors { self.new.competitors ≡ walked (slots grid.now) blocked.now.counts 0 (comps_in self.old.competitors) }
+        ensures competitors { self.new.competitors
+            ≡ walked (slots grid.now) blocked.now.counts 0 (comps_in self.old.competitors) }
         ensures issued { self.new.issued ≡ self.old.issued }
     {
         walk_all(grid, blocked, &mut self.seats, self.competitors);
@@ -166,7 +170,8 @@ impl Governed {
     pub fn walk_from_slot(&mut self, grid: &SharedGrid, blocked: &Blocked, slot: Option<usize>)
         requires rise { PlacesRise self.old.competitors }
         requires follow { FollowFrom (slots grid.now) blocked.now.counts self.old.competitors slot }
-        ensures competitors { self.new.competitors ≡ walked_from_slot (slots grid.now) blocked.now.counts self.old.competitors slot }
+        ensures competitors { self.new.competitors
+            ≡ walked_from_slot (slots grid.now) blocked.now.counts self.old.competitors slot }
         ensures issued { self.new.issued ≡ self.old.issued }
     {
         if let Some(k) = slot {
@@ -179,7 +184,8 @@ impl Governed {
     pub fn put(&mut self, grid: &SharedGrid, blocked: &Blocked, at: usize, comp: Comp) -> Place
         requires within { at ≤ length self.old.competitors }
         requires room { length self.old.competitors + length self.old.issued < self.old.room }
-        requires follow { FollowFirst (slots grid.now) blocked.now.counts (drop at self.old.competitors) }
+        requires follow { FollowFirst (slots grid.now) blocked.now.counts
+            (drop at self.old.competitors) }
         ensures place { result ≡ place_low (slots grid.now) blocked.now.counts
             (low_behind (length blocked.now.counts) 0 (take at self.old.competitors)) comp.eto }
         ensures competitors { self.new.competitors ≡ followed (slots grid.now) blocked.now.counts
@@ -195,8 +201,10 @@ impl Governed {
     /// Takes the competitor at number `at` out, and those behind it move up; gives the place that it had.
     pub fn take(&mut self, grid: &SharedGrid, blocked: &Blocked, at: usize) -> Place
         requires within { at < length self.old.competitors }
-        requires follow { FollowFirst (slots grid.now) blocked.now.counts (drop (at + 1) self.old.competitors) }
-        ensures place { (a : Assigned) → slice_get self.old.competitors at ≡ Some a → result ≡ a.place }
+        requires follow { FollowFirst (slots grid.now) blocked.now.counts
+            (drop (at + 1) self.old.competitors) }
+        ensures place { (a : Assigned) → slice_get self.old.competitors at ≡ Some a
+            → result ≡ a.place }
         ensures competitors { self.new.competitors ≡ followed (slots grid.now) blocked.now.counts
             (take at self.old.competitors) (comps_in (drop (at + 1) self.old.competitors)) }
         ensures issued { self.new.issued ≡ self.old.issued }
@@ -211,7 +219,8 @@ impl Governed {
         requires room { length self.old.competitors + length self.old.issued < self.old.room }
         requires sorted { IsSortedBy is_flight_before self.old.issued }
         ensures competitors { self.new.competitors ≡ self.old.competitors }
-        ensures issued { self.new.issued ≡ insert_sorted is_flight_before (comp, Standing.Issued cto) self.old.issued }
+        ensures issued { self.new.issued ≡ insert_sorted is_flight_before
+            (comp, Standing.Issued cto) self.old.issued }
     {
         let at = index_of(self.issued(), &comp);
         self.seats
@@ -224,7 +233,8 @@ impl Governed {
         requires within { index_in self.old.issued comp.now < length self.old.issued }
         requires sorted { IsSortedBy is_flight_before self.old.issued }
         ensures competitors { self.new.competitors ≡ self.old.competitors }
-        ensures issued { self.new.issued ≡ remove self.old.issued (index_in self.old.issued comp.now) }
+        ensures issued { self.new.issued ≡ remove self.old.issued
+            (index_in self.old.issued comp.now) }
     {
         let at = index_of(self.issued(), comp);
         self.seats.remove(self.competitors + at);
@@ -237,7 +247,8 @@ impl Governed {
         requires sorted { IsSortedBy is_flight_before self.old.issued }
         ensures competitors { self.new.competitors ≡ self.old.competitors }
         ensures issued { self.new.issued ≡
-            set self.old.issued (index_in self.old.issued comp.now) (comp.now, Standing.Issued cto) }
+            set self.old.issued (index_in self.old.issued comp.now)
+            (comp.now, Standing.Issued cto) }
     {
         let at = index_of(self.issued(), comp);
         self.seats[self.competitors + at] = Seat::held(*comp, cto);
@@ -249,7 +260,8 @@ impl Governed {
         requires within { at < length self.old.competitors }
         requires sorted { IsSortedBy is_flight_before self.old.issued }
         ensures competitors { self.new.competitors ≡ remove self.old.competitors at }
-        ensures issued { self.new.issued ≡ insert_sorted is_flight_before (comp, Standing.Issued cto) self.old.issued }
+        ensures issued { self.new.issued ≡ insert_sorted is_flight_before
+            (comp, Standing.Issued cto) self.old.issued }
     {
         self.remove(at);
         self.put_issued(comp, cto);

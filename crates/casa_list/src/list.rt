@@ -142,7 +142,8 @@ impl SlotList {
         grid: Grid,
         flights: BTreeMap<Key, Stance>,
     ) -> Result<SlotList, AllocError>
-        ensures { IfOk result (λ list. list ≡ record { profile = grid; flights = flights.entries }) }
+        ensures { IfOk result (λ list. list
+            ≡ record { profile = grid; flights = flights.entries }) }
     {
         let grid = SharedGrid::new(alloc, grid)?;
         let flights = Stances::of(alloc, &flights)?;
@@ -178,7 +179,8 @@ impl SlotList {
     /// The estimated time over of a competitor.
     fn competing_at(&self, key: &Key) -> Option<Moment>
         ensures value { result ≡ competing_eto self.now key.now }
-        ensures found { IfSome result (λ eto. stance_of self.now key.now ≡ Some (Stance.Competing eto)) }
+        ensures found { IfSome result (λ eto. stance_of self.now key.now
+            ≡ Some (Stance.Competing eto)) }
     {
         match self.stance_of(key)? {
             Stance::Competing { eto } => Some(eto),
@@ -189,7 +191,8 @@ impl SlotList {
     /// The estimated time over of a forced flight.
     fn forced_at(&self, key: &Key) -> Option<Moment>
         ensures value { result ≡ forced_eto self.now key.now }
-        ensures found { IfSome result (λ eto. stance_of self.now key.now ≡ Some (Stance.Forced eto)) }
+        ensures found { IfSome result (λ eto. stance_of self.now key.now
+            ≡ Some (Stance.Forced eto)) }
     {
         match self.stance_of(key)? {
             Stance::Forced { eto } => Some(eto),
@@ -200,7 +203,8 @@ impl SlotList {
     /// The estimated and the calculated time over of an issued flight.
     fn issued_at(&self, key: &Key) -> Option<Times>
         ensures value { result ≡ issued_times self.now key.now }
-        ensures found { IfSome result (λ times. stance_of self.now key.now ≡ Some (Stance.Issued times.eto times.cto)) }
+        ensures found { IfSome result (λ times. stance_of self.now key.now
+            ≡ Some (Stance.Issued times.eto times.cto)) }
     {
         match self.stance_of(key)? {
             Stance::Issued { eto, cto } => Some(Times { eto, cto }),
@@ -233,7 +237,8 @@ impl SlotList {
     /// The place that `enter` would give. The regulation must not govern the flight, which may be forced.
     pub fn would_get(&self, comp: &Comp) -> Place
         requires { governed_place self.now comp.now.key ≡ None }
-        ensures place { result ≡ place_of (with_competitor self.now comp.now.key comp.now.eto) comp.now.key }
+        ensures place { result ≡ place_of (with_competitor self.now comp.now.key comp.now.eto)
+            comp.now.key }
         ensures within { IsWithin (length (slots self.now.profile)) result }
     {
         let competitors = self.governed.competitors();
@@ -246,7 +251,8 @@ impl SlotList {
     pub fn would_pass(&self, comp: &Comp) -> Moment
         requires { governed_place self.now comp.now.key ≡ None }
         ensures { result ≡
-            cto_as (with_competitor self.now comp.now.key comp.now.eto) comp.now.key (Stance.Competing comp.now.eto) }
+            cto_as (with_competitor self.now comp.now.key comp.now.eto) comp.now.key
+            (Stance.Competing comp.now.eto) }
     {
         cto_at(&self.grid, comp.eto, self.would_get(comp))
     }
@@ -295,7 +301,10 @@ impl SlotList {
     /// Takes a forced flight out, and says whether there was one with this key.
     pub fn unforce(&mut self, key: &Key) -> bool
         ensures answer { result ≡ is_forced self.old key.now }
-        ensures left { self.new ≡ (if result then record self.old { flights = without self.old.flights key.now } else self.old) }
+        ensures left { self.new ≡ (if result then record self.old {
+          flights = without
+              self.old.flights key.now;
+        } else self.old) }
     {
         let Some(eto) = self.forced_at(key) else {
             return false;
@@ -313,7 +322,8 @@ impl SlotList {
     pub fn leave(&mut self, key: &Key) -> Option<Place>
         ensures answer { result ≡ governed_place self.old key.now }
         ensures left { self.new ≡
-            (if is_some result then record self.old { flights = without self.old.flights key.now } else self.old) }
+            (if is_some result then record self.old { flights = without self.old.flights key.now }
+            else self.old) }
     {
         match self.stance_of(key)? {
             Stance::Competing { eto } => Some(self.leave_competitor(Comp { eto, key: *key })),
@@ -373,7 +383,8 @@ impl SlotList {
     /// Nobody else moves, and no memory is taken. A flight and itself exchange nothing, under the same conditions.
     pub fn swap(&mut self, key: &Key, other: &Key) -> bool
         ensures answer { result ≡ can_exchange self.old key.now other.now }
-        ensures exchanged { self.new ≡ (if result then with_exchange self.old key.now other.now else self.old) }
+        ensures exchanged { self.new ≡ (if result then with_exchange self.old key.now other.now else
+            self.old) }
         ensures nobody_moves { places self.new ≡ places self.old }
     {
         let Some(one) = self.issued_at(key) else {

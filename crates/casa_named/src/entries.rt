@@ -78,7 +78,8 @@ impl<'a, Kind, X> Entries<'a, Kind, X> {
 
     /// The first entry that is left.
     pub(crate) fn first(&self) -> Option<(&'a Name<Kind>, &'a X)>
-        ensures first { MatchOption result (self.now ≡ []) (λ e. self.now ≡ deref_pair e ∷ drop 1 self.now) }
+        ensures first { MatchOption result (self.now ≡ [])
+            (λ e. self.now ≡ deref_pair e ∷ drop 1 self.now) }
         ensures ordered { AreInOrder self.now }
     {
         self.first
@@ -98,7 +99,8 @@ impl<'a, Kind, X> Entries<'a, Kind, X> {
 fn next_of<'a, Kind, X>(
     entries: &mut Option<btree_map::Iter<'a, Name<Kind>, X>>,
 ) -> Option<(&'a Name<Kind>, &'a X)>
-    ensures { ahead (option_map deref_pair result) (unwrap_or entries.new []) ≡ unwrap_or entries.old [] }
+    ensures { ahead (option_map deref_pair result) (unwrap_or entries.new [])
+        ≡ unwrap_or entries.old [] }
 {
     match entries {
         Some(entries) => entries.next(),

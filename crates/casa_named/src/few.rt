@@ -86,7 +86,8 @@ fn moved<Kind, X: Drop>(
     value: X,
 ) -> Result<(), (Name<Kind>, X)>
     ensures moved { OnOk result (map.new.entries ≡ put map.old.entries name value) }
-    ensures refused { IfErr result (λ entry. (entry ≡ (name, value)) × (map.new.entries ≡ map.old.entries)) }
+    ensures refused { IfErr result (λ entry. (entry ≡ (name, value))
+        × (map.new.entries ≡ map.old.entries)) }
 {
     match map.insert(name, value) {
         Ok(_none) => Ok(()),

@@ -65,14 +65,18 @@ fn is_free(
     k: usize,
 ) -> bool
     ensures { (eto : ℕ) → asked ≡ wanted (slots grid.now) eto →
-        result ≡ is_free (record { slots = slots grid.now; issued = issued.now }) earlier.now eto k }
+        result ≡ is_free (record {
+          slots = slots grid.now;
+          issued = issued.now;
+        }) earlier.now eto k }
 {
     is_open(grid, issued, asked, k) && !is_taken(earlier, k)
 }
 
 /// The earliest free slot.
 fn first_free(grid: &Grid, issued: &[Moment], earlier: &[Assigned], eto: Moment) -> Option<usize>
-    ensures { result ≡ find (is_free (record { slots = slots grid.now; issued = issued.now }) earlier.now eto)
+    ensures { result ≡ find (is_free
+        (record { slots = slots grid.now; issued = issued.now }) earlier.now eto)
         (range_with_len 0 (length (slots grid.now))) }
 {
     let asked = grid.wanted(eto);
@@ -81,7 +85,8 @@ fn first_free(grid: &Grid, issued: &[Moment], earlier: &[Assigned], eto: Moment)
 
 /// The place of a flight after those of the earlier competitors: the earliest free slot, and over without one.
 fn place_after(grid: &Grid, issued: &[Moment], earlier: &[Assigned], eto: Moment) -> Place
-    ensures { result ≡ place_after (record { slots = slots grid.now; issued = issued.now }) earlier.now eto }
+    ensures { result ≡ place_after
+        (record { slots = slots grid.now; issued = issued.now }) earlier.now eto }
 {
     match first_free(grid, issued, earlier, eto) {
         Some(k) => Place::Slot(k),
@@ -117,7 +122,8 @@ fn assigned_to(all: &[Assigned], key: Key) -> Option<&Assigned>
 /// The place of the competitor with this key; over where there is none.
 pub fn place_among(all: &[Assigned], key: Key) -> Place
     ensures { result ≡
-        option_map_or (λ (a : Assigned). a.place) (find (λ (a : Assigned). same_text key a.comp.key) all.now) Place.Over }
+        option_map_or (λ (a : Assigned). a.place)
+        (find (λ (a : Assigned). same_text key a.comp.key) all.now) Place.Over }
 {
     match assigned_to(all, key) {
         Some(assigned) => assigned.place,

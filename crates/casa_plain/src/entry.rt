@@ -24,7 +24,8 @@ fn list_with(
     id: RegId,
     measure: Option<&Measure>,
 ) -> Result<Option<PlainList>, AllocError>
-    ensures { IfOk result (λ list. list ≡ option_map (listing rows.now.entries id) (option_copied measure.entry)) }
+    ensures { IfOk result (λ list. list
+        ≡ option_map (listing rows.now.entries id) (option_copied measure.entry)) }
 {
     match measure {
         Some(measure) => Ok(Some(PlainList::of(alloc, rows, id, measure)?)),
@@ -83,7 +84,8 @@ impl Plain {
         row: &Row,
         regulation: &Regulation,
     ) -> Result<Option<Offer>, AllocError>
-        ensures { IfOk result (λ o. o ≡ offer (situation self.now) key row.now.plan regulation.now) }
+        ensures { IfOk result (λ o. o ≡ offer
+            (situation self.now) key row.now.plan regulation.now) }
     {
         let list = self.list_of(alloc, regulation.id)?;
         offer_in(alloc, regulation.id, key, list, subject(row, regulation))

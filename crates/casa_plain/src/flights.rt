@@ -20,7 +20,8 @@ pub fn catalogue(
     alloc: Global,
     regs: &BTreeMap<RegId, Measure>,
 ) -> Result<Vec<Regulation>, AllocError>
-    ensures { IfOk result (λ all. all.items ≡ map (λ (e : Text × Measure). regulation e.0 e.1) regs.now.entries) }
+    ensures { IfOk result (λ all. all.items
+        ≡ map (λ (e : Text × Measure). regulation e.0 e.1) regs.now.entries) }
 {
     regs.iter()
         .map(|(id, measure)| Regulation::of(*id, measure))
@@ -46,7 +47,8 @@ fn found_newcomers(
     regulation: &Regulation,
 ) -> Result<Vec<Comp>, AllocError>
     ensures { IfOk result (λ comps. comps.items ≡
-        filter_map (λ (e : Text × Row). flight_if (may_compete clock e.1) regulation.now e.0 e.1) rows.now.entries) }
+        filter_map (λ (e : Text × Row). flight_if
+        (may_compete clock e.1) regulation.now e.0 e.1) rows.now.entries) }
 {
     rows.iter()
         .filter_map(|(key, row)| flight_if(row.may_compete(clock), regulation, *key, row))
@@ -75,7 +77,8 @@ fn found_governed(
     regulation: &Regulation,
 ) -> Result<Vec<Comp>, AllocError>
     ensures { IfOk result (λ comps. comps.items ≡
-        filter_map (λ (e : Text × Row). flight_if (is_governed_by regulation.now.id e.1) regulation.now e.0 e.1)
+        filter_map (λ (e : Text × Row). flight_if
+        (is_governed_by regulation.now.id e.1) regulation.now e.0 e.1)
         rows.now.entries) }
 {
     let id = regulation.id;
@@ -115,7 +118,8 @@ pub fn freed_rows(
     id: RegId,
 ) -> Result<BTreeMap<Key, Row>, AllocError>
     ensures { IfOk result (λ all. all.entries ≡
-        map (λ (e : Text × Row). (e.0, ungoverned_if (is_governed_by id e.1) e.1)) rows.now.entries) }
+        map (λ (e : Text × Row).
+        (e.0, ungoverned_if (is_governed_by id e.1) e.1)) rows.now.entries) }
 {
     let mut all = BTreeMap::new(alloc);
     for (key, row) in rows.iter() {

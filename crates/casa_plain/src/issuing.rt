@@ -17,7 +17,8 @@ use std::collections::BTreeMap;
 
 /// The flight's delay in this list, and none without one.
 fn delay_at(alloc: Global, list: Option<PlainList>, key: Key) -> Result<u32, AllocError>
-    ensures value { IfOk result (λ delay. delay ≡ option_map_or (λ (l : Listing). delay_in l key) list 0) }
+    ensures value { IfOk result (λ delay. delay
+        ≡ option_map_or (λ (l : Listing). delay_in l key) list 0) }
     ensures in_range { IfOk result (λ delay. delay ≤ last_moment) }
 {
     match list {
@@ -91,7 +92,8 @@ impl Plain {
         rows: &BTreeMap<Key, Row>,
     ) -> Result<BTreeMap<Key, Row>, AllocError>
         ensures { IfOk result (λ all. all.entries ≡
-            map (λ (e : Text × Row). (e.0, issue_if (is_to_issue self.now.clock e.1) self.now e.0 e.1))
+            map (λ (e : Text × Row).
+            (e.0, issue_if (is_to_issue self.now.clock e.1) self.now e.0 e.1))
             rows.now.entries) }
     {
         let mut all = BTreeMap::new(alloc);

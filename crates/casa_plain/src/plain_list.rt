@@ -43,7 +43,8 @@ fn stances(
     id: RegId,
     measure: &Measure,
 ) -> Result<BTreeMap<Key, Stance>, AllocError>
-    ensures { IfOk result (λ flights. flights.entries ≡ filter_map_values (stance_in id measure.now) rows.now.entries) }
+    ensures { IfOk result (λ flights. flights.entries
+        ≡ filter_map_values (stance_in id measure.now) rows.now.entries) }
 {
     let mut flights = BTreeMap::new(alloc);
     for (key, row) in rows.iter() {
@@ -188,7 +189,8 @@ impl PlainList {
 
     /// The delay of the flight where it stands so, in seconds.
     fn delay_as(&self, alloc: Global, key: Key, stance: &Stance) -> Result<u32, AllocError>
-        ensures value { IfOk result (λ delay. delay ≡ cto_as self.now key stance.now - eto_as stance.now) }
+        ensures value { IfOk result (λ delay. delay
+            ≡ cto_as self.now key stance.now - eto_as stance.now) }
         ensures in_range { IfOk result (λ delay. delay ≤ last_moment) }
     {
         let eto = stance.eto();

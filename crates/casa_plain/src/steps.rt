@@ -29,7 +29,8 @@ impl Plain {
     /// A filed flight is added and enters.
     fn file(&self, alloc: Global, plan: &Plan) -> Result<Outcome, AllocError>
         ensures { IfOk result (λ o. step_of o ≡
-            file self.now plan.now (row_of self.now plan.now.key) (nat_lt plan.now.eobt self.now.clock)) }
+            file self.now plan.now (row_of self.now plan.now.key)
+            (nat_lt plan.now.eobt self.now.clock)) }
     {
         if let Some(_row) = self.row(plan.key()) {
             return Ok(Outcome::Refused(Refusal::Duplicate));
@@ -45,7 +46,8 @@ impl Plain {
     /// An amended flight enters with its new plan.
     fn amend(&self, alloc: Global, plan: &Plan) -> Result<Outcome, AllocError>
         ensures { IfOk result (λ o. step_of o ≡
-            amend self.now plan.now (row_of self.now plan.now.key) (nat_lt plan.now.eobt self.now.clock)) }
+            amend self.now plan.now (row_of self.now plan.now.key)
+            (nat_lt plan.now.eobt self.now.clock)) }
     {
         let Some(row) = self.row(plan.key()) else {
             return Ok(Outcome::Refused(Refusal::NoFlight));
@@ -185,7 +187,8 @@ impl Plain {
 
     /// A closed regulation frees all its flights, and then they enter.
     fn close_regulation(&self, alloc: Global, id: RegId) -> Result<Outcome, AllocError>
-        ensures { IfOk result (λ o. step_of o ≡ close_regulation self.now id (measure_of self.now id)) }
+        ensures { IfOk result (λ o. step_of o
+            ≡ close_regulation self.now id (measure_of self.now id)) }
     {
         let Some(measure) = self.measure(id) else {
             return Ok(Outcome::Refused(Refusal::NoRegulation));
@@ -198,7 +201,8 @@ impl Plain {
 
     /// New rates replace the profile, and a later end takes flights in.
     fn rates(&self, alloc: Global, id: RegId, profile: &Profile) -> Result<Outcome, AllocError>
-        ensures { IfOk result (λ o. step_of o ≡ rates self.now id profile.now (measure_of self.now id)) }
+        ensures { IfOk result (λ o. step_of o
+            ≡ rates self.now id profile.now (measure_of self.now id)) }
     {
         let Some(old) = self.measure(id) else {
             return Ok(Outcome::Refused(Refusal::NoRegulation));

@@ -14,7 +14,8 @@ use std::alloc::{AllocError, Global};
 
 /// How a flight with this row stands in a list that governs it, by the time over that it has there.
 fn governed_stance(list: Option<&SlotList>, key: &Key, row: &Row) -> Option<Stance>
-    ensures { result ≡ option_and_then (governed_stance key.now row.now) (option_copied list.entry) }
+    ensures { result ≡ option_and_then (governed_stance key.now row.now)
+        (option_copied list.entry) }
 {
     let stance = list?.stance_of(key)?;
     Some(Stance::of(true, row.issued, stance.eto()))

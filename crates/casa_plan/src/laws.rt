@@ -13,6 +13,7 @@ use casa_view::Version;
 
 /// A view for a call shows what the call reads, in every good state that shows the view.
 pub fn views_show_what_is_read<V: Version>()
-    ensures { (v : View V) (call : Call) (m : State) → IsFor V.item_of v call → HasRowsInOrder v → IsGood m →
+    ensures { (v : View V) (call : Call) (m : State) → IsFor V.item_of v call → HasRowsInOrder v
+        → IsGood m →
         Shows V.item_of m v → IsSightOf m call (sight V.item_of v) }
 {}

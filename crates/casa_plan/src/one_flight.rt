@@ -44,7 +44,8 @@ fn rewrite_flight<V: Version>(
 ) -> Result<(Reply, Change), AllocError>
     requires in_range { delay ≤ last_moment }
     requires subject { has.now ≡ crossed row.plan (regulations_in view.now) }
-    ensures { IfOk result (λ p. p ≡ rewrite_flight view.now key (option_copied was.entry) row delay) }
+    ensures { IfOk result (λ p. p ≡ rewrite_flight view.now key
+        (option_copied was.entry) row delay) }
 {
     let reply = reply_to_change(alloc, view, key, was, &row, delay)?;
     let draft = flight_written(alloc, view, key, was, Some(row), has)?;
@@ -62,7 +63,8 @@ fn take_offer<V: Version>(
     has: &Crossings,
 ) -> Result<(Reply, Change), AllocError>
     requires { has.now ≡ crossed row.plan (regulations_in view.now) }
-    ensures { IfOk result (λ p. p ≡ take_offer view.now key (option_copied was.entry) row offer.now) }
+    ensures { IfOk result (λ p. p ≡ take_offer view.now key
+        (option_copied was.entry) row offer.now) }
 {
     let row = with_offer(view.clock(), row, offer);
     rewrite_flight(alloc, view, key, was, row, offered_delay(offer), has)
@@ -159,7 +161,8 @@ fn is_taken<V: Version>(view: &Shown<V>, key: Key, row: &Row, offer: &Option<Off
 
 /// Whether a revised flight may take some offer: what is issued without a delay cannot leave earlier, whatever it is offered.
 fn may_move<V: Version>(view: &Shown<V>, key: Key, row: &Row) -> bool
-    ensures { result ≡ (not (is_some row.now.issued) || nat_lt 0 (delay_by (list_in view.now) key row.now)) }
+    ensures { result ≡ (not (is_some row.now.issued)
+        || nat_lt 0 (delay_by (list_in view.now) key row.now)) }
 {
     !row.issued.is_some() || 0 < delay_shown(view, key, row)
 }

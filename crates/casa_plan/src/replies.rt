@@ -30,7 +30,8 @@ pub(crate) fn no_messages(alloc: Global) -> Result<Messages, AllocError>
 
 /// The delay of a flight in its governing list, in seconds; none without one.
 fn delay_at(list: Option<&SlotList>, key: &Key) -> u32
-    ensures value { result ≡ option_map_or (λ (l : Listing). delay_in l key.now) (option_copied list.entry) 0 }
+    ensures value { result ≡ option_map_or (λ (l : Listing). delay_in l key.now)
+        (option_copied list.entry) 0 }
     ensures in_range { result ≤ last_moment }
 {
     match list {

@@ -159,7 +159,8 @@ impl<'a, V: Version> Shown<'a, V> {
 
 /// The row of a flight as it is written, or else this one, as which it is shown.
 pub(crate) fn row_with<'a>(draft: &'a Change, key: &Key, shown: Option<&'a Row>) -> Option<&'a Row>
-    ensures { option_copied result ≡ unwrap_or (at_name draft.now.rows key.now) (option_copied shown.entry) }
+    ensures { option_copied result
+        ≡ unwrap_or (at_name draft.now.rows key.now) (option_copied shown.entry) }
 {
     match draft.rows().get(key) {
         Some(row) => row.row(),

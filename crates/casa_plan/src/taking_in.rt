@@ -53,7 +53,8 @@ fn stances_of<V: Version>(
     id: RegId,
     flights: &BTreeMap<Comp, V>,
 ) -> Result<BTreeMap<Key, Stance>, AllocError>
-    ensures { IfOk result (λ stances. stances.entries ≡ stances_of V.item_of id flights.now.entries) }
+    ensures { IfOk result (λ stances. stances.entries
+        ≡ stances_of V.item_of id flights.now.entries) }
 {
     let mut stances = BTreeMap::new(alloc);
     for (comp, version) in flights {
@@ -106,7 +107,8 @@ fn enter_newcomers<V: Version>(
     requires { HaveRows V.item_of view.now.rows flights.now.entries }
     ensures { OnOk result (draft.new ≡
         with_entries clock catalogue.now view.now draft.old (filter (λ (c : Comp).
-        option_map_or (may_compete clock) (row_in view.now c.key) false) (keys_of flights.now.entries))) }
+        option_map_or (may_compete clock) (row_in view.now c.key) false)
+        (keys_of flights.now.entries))) }
 {
     for (comp, version) in flights {
         let row = row_in(version.item());

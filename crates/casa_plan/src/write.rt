@@ -25,7 +25,8 @@ fn take_shared<V: Version>(
     id: &RegId,
 ) -> Result<Option<SharedList>, AllocError>
     ensures list { IfOk result (λ list. list ≡ list_with view.now draft.old id.now) }
-    ensures left { OnOk result (draft.new ≡ record draft.old { lists = without draft.old.lists id.now }) }
+    ensures left { OnOk result (draft.new
+        ≡ record draft.old { lists = without draft.old.lists id.now }) }
     ensures ordered { AreInOrder draft.old.lists }
 {
     match draft.take_list(id) {
@@ -51,7 +52,8 @@ fn stood(
     key: Key,
     stance: Option<Stance>,
 ) -> Result<Option<SharedList>, AllocError>
-    ensures { IfOk result (λ new. new ≡ option_map (λ (l : Listing). with_flight l key stance) list) }
+    ensures { IfOk result (λ new. new
+        ≡ option_map (λ (l : Listing). with_flight l key stance) list) }
 {
     match list {
         Some(list) => Ok(Some(with_flight(alloc, list, key, stance)?)),

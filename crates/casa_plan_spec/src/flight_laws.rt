@@ -20,7 +20,8 @@ pub fn best_offer_is_the_choice()
 /// view shows what the call reads.
 pub fn flight_calls_are_answered()
     ensures filed { (v : Sight) (plan : FlightPlan) → IsPlanned v (Call.File plan) (file v plan) }
-    ensures amended { (v : Sight) (plan : FlightPlan) → IsPlanned v (Call.Amend plan) (amend v plan) }
+    ensures amended { (v : Sight) (plan : FlightPlan)
+        → IsPlanned v (Call.Amend plan) (amend v plan) }
     ensures cancelled { (v : Sight) (key : Text) → IsPlanned v (Call.Cancel key) (cancel v key) }
     ensures revised { (v : Sight) (key : Text) → IsPlanned v (Call.Revise key) (revise v key) }
     ensures exempted { (v : Sight) (key : Text) → IsPlanned v (Call.Exempt key) (exempt v key) }

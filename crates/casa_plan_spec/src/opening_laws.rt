@@ -30,15 +30,19 @@ pub fn close_is_planned()
 
 /// The flights over a regulation that pass a test are those of all flights over it whose rows pass it.
 pub fn newcomers_are_among_all()
-    ensures { (at : Text → Option Row) (test : Row → Bool) (r : Regulation) (rows : List (Text × Row)) →
+    ensures { (at : Text → Option Row) (test : Row → Bool) (r : Regulation)
+        (rows : List (Text × Row)) →
         AllByRecursion (λ (e : Text × Row). at e.0 ≡ Some e.1) rows →
-        filter (λ (c : Comp). option_map_or test (at c.key) false) (flights_over (λ (row : Row). true) r rows)
+        filter (λ (c : Comp). option_map_or test (at c.key) false)
+        (flights_over (λ (row : Row). true) r rows)
         ≡ flights_over test r rows }
 {}
 
 /// The flights over a regulation, by keys and each as it stands by its row, are those of its list.
 pub fn list_has_each_flight_over()
-    ensures { (at : Text → Option Row) (r : Regulation) (rows : List (Text × Row)) → AreInOrder rows →
+    ensures { (at : Text → Option Row) (r : Regulation) (rows : List (Text × Row))
+        → AreInOrder rows →
         AllByRecursion (λ (e : Text × Row). at e.0 ≡ Some e.1) rows →
-        stances_by r.id at (flights_over (λ (row : Row). true) r rows) ≡ filter_map_values (stance_over r) rows }
+        stances_by r.id at (flights_over (λ (row : Row). true) r rows)
+        ≡ filter_map_values (stance_over r) rows }
 {}

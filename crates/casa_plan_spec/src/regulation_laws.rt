@@ -30,5 +30,6 @@ pub fn list_is_planned()
 
 /// And so is what is answered to an exchange of slots: each flight is issued at the time that the other had.
 pub fn swap_is_planned()
-    ensures { (v : Sight) (key other : Text) → IsPlanned v (Call.Swap key other) (swap v key other) }
+    ensures { (v : Sight) (key other : Text)
+        → IsPlanned v (Call.Swap key other) (swap v key other) }
 {}

@@ -51,7 +51,8 @@ pub(crate) fn push_number_or_hyphen<const N: usize>(
     end: u8,
 )
     requires { array_vec_len line.old + max width 40 < N }
-    ensures text { line.new.items ≡ line.old.items ++ (right width (number_text number) ++ end ∷ []) }
+    ensures text { line.new.items ≡ line.old.items ++
+        (right width (number_text number) ++ end ∷ []) }
     ensures len { array_vec_len line.new ≤ array_vec_len line.old + max width 40 + 1 }
 {
     match number {
@@ -69,7 +70,8 @@ pub(crate) fn push_left<const N: usize>(
 )
     requires { array_vec_len line.old + max width (length text.now) < N }
     ensures text { line.new.items ≡ line.old.items ++ (left width text.now ++ end ∷ []) }
-    ensures len { array_vec_len line.new ≡ array_vec_len line.old + max width (length text.now) + 1 }
+    ensures len { array_vec_len line.new
+        ≡ array_vec_len line.old + max width (length text.now) + 1 }
 {
     push_text(line, text);
     push_repeated(line, b' ', width.saturating_sub(text.len()));
@@ -85,7 +87,8 @@ pub(crate) fn push_right<const N: usize>(
 )
     requires { array_vec_len line.old + max width (length text.now) < N }
     ensures text { line.new.items ≡ line.old.items ++ (right width text.now ++ end ∷ []) }
-    ensures len { array_vec_len line.new ≡ array_vec_len line.old + max width (length text.now) + 1 }
+    ensures len { array_vec_len line.new
+        ≡ array_vec_len line.old + max width (length text.now) + 1 }
 {
     push_repeated(line, b' ', width.saturating_sub(text.len()));
     push_text(line, text);

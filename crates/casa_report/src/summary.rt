@@ -28,7 +28,8 @@ type Line = ArrayVec<u8, 360>;
 
 /// Writes the line above a summary, as `CASA 2025-06-01`. Its faults are those of `heading`.
 pub fn day_heading<W: Write>(alloc: Global, day: Date, writer: &mut W) -> Result<(), ReportFault>
-    ensures ok { OnOk result (Appends (W.contents writer.old) (W.contents writer.new) (day_line day)) }
+    ensures ok { OnOk result (Appends (W.contents writer.old) (W.contents writer.new)
+        (day_line day)) }
     ensures cut_off { IfErr result (λ fault. fault ≡ ReportFault.WriteFailed →
         IsCutOff (W.contents writer.old) (W.contents writer.new) (day_line day)) }
     ensures no_memory { IfErr result (λ fault. fault ≡ ReportFault.NoMemory →
@@ -100,7 +101,14 @@ fn cost_line(reg: &[u8], loc: &[u8], start: &[u8], end: &[u8], cost: &Cost) -> L
     requires loc { length loc.now ≤ 10 }
     requires start { length start.now ≤ 4 }
     requires end { length end.now ≤ 4 }
-    ensures { result.items ≡ cost_line (record { reg = reg.now; loc = loc.now; start = start.now; end = end.now; cost = cost.now }) }
+    ensures { result.items ≡ cost_line
+        (record {
+          reg = reg.now;
+          loc = loc.now;
+          start = start.now;
+          end = end.now;
+          cost = cost.now;
+        }) }
 {
     let mut line = Line::new();
     push_left(&mut line, reg, 10, b' ');

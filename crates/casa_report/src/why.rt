@@ -165,7 +165,8 @@ fn offer_line(offer: &Offer) -> Line
 
 /// Appends the table of the slots, if there are any.
 fn push_holdings(text: &mut Vec<u8>, holdings: &[Holding]) -> Result<(), AllocError>
-    ensures { OnOk result (text.new.items ≡ text.old.items ++ section holding_columns holdings.now) }
+    ensures { OnOk result (text.new.items
+        ≡ text.old.items ++ section holding_columns holdings.now) }
 {
     if holdings.is_empty() {
         return Ok(());

@@ -35,7 +35,8 @@ impl<I: Read, O: Write, W: World<Call = Call, Reply = Reply>, L: Ledger> Begun<I
     /// Waits for the end of the connection's session. Whether it was refused, or its session ended by a fault.
     fn end<R: Threads>(self, rt: &R) -> bool
         ensures { (ending : Ending)
-            × HasEnded L W.World I.remaining O.contents (connection_of self) ending × (result ≡ is_faulted ending) }
+            × HasEnded L W.World I.remaining O.contents (connection_of self) ending
+            × (result ≡ is_faulted ending) }
     {
         match self {
             Begun::Refused(_) => true,

@@ -60,7 +60,8 @@ fn session<K: Store, L: Ledger, G: Gate<Board<K>>, R: Wait, I: Read, O: Write>(
     writer: &mut O,
 ) -> (Result<u64, SessionFault>, DeskPass<K, L>)
     ensures { Ends ⊤ result.0 (I.remaining reader.old) (I.remaining reader.new)
-        (receipts (pass_of pass)) (receipts (pass_of result.1)) (O.contents writer.old) (O.contents writer.new) }
+        (receipts (pass_of pass)) (receipts (pass_of result.1)) (O.contents writer.old)
+        (O.contents writer.new) }
 {
     let mut desk = EngineDesk::new(engine, rt, pass);
     let ended = run(alloc, reader, writer, &mut desk);

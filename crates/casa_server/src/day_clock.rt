@@ -69,7 +69,8 @@ pub fn keep_time<C: DayClock, D: Desk>(
 
 /// Ticks to a moment. Whether the tick was accepted.
 fn tick<D: Desk>(alloc: Global, desk: &mut D, at: Moment) -> Result<bool, TimerFault>
-    ensures { IfOk result (λ is_accepted. TicksTo at (D.answered desk.old) (D.answered desk.new) is_accepted) }
+    ensures { IfOk result (λ is_accepted. TicksTo at (D.answered desk.old)
+        (D.answered desk.new) is_accepted) }
 {
     let receipt = desk.answer(alloc, &Call::Tick(at))?;
     Ok(matches!(&receipt.entry.reply, Reply::Answered(_, _)))

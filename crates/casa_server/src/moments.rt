@@ -25,7 +25,8 @@ pub fn moment_at(day: Date, now: Timestamp) -> Option<Moment>
 
 /// How many days a date is after the day, where it is the day itself or the next one.
 fn days_after(day: Date, date: Date) -> Option<u32>
-    ensures some { IfSome result (λ days. (days < 2) × (epoch_day date ≡ epoch_day day +ℤ pos days)) }
+    ensures some { IfSome result (λ days. (days < 2)
+        × (epoch_day date ≡ epoch_day day +ℤ pos days)) }
     ensures none { IfNone result
         ((epoch_day date ≢ epoch_day day) × (epoch_day date ≢ epoch_day day +ℤ pos 1)) }
 {

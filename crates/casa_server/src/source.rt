@@ -24,7 +24,8 @@ pub trait Connections {
     ///
     /// `AcceptFailed` where there is none, `NoMemory` where there is no memory for it.
     fn next(&mut self, alloc: Global) -> Result<(Self::Reader, Self::Writer), ServeFault>
-        ensures { IfOk result (λ connection. Gives (coming self.old) (coming self.new) (connection ∷ [])) };
+        ensures { IfOk result (λ connection. Gives (coming self.old) (coming self.new)
+            (connection ∷ [])) };
 }
 
 /// One end of a connection over TCP, which is closed when its two ends are dropped.

@@ -63,7 +63,8 @@ impl LineReader {
     /// Reads on, where nothing is pending. A read that was interrupted is made again, and counts.
     pub fn read<R: Read>(&mut self, source: &mut R) -> Chunk
         requires { self.old.start ≡ self.old.end }
-        ensures given { IsGiven result (R.remaining source.old) (R.remaining source.new) (pending self.new) }
+        ensures given { IsGiven result (R.remaining source.old) (R.remaining source.new)
+            (pending self.new) }
         ensures fewer { result ≡ Chunk.More → steps_left self.new < steps_left self.old }
     {
         while self.reads_left > 0 {
@@ -90,11 +91,14 @@ impl LineReader {
     pub fn take_part(&mut self, line: &mut Vec<u8>) -> Result<bool, LineFault>
         requires { is_too_long line.old.items ≡ false }
         ensures ok { IfOk result (λ is_ended. (part : List ℕ) × HasNoLf part ×
-            IsPart is_ended (pending self.old) part (pending self.new) × (line.new.items ≡ line.old.items ++ part)) }
+            IsPart is_ended (pending self.old) part (pending self.new)
+            × (line.new.items ≡ line.old.items ++ part)) }
         ensures short { OnOk result (is_too_long line.new.items ≡ false) }
         ensures kept { OnOk result (steps_left self.new ≤ steps_left self.old) }
-        ensures fewer { IfOk result (λ is_ended. is_ended ≡ true → steps_left self.new < steps_left self.old) }
-        ensures emptied { IfOk result (λ is_ended. is_ended ≡ false → self.new.start ≡ self.new.end) }
+        ensures fewer { IfOk result (λ is_ended. is_ended ≡ true
+            → steps_left self.new < steps_left self.old) }
+        ensures emptied { IfOk result (λ is_ended. is_ended ≡ false
+            → self.new.start ≡ self.new.end) }
         ensures reads { self.new.reads_left ≡ self.old.reads_left }
         ensures too_long { IfErr result (λ fault. fault ≡ LineFault.LineTooLong →
             (part rest : List ℕ) × HasNoLf part × (pending self.old ≡ part ++ rest) ×

@@ -90,7 +90,8 @@ impl Lone {
         reader: &mut R,
         writer: &mut W,
     ) -> Result<u64, SessionFault>
-        ensures { LoneEnds self.old self.new result (R.remaining reader.old) (R.remaining reader.new)
+        ensures { LoneEnds self.old self.new result (R.remaining reader.old)
+            (R.remaining reader.new)
             (W.contents writer.old) (W.contents writer.new) }
     {
         run(alloc, reader, writer, self)
@@ -133,7 +134,8 @@ impl Lone {
 
     /// The receipt of the call; where memory is refused, nothing was answered.
     fn receipt(&mut self, alloc: Global, call: &Call) -> Result<Receipt<Call, Reply>, CallFault>
-        ensures ok { IfOk result (λ receipt. receipts_played self.new ≡ receipts_played self.old ++ receipt ∷ []) }
+        ensures ok { IfOk result (λ receipt. receipts_played self.new
+            ≡ receipts_played self.old ++ receipt ∷ []) }
         ensures called { IfOk result (λ receipt. receipt.entry.call ≡ call.now) }
         ensures err { OnErr result (self.new ≡ self.old) }
         ensures foreign { result ≢ Err CallFault.ForeignPass }

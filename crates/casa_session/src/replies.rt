@@ -48,10 +48,12 @@ impl Replies {
         desk: &mut D,
         writer: &mut W,
     ) -> Result<(), SessionFault>
-        ensures ok { OnOk result (Answers (line_call line.now) (D.answered desk.old) (D.answered desk.new)
+        ensures ok { OnOk result (Answers (line_call line.now) (D.answered desk.old)
+            (D.answered desk.new)
             self.old self.new (W.contents writer.old) (W.contents writer.new)) }
         ensures err { IfErr result (λ fault. Fails D.may_be_foreign fault (line_call line.now)
-            (D.answered desk.old) (D.answered desk.new) self.old (W.contents writer.old) (W.contents writer.new)) }
+            (D.answered desk.old) (D.answered desk.new) self.old (W.contents writer.old)
+            (W.contents writer.new)) }
     {
         if let Err(fault) = self.gather(alloc, line, desk) {
             return Err(self.end(writer, fault));
@@ -97,9 +99,11 @@ impl Replies {
 
     /// Writes what was gathered.
     pub fn write<W: Write>(&mut self, writer: &mut W) -> Result<(), SessionFault>
-        ensures ok { OnOk result (Appends (W.contents writer.old) (W.contents writer.new) self.old.bytes.items) }
+        ensures ok { OnOk result (Appends (W.contents writer.old)
+            (W.contents writer.new) self.old.bytes.items) }
         ensures none { OnOk result (self.new.bytes.items ≡ []) }
-        ensures count { OnOk result (self.new.written ≡ saturating_count (self.old.written + length self.old.bytes.items)) }
+        ensures count { OnOk result (self.new.written
+            ≡ saturating_count (self.old.written + length self.old.bytes.items)) }
         ensures err { IfErr result (λ fault.
             IsUnwritten fault self.old (W.contents writer.old) (W.contents writer.new)) }
     {

@@ -23,7 +23,8 @@ pub fn run<R: Read, W: Write, D: Desk>(
 ) -> Result<u64, SessionFault>
     ensures lawful { D.lawful (D.answered desk.new) }
     ensures ends { Ends D.may_be_foreign result
-        (R.remaining reader.old) (R.remaining reader.new) (D.answered desk.old) (D.answered desk.new)
+        (R.remaining reader.old) (R.remaining reader.new) (D.answered desk.old)
+        (D.answered desk.new)
         (W.contents writer.old) (W.contents writer.new) }
 {
     let mut lines = LineReader::new();

@@ -22,7 +22,8 @@ struct Refusing {
 }
 
 fn refused(alloc: Global, call: &Call, position: usize) -> Result<Receipt<Call, Reply>, AllocError>
-    ensures { IfOk result (λ r. r ≡ receipt position (entry 0 call.now (Reply.Refused Refusal.Late))) }
+    ensures { IfOk result (λ r. r ≡ receipt position
+        (entry 0 call.now (Reply.Refused Refusal.Late))) }
 {
     let entry = Entry {
         desk: 0,

@@ -207,7 +207,8 @@ pub fn block(grid: &SharedGrid, blocked: &mut Blocked, at: Moment) -> Option<usi
     requires few { AllByRecursion (λ n. n < usize.MAX) blocked.old.counts }
     requires room { IsProfile grid.now → sum blocked.old.counts < blocked.old.room }
     ensures slot { result ≡ window_of (slots grid.now) at }
-    ensures counts { blocked.new.counts ≡ raised blocked.old.counts (window_of (slots grid.now) at) }
+    ensures counts { blocked.new.counts ≡ raised blocked.old.counts
+        (window_of (slots grid.now) at) }
     ensures room { blocked.old.room ≤ blocked.new.room }
     ensures valid { IsProfile grid.now }
 {
@@ -220,7 +221,8 @@ pub fn block(grid: &SharedGrid, blocked: &mut Blocked, at: Moment) -> Option<usi
 /// then no number changes. The room stays as it is.
 pub fn unblock(grid: &SharedGrid, blocked: &mut Blocked, at: Moment) -> Option<usize>
     ensures slot { result ≡ window_of (slots grid.now) at }
-    ensures counts { blocked.new.counts ≡ lowered blocked.old.counts (window_of (slots grid.now) at) }
+    ensures counts { blocked.new.counts ≡ lowered blocked.old.counts
+        (window_of (slots grid.now) at) }
     ensures room { blocked.new.room ≡ blocked.old.room }
     ensures valid { IsProfile grid.now }
 {
@@ -234,7 +236,8 @@ fn raise_all(grid: &SharedGrid, blocked: &mut Blocked, issued: &[Seat])
     requires times { All HoldsTime issued.now }
     requires none { blocked.old.counts ≡ replicate (length (slots grid.now)) 0 }
     requires room { length issued.now ≤ blocked.old.room }
-    ensures counts { blocked.new.counts ≡ counts (slots grid.now) (times_in (map issued_in issued.now)) }
+    ensures counts { blocked.new.counts ≡ counts (slots grid.now)
+        (times_in (map issued_in issued.now)) }
     ensures room { blocked.old.room ≤ blocked.new.room }
 {
     for i in 0..issued.len() {
@@ -253,7 +256,8 @@ pub fn counted(
 ) -> Result<Blocked, AllocError>
     requires times { All HoldsTime issued.now }
     requires room { length issued.now ≤ room }
-    ensures counts { IfOk result (λ blocked. blocked.counts ≡ counts (slots grid.now) (times_in (map issued_in issued.now))) }
+    ensures counts { IfOk result (λ blocked. blocked.counts
+        ≡ counts (slots grid.now) (times_in (map issued_in issued.now))) }
     ensures room { IfOk result (λ blocked. room ≤ blocked.room) }
 {
     let _periods = grid.get().profile().periods();

@@ -95,7 +95,8 @@ fn walk_from(grid: &SharedGrid, blocked: &Blocked, competitors: &mut [Seat], fro
     requires within { from ≤ length competitors.old }
     requires follow { FollowFirst (slots grid.now) blocked.now.counts (drop from competitors.old) }
     ensures { competitors.new ≡
-        followed (slots grid.now) blocked.now.counts (take from competitors.old) (comps_in (drop from competitors.old)) }
+        followed (slots grid.now) blocked.now.counts (take from competitors.old)
+        (comps_in (drop from competitors.old)) }
 {
     let mut low = low_behind(blocked.slots(), &competitors[..from]);
     for i in from..competitors.len() {
@@ -122,9 +123,11 @@ pub fn walk_on(
 )
     requires within { from ≤ count }
     requires count { count ≤ vec_len seats.old }
-    requires follow { FollowFirst (slots grid.now) blocked.now.counts (drop from (take count seats.old.items)) }
+    requires follow { FollowFirst (slots grid.now) blocked.now.counts
+        (drop from (take count seats.old.items)) }
     ensures front { take count seats.new.items ≡ followed (slots grid.now) blocked.now.counts
-        (take from (take count seats.old.items)) (comps_in (drop from (take count seats.old.items))) }
+        (take from (take count seats.old.items))
+        (comps_in (drop from (take count seats.old.items))) }
     ensures rest { drop count seats.new.items ≡ drop count seats.old.items }
     ensures len { vec_len seats.new ≡ vec_len seats.old }
 {
@@ -134,7 +137,8 @@ pub fn walk_on(
 
 /// As `walk_all`, where all of these are competitors.
 fn walk_each(grid: &SharedGrid, blocked: &Blocked, competitors: &mut [Seat])
-    ensures { competitors.new ≡ walked (slots grid.now) blocked.now.counts 0 (comps_in competitors.old) }
+    ensures { competitors.new ≡ walked (slots grid.now) blocked.now.counts 0
+        (comps_in competitors.old) }
 {
     let mut low = 0;
     for i in 0..competitors.len() {

@@ -35,7 +35,8 @@ fn make_way(list: &mut SlotList, key: &Key, was: &Option<Stance>, stance: &Stanc
     requires ordered { AreInOrder list.old.flights }
     ensures ungoverned { governed_place list.new key.now ≡ None }
     ensures free { (eto : ℕ) → stance.now ≡ Stance.Forced eto → stance_of list.new key.now ≡ None }
-    ensures same { with_flight list.new key.now (Some stance.now) ≡ with_flight list.old key.now (Some stance.now) }
+    ensures same { with_flight list.new key.now (Some stance.now)
+        ≡ with_flight list.old key.now (Some stance.now) }
 {
     match (was, stance) {
         (Some(Stance::Forced { .. }), Stance::Competing { .. } | Stance::Issued { .. }) => {}

@@ -15,7 +15,8 @@ use std::alloc::AllocError;
 /// `AllocError` where there is no memory for that.
 fn time_anew(list: &SlotList, comp: &Comp) -> Result<Moment, AllocError>
     ensures { IfOk result (λ time. time ≡
-        cto_as (with_competitor list.now comp.now.key comp.now.eto) comp.now.key (Stance.Competing comp.now.eto)) }
+        cto_as (with_competitor list.now comp.now.key comp.now.eto) comp.now.key
+        (Stance.Competing comp.now.eto)) }
 {
     let mut rest = list.try_clone()?;
     let stance = rest.stance_of(&comp.key);
@@ -29,7 +30,8 @@ fn time_anew(list: &SlotList, comp: &Comp) -> Result<Moment, AllocError>
 /// memory for that.
 pub fn time_there(list: &SlotList, comp: &Comp) -> Result<Moment, AllocError>
     ensures { IfOk result (λ time. time ≡
-        cto_as (with_competitor list.now comp.now.key comp.now.eto) comp.now.key (Stance.Competing comp.now.eto)) }
+        cto_as (with_competitor list.now comp.now.key comp.now.eto) comp.now.key
+        (Stance.Competing comp.now.eto)) }
 {
     let Some(stance) = list.stance_of(&comp.key) else {
         return Ok(list.would_pass(comp));

@@ -64,7 +64,8 @@ type Found<V> = BTreeMap<Key, (Moment, V)>;
 /// What the flight of a version answers, with the version, if there is a row. `AllocError` where there is no memory for
 /// the version.
 fn answered<V: Version>(question: &Question, version: &V) -> Result<Option<(Moment, V)>, AllocError>
-    ensures { IfOk result (λ found. found ≡ answer_with_version V.item_of question.now version.now) }
+    ensures { IfOk result (λ found. found
+        ≡ answer_with_version V.item_of question.now version.now) }
 {
     let Some(row) = row_in(version.item()) else {
         return Ok(None);
@@ -137,7 +138,8 @@ impl<V: Version> Base<OfFlight, V, FlightIndex> {
 
     /// The passings of all flights.
     fn passings(&self) -> &Passings
-        ensures passings { HavePassings (row_where V.item_of (at_name self.now)) (passings_at result.now.entries) }
+        ensures passings { HavePassings (row_where V.item_of (at_name self.now))
+            (passings_at result.now.entries) }
         ensures ordered { AreInOrder self.now }
     {
         &self.index.passings
@@ -149,7 +151,8 @@ impl<V: Version> Shared<OfFlight, V, FlightIndex> {
     /// memory for the version.
     fn answer(&self, question: &Question, key: &Key) -> Result<Option<(Moment, V)>, AllocError>
         ensures { IfOk result (λ found.
-            found ≡ option_and_then (answer_with_version V.item_of question.now) (at_name self.now key.now)) }
+            found ≡ option_and_then (answer_with_version V.item_of question.now)
+            (at_name self.now key.now)) }
     {
         match self.get(key) {
             Some(version) => answered(question, version),
@@ -203,8 +206,10 @@ impl<V: Version> Shared<OfFlight, V, FlightIndex> {
         there: &BTreeSet<Passing>,
     ) -> Result<(), AllocError>
         requires { regulation.now.start ≤ end }
-        ensures { OnOk result (HasGathered (answer_with_version V.item_of (Over regulation.now)) self.now
-            (names (in_span regulation.now end there.now.keys)) found.old.entries found.new.entries) }
+        ensures { OnOk result (HasGathered
+            (answer_with_version V.item_of (Over regulation.now)) self.now
+            (names (in_span regulation.now end there.now.keys)) found.old.entries
+            found.new.entries) }
     {
         let start = Passing {
             eto: regulation.start,
@@ -232,8 +237,10 @@ impl<V: Version> Shared<OfFlight, V, FlightIndex> {
         passings: &Passings,
     ) -> Result<(), AllocError>
         requires { regulation.now.start ≤ end }
-        ensures { OnOk result (HasGathered (answer_with_version V.item_of (Over regulation.now)) self.now
-            (names (in_span regulation.now end (passings_at passings.now.entries regulation.now.loc)))
+        ensures { OnOk result (HasGathered
+            (answer_with_version V.item_of (Over regulation.now)) self.now
+            (names (in_span regulation.now end
+            (passings_at passings.now.entries regulation.now.loc)))
             found.old.entries found.new.entries) }
     {
         match passings.get(&regulation.loc) {
@@ -244,7 +251,8 @@ impl<V: Version> Shared<OfFlight, V, FlightIndex> {
 
     /// The flights to issue at this time, with their off-block times.
     fn found_due(&self, alloc: Global, at: Moment) -> Result<Found<V>, AllocError>
-        ensures { IfOk result (λ found. found.entries ≡ filter_map_values (answer_with_version V.item_of (Due at)) self.now) }
+        ensures { IfOk result (λ found. found.entries
+            ≡ filter_map_values (answer_with_version V.item_of (Due at)) self.now) }
     {
         let mut found = BTreeMap::new(alloc);
         self.note_changed(&mut found, &Question::Due(at), &self.recent)?;
@@ -268,7 +276,8 @@ impl<V: Version> Shared<OfFlight, V, FlightIndex> {
     /// The flights that are subject to a regulation, with their times over.
     fn found_over(&self, alloc: Global, regulation: &Regulation) -> Result<Found<V>, AllocError>
         ensures found { IfOk result (λ found.
-            found.entries ≡ filter_map_values (answer_with_version V.item_of (Over regulation.now)) self.now) }
+            found.entries ≡ filter_map_values
+            (answer_with_version V.item_of (Over regulation.now)) self.now) }
         ensures ordered { OnOk result (AreInOrder self.now) }
     {
         let end = later(regulation.start, regulation.end);
@@ -288,7 +297,8 @@ impl<V: Version> Shared<OfFlight, V, FlightIndex> {
     ) -> Result<BTreeMap<Comp, V>, AllocError>
         ensures over { IfOk result (λ flights. keys_of flights.entries ≡
             flights_over (λ (row : Row). true) regulation.now (rows_of V.item_of self.now)) }
-        ensures rows { IfOk result (λ flights. HaveRows V.item_of (rows_of V.item_of self.now) flights.entries) }
+        ensures rows { IfOk result (λ flights. HaveRows V.item_of
+            (rows_of V.item_of self.now) flights.entries) }
     {
         let found = self.found_over(alloc, regulation)?;
         in_order(alloc, found)
@@ -301,7 +311,8 @@ fn answer_named<V: Version>(
     question: &Question,
     version: &Option<V>,
 ) -> Result<Option<(Moment, V)>, AllocError>
-    ensures { IfOk result (λ found. found ≡ option_and_then (answer_with_version V.item_of question.now) version.now) }
+    ensures { IfOk result (λ found. found
+        ≡ option_and_then (answer_with_version V.item_of question.now) version.now) }
 {
     match version {
         Some(version) => answered(question, version),
@@ -336,7 +347,8 @@ pub fn flights_over_named<V: Version>(
 ) -> Result<BTreeMap<Comp, V>, AllocError>
     ensures over { IfOk result (λ flights. keys_of flights.entries ≡
         flights_over (λ (row : Row). true) regulation.now (rows_named V.item_of rows.now)) }
-    ensures rows { IfOk result (λ flights. HaveRows V.item_of (rows_named V.item_of rows.now) flights.entries) }
+    ensures rows { IfOk result (λ flights. HaveRows V.item_of
+        (rows_named V.item_of rows.now) flights.entries) }
 {
     let mut flights = BTreeMap::new(alloc);
     for (key, value) in rows.iter() {

@@ -106,9 +106,11 @@ impl FlightIndex {
         ensures stays { (at : Text → Option Row) →
             IsIndexed at self.old.departures.keys (passings_at self.old.passings.entries) →
             IsIndexed at self.new.departures.keys (passings_at self.new.passings.entries) }
-        ensures added { OnOk result ((at : Text → Option Row) → at key ≡ option_copied earlier.entry →
+        ensures added { OnOk result ((at : Text → Option Row)
+            → at key ≡ option_copied earlier.entry →
             IsIndexed at self.old.departures.keys (passings_at self.old.passings.entries) →
-            IsIndexed (where_put at key (Some row.now)) self.new.departures.keys (passings_at self.new.passings.entries)) }
+            IsIndexed (where_put at key (Some row.now)) self.new.departures.keys
+            (passings_at self.new.passings.entries)) }
     {
         add_departure(&mut self.departures, key, row)?;
         if !stands_with(earlier, &row.plan) {
@@ -137,7 +139,8 @@ impl FlightIndex {
 
 /// Whether a flight stands with this plan.
 fn stands_with(row: Option<&Row>, plan: &Plan) -> bool
-    ensures { result ≡ option_map_or (λ r. plan_eq r.plan plan.now) (option_copied row.entry) false }
+    ensures { result ≡ option_map_or (λ r. plan_eq r.plan plan.now)
+        (option_copied row.entry) false }
 {
     match row {
         Some(row) => row.plan == *plan,
@@ -199,7 +202,8 @@ fn add_passing(
 ) -> Result<(), AllocError>
     ensures stays { HaveMore (passings_at passings.old.entries) (passings_at passings.new.entries) }
     ensures added { OnOk result
-        (has_passing (passings_at passings.new.entries crossing.now.loc) (passing key crossing.now) ≡ true) }
+        (has_passing (passings_at passings.new.entries crossing.now.loc) (passing key crossing.now)
+        ≡ true) }
 {
     let passing = Passing {
         eto: crossing.eto,
@@ -238,7 +242,8 @@ fn add_passings(
 /// Takes out the passing at a crossing of a flight, unless the flight crosses there and then now too.
 fn take_passing(passings: &mut Passings, key: Key, crossing: &Crossing, present: &[Crossing])
     ensures { (other : Text) (via : List Crossing) → (other ≡ key → via ≡ present.now) →
-        HaveVia (passings_at passings.old.entries) other via → HaveVia (passings_at passings.new.entries) other via }
+        HaveVia (passings_at passings.old.entries) other via
+        → HaveVia (passings_at passings.new.entries) other via }
 {
     if present.contains(crossing) {
         return;
@@ -254,7 +259,8 @@ fn take_passing(passings: &mut Passings, key: Key, crossing: &Crossing, present:
 /// Takes out the passings at these crossings of a flight, unless the flight has them now too.
 fn take_passings(passings: &mut Passings, key: Key, gone: &[Crossing], present: &[Crossing])
     ensures { (other : Text) (via : List Crossing) → (other ≡ key → via ≡ present.now) →
-        HaveVia (passings_at passings.old.entries) other via → HaveVia (passings_at passings.new.entries) other via }
+        HaveVia (passings_at passings.old.entries) other via
+        → HaveVia (passings_at passings.new.entries) other via }
 {
     for crossing in gone {
         take_passing(passings, key, crossing, present);

@@ -22,16 +22,19 @@ pub trait Index<Kind, V>: Drop {
     /// there is no memory for it.
     fn note(&mut self, name: &Name<Kind>, value: &V, earlier: Option<&V>) -> Result<(), AllocError>
         ensures stays { (at : Text → Option V) → covers self.old at → covers self.new at }
-        ensures noted { OnOk result ((at : Text → Option V) → at name.now ≡ option_copied earlier.entry →
+        ensures noted { OnOk result ((at : Text → Option V)
+            → at name.now ≡ option_copied earlier.entry →
             covers self.old at → covers self.new (where_put at name.now (Some value.now))) };
 
     /// Takes out what only the value needed that is gone from under this name, where `present` stands now. It may leave
     /// more in.
     fn forget(&mut self, name: &Name<Kind>, gone: &V, present: Option<&V>)
-        ensures { (at : Text → Option V) → at name.now ≡ option_copied present.entry → covers self.old at → covers self.new at };
+        ensures { (at : Text → Option V) → at name.now ≡ option_copied present.entry
+            → covers self.old at → covers self.new at };
 
     /// Where less has to be found, the index need not change.
-    ghost fewer: { (index : Self) (at : Text → Option V) (name : Text) → covers index at → covers index (where_put at name None) };
+    ghost fewer: { (index : Self) (at : Text → Option V) (name : Text) → covers index at
+        → covers index (where_put at name None) };
 }
 
 /// No index, for values that are only looked up by their names.

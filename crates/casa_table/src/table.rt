@@ -116,7 +116,8 @@ impl<Kind: Copy, V: Version, I: Index<Kind, V>> Base<Kind, V, I> {
 
     /// Moves the first change over to the values.
     fn absorb_first(&mut self, changes: &mut Changes<Kind, V>) -> Result<(), AllocError>
-        ensures same { with_changes changes.new.entries self.new ≡ with_changes changes.old.entries self.old }
+        ensures same { with_changes changes.new.entries self.new
+            ≡ with_changes changes.old.entries self.old }
         ensures fewer { OnOk result (length changes.new.entries ≡ length changes.old.entries - 1) }
         ensures ordered { AreInOrder self.old → AreInOrder self.new }
         ensures changes_ordered { AreInOrder changes.old.entries → AreInOrder changes.new.entries }
@@ -132,7 +133,8 @@ impl<Kind: Copy, V: Version, I: Index<Kind, V>> Base<Kind, V, I> {
     /// Moves all changes over to the values. `AllocError` where there is no memory for one; what the changes lead to is
     /// then the same.
     fn absorb(&mut self, changes: &mut Changes<Kind, V>) -> Result<(), AllocError>
-        ensures same { with_changes changes.new.entries self.new ≡ with_changes changes.old.entries self.old }
+        ensures same { with_changes changes.new.entries self.new
+            ≡ with_changes changes.old.entries self.old }
         ensures done { OnOk result (changes.new.entries ≡ []) }
         ensures ordered { AreInOrder self.old → AreInOrder self.new }
         ensures changes_ordered { AreInOrder changes.old.entries → AreInOrder changes.new.entries }
@@ -331,9 +333,11 @@ fn absorb_alone<Kind: Copy, V: Version, I: Index<Kind, V>>(
     base: &mut Arc<Base<Kind, V, I>>,
     changes: &mut Arc<Changes<Kind, V>>,
 ) -> Result<(), AllocError>
-    ensures same { with_changes (arc_value changes.new).entries (arc_value base.new) ≡ with_changes (arc_value changes.old).entries (arc_value base.old) }
+    ensures same { with_changes (arc_value changes.new).entries (arc_value base.new)
+        ≡ with_changes (arc_value changes.old).entries (arc_value base.old) }
     ensures ordered { AreInOrder (arc_value base.old) → AreInOrder (arc_value base.new) }
-    ensures changes_ordered { AreInOrder (arc_value changes.old).entries → AreInOrder (arc_value changes.new).entries }
+    ensures changes_ordered { AreInOrder (arc_value changes.old).entries
+        → AreInOrder (arc_value changes.new).entries }
 {
     if let Some(base) = Arc::get_mut(base) {
         if let Some(changes) = Arc::get_mut(changes) {
@@ -351,7 +355,9 @@ fn keep<Kind: Copy, V: Version>(
 ) -> Result<(), AllocError>
     ensures ordered { AreInOrder changes.old.entries → AreInOrder changes.new.entries }
     ensures kept { OnOk result ((q : Text) →
-        at_name changes.new.entries q ≡ option_or (at_name changes.old.entries q) (if same_text name.now q then Some change.now else None)) }
+        at_name changes.new.entries q
+        ≡ option_or (at_name changes.old.entries q)
+        (if same_text name.now q then Some change.now else None)) }
 {
     if changes.contains_key(name) {
         return Ok(());
@@ -372,7 +378,8 @@ fn keep_others<Kind: Copy, V: Version>(
     ensures were_ordered { AreInOrder changes.old.entries }
     ensures ordered { AreInOrder changes.new.entries }
     ensures kept { OnOk result ((q : Text) →
-        at_name changes.new.entries q ≡ option_or (at_name changes.old.entries q) (at_name earlier.now.entries q)) }
+        at_name changes.new.entries q
+        ≡ option_or (at_name changes.old.entries q) (at_name earlier.now.entries q)) }
 {
     // That the names ascend is known of a map from its length.
     let _count = changes.len();

@@ -14,9 +14,11 @@ use std::collections::BTreeMap;
 
 /// Whether two versions are the same, or there is none on either side.
 pub fn same_version<V: Version>(one: Option<&V>, other: Option<&V>) -> bool
-    ensures same { result ≡ same_version V.is_same (option_copied one.entry) (option_copied other.entry) }
+    ensures same { result ≡ same_version V.is_same (option_copied one.entry)
+        (option_copied other.entry) }
     ensures shows { IsTrue result →
-        option_map V.item_of (option_copied one.entry) ≡ option_map V.item_of (option_copied other.entry) }
+        option_map V.item_of (option_copied one.entry)
+        ≡ option_map V.item_of (option_copied other.entry) }
 {
     match (one, other) {
         (None, None) => true,
@@ -31,9 +33,11 @@ fn same_at<Kind: Copy, V: Version, I: Index<Kind, V>>(
     shared: &Shared<Kind, V, I>,
     name: &Name<Kind>,
 ) -> bool
-    ensures same { result ≡ same_version V.is_same (at_name table.now.entries name.now) (at_name shared.now name.now) }
+    ensures same { result ≡ same_version V.is_same (at_name table.now.entries name.now)
+        (at_name shared.now name.now) }
     ensures shows { IsTrue result →
-        option_map V.item_of (at_name table.now.entries name.now) ≡ option_map V.item_of (at_name shared.now name.now) }
+        option_map V.item_of (at_name table.now.entries name.now)
+        ≡ option_map V.item_of (at_name shared.now name.now) }
 {
     same_version(table.get(name), shared.get(name))
 }
@@ -47,9 +51,11 @@ fn same_under<Kind: Copy, V: Version, I: Index<Kind, V>, X>(
     ensures same { IsTrue result → (q : Text) (x : X) → at_name entries.now.entries q ≡ Some x →
         same_version V.is_same (at_name table.now.entries q) (at_name shared.now q) ≡ true }
     ensures shows { IsTrue result → (q : Text) (x : X) → at_name entries.now.entries q ≡ Some x →
-        option_map V.item_of (at_name table.now.entries q) ≡ option_map V.item_of (at_name shared.now q) }
+        option_map V.item_of (at_name table.now.entries q)
+        ≡ option_map V.item_of (at_name shared.now q) }
     ensures every { ((q : Text) →
-        same_version V.is_same (at_name table.now.entries q) (at_name shared.now q) ≡ true) → IsTrue result }
+        same_version V.is_same (at_name table.now.entries q) (at_name shared.now q) ≡ true)
+        → IsTrue result }
 {
     for (name, _) in entries {
         if !same_at(table, shared, name) {
@@ -64,7 +70,8 @@ fn same_values<Kind, V: Version>(ours: &Values<Kind, V>, theirs: &Values<Kind, V
     ensures same { IsTrue result → (q : Text) →
         same_version V.is_same (at_name ours.now.entries q) (at_name theirs.now.entries q) ≡ true }
     ensures shows { IsTrue result → (q : Text) →
-        option_map V.item_of (at_name ours.now.entries q) ≡ option_map V.item_of (at_name theirs.now.entries q) }
+        option_map V.item_of (at_name ours.now.entries q)
+        ≡ option_map V.item_of (at_name theirs.now.entries q) }
 {
     let mut others = theirs.iter();
     for (name, version) in ours {
@@ -89,7 +96,8 @@ pub fn same_all<Kind: Copy, V: Version, I: Index<Kind, V>>(
     ensures same { IsTrue result ↔ ((q : Text) →
         same_version V.is_same (at_name table.now.entries q) (at_name shared.now q) ≡ true) }
     ensures shows { IsTrue result → (q : Text) →
-        option_map V.item_of (at_name table.now.entries q) ≡ option_map V.item_of (at_name shared.now q) }
+        option_map V.item_of (at_name table.now.entries q)
+        ≡ option_map V.item_of (at_name shared.now q) }
 {
     let (ours, our_changes) = table.layers();
     let (theirs, their_changes) = shared.layers();

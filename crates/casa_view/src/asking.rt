@@ -20,7 +20,8 @@ impl<V: Version> View<V> {
     /// view holds. Of a view of all rows it looks at those alone that wait and are due, or that changed of late.
     /// `AllocError` where there is no memory for the keys.
     pub fn due(&self, alloc: Global, at: Moment) -> Result<Vec<Key>, AllocError>
-        ensures due { IfOk result (λ keys. keys.items ≡ due_keys at (rows_shown V.item_of self.now)) }
+        ensures due { IfOk result (λ keys. keys.items
+            ≡ due_keys at (rows_shown V.item_of self.now)) }
         ensures ordered { HasRowsInOrder self.now }
     {
         self.rows.in_order();

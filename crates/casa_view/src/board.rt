@@ -98,7 +98,8 @@ impl<K: Store> Board<K> {
 
     /// The row of the flight with this key.
     pub fn row(&self, key: &Key) -> Option<&Row>
-        ensures { option_copied result ≡ row_of (⟦<Board<K> as World>⟧.state self.now).state key.now }
+        ensures { option_copied result
+            ≡ row_of (⟦<Board<K> as World>⟧.state self.now).state key.now }
     {
         row_in(self.items.rows.get(key)?.item())
     }

@@ -89,7 +89,8 @@ impl Change {
     /// Writes a flight's row, or that there is none. `AllocError` where there is no memory for it; nothing has changed then.
     pub fn set_row(&mut self, key: Key, row: Option<Row>) -> Result<(), AllocError>
         ensures unchanged { OnErr result (self.new ≡ self.old) }
-        ensures written { OnOk result (self.new ≡ record self.old { rows = put self.old.rows key row }) }
+        ensures written { OnOk result (self.new
+            ≡ record self.old { rows = put self.old.rows key row }) }
     {
         let row = WrittenRow::new(self.alloc, key, row)?;
         self.rows.put(key, row)
@@ -99,7 +100,8 @@ impl Change {
     /// then.
     pub fn set_list(&mut self, id: RegId, list: Option<SharedList>) -> Result<(), AllocError>
         ensures unchanged { OnErr result (self.new ≡ self.old) }
-        ensures written { OnOk result (self.new ≡ record self.old { lists = put self.old.lists id list }) }
+        ensures written { OnOk result (self.new
+            ≡ record self.old { lists = put self.old.lists id list }) }
     {
         self.lists.put(id, list)
     }

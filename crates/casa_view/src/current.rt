@@ -11,7 +11,8 @@ use casa_table::{Index, Table, Version, same_all, same_named};
 /// Whether a version is the one that a view holds, if it holds one.
 fn same_held<V: Version>(version: &V, held: &Option<V>) -> bool
     ensures same { result ≡ same_held V.is_same version.now held.now }
-    ensures shows { IsTrue result → MatchOption held.now (Unit {0}) (λ w. V.item_of version.now ≡ V.item_of w) }
+    ensures shows { IsTrue result → MatchOption held.now (Unit {0})
+        (λ w. V.item_of version.now ≡ V.item_of w) }
 {
     match held {
         Some(held) => version.same(held),

@@ -75,7 +75,8 @@ fn extends(catalogue: &Item, id: &RegId, profile: &Profile) -> bool
 
 /// The plan of a flight with this row, if there is one.
 fn plan_of(row: Option<&Row>) -> Option<&Plan>
-    ensures { option_copied result ≡ option_map (λ (r : FlightRow). r.plan) (option_copied row.entry) }
+    ensures { option_copied result
+        ≡ option_map (λ (r : FlightRow). r.plan) (option_copied row.entry) }
 {
     Some(&row?.plan)
 }
@@ -106,14 +107,16 @@ impl<V: Version> Items<V> {
         version: Option<&V>,
     ) -> Result<(), AllocError>
         requires { option_copied version ≡ at_name (versions self.now).rows key.now }
-        ensures { OnOk result (SeesAlso (versions self.now).rows (same_text key.now) noted.old noted.new) }
+        ensures { OnOk result (SeesAlso (versions self.now).rows
+            (same_text key.now) noted.old noted.new) }
     {
         noted.put(*key, version_again(version)?)
     }
 
     /// Notes the list of a regulation.
     fn see_list(&self, noted: &mut Noted<OfRegulation, V>, id: &RegId) -> Result<(), AllocError>
-        ensures { OnOk result (SeesAlso (versions self.now).lists (same_text id.now) noted.old noted.new) }
+        ensures { OnOk result (SeesAlso (versions self.now).lists
+            (same_text id.now) noted.old noted.new) }
     {
         noted.put(*id, version_again(self.lists.get(id))?)
     }
@@ -174,7 +177,8 @@ impl<V: Version> Items<V> {
         new: Option<&Plan>,
     ) -> Result<Noted<OfRegulation, V>, AllocError>
         ensures { IfOk result (λ noted. Sees (versions self.now).lists
-            (meets_either (regulations_of (V.item_of self.now.catalogue)) (option_copied old.entry) (option_copied new.entry))
+            (meets_either (regulations_of (V.item_of self.now.catalogue)) (option_copied old.entry)
+            (option_copied new.entry))
             noted) }
     {
         let mut noted = Few::new(alloc);
@@ -233,7 +237,8 @@ impl<V: Version> Items<V> {
 
     /// What is read as a flight is filed.
     fn file_view(&self, alloc: Global, plan: &Plan) -> Result<View<V>, AllocError>
-        ensures { IfOk result (IsTaken (versions self.now) (name_test true true (same_text plan.now.key)
+        ensures { IfOk result (IsTaken (versions self.now)
+            (name_test true true (same_text plan.now.key)
             (meets_either (regulations_of (V.item_of self.now.catalogue)) None (Some plan.now)))) }
     {
         let key = plan.key();
@@ -262,7 +267,8 @@ impl<V: Version> Items<V> {
 
     /// The catalogue and the list of a regulation.
     fn regulation_view(&self, alloc: Global, id: &RegId) -> Result<View<V>, AllocError>
-        ensures { IfOk result (IsTaken (versions self.now) (name_test false true (λ q. false) (same_text id.now))) }
+        ensures { IfOk result (IsTaken (versions self.now)
+            (name_test false true (λ q. false) (same_text id.now))) }
     {
         let lists = self.one_list(alloc, Some(*id))?;
         let none = Few::new(alloc);
@@ -271,7 +277,8 @@ impl<V: Version> Items<V> {
 
     /// What it reads to show a flight.
     fn show_view(&self, alloc: Global, key: &Key) -> Result<View<V>, AllocError>
-        ensures { IfOk result (IsTaken (versions self.now) (name_test false false (same_text key.now)
+        ensures { IfOk result (IsTaken (versions self.now)
+            (name_test false false (same_text key.now)
             (is_of (governing_at V.item_of (versions self.now) key.now)))) }
     {
         let version = self.rows.get(key);
@@ -287,7 +294,8 @@ impl<V: Version> Items<V> {
         lists: &mut Noted<OfRegulation, V>,
         key: &Key,
     ) -> Result<(), AllocError>
-        ensures rows { OnOk result (SeesAlso (versions self.now).rows (same_text key.now) rows.old rows.new) }
+        ensures rows { OnOk result (SeesAlso (versions self.now).rows
+            (same_text key.now) rows.old rows.new) }
         ensures lists { OnOk result (SeesAlso (versions self.now).lists
             (is_of (governing_at V.item_of (versions self.now) key.now))
             lists.old lists.new) }
@@ -309,7 +317,8 @@ impl<V: Version> Items<V> {
             (λ q. is_forced stance.now && same_text key.now q)
             rows.old rows.new) }
         ensures lists { OnOk result (SeesAlso (versions self.now).lists
-            (λ q. is_forced stance.now && is_of (governing_at V.item_of (versions self.now) key.now) q)
+            (λ q. is_forced stance.now
+            && is_of (governing_at V.item_of (versions self.now) key.now) q)
             lists.old lists.new) }
     {
         match stance {
@@ -329,7 +338,8 @@ impl<V: Version> Items<V> {
             (λ q. has_forced (λ k. same_text k q) (option_copied list.entry))
             rows.old rows.new) }
         ensures lists { OnOk result (SeesAlso (versions self.now).lists
-            (λ q. has_forced (λ k. is_of (governing_at V.item_of (versions self.now) k) q) (option_copied list.entry))
+            (λ q. has_forced (λ k. is_of (governing_at V.item_of (versions self.now) k) q)
+            (option_copied list.entry))
             lists.old lists.new) }
     {
         let Some(list) = list else {
@@ -345,7 +355,8 @@ impl<V: Version> Items<V> {
     fn list_view(&self, alloc: Global, id: &RegId) -> Result<View<V>, AllocError>
         ensures { IfOk result (IsTaken (versions self.now) (name_test false true
             (forced_at V.item_of (versions self.now) id.now)
-            (λ q. same_text id.now q || governs_forced_at V.item_of (versions self.now) id.now q))) }
+            (λ q. same_text id.now q
+            || governs_forced_at V.item_of (versions self.now) id.now q))) }
     {
         let mut rows = Few::new(alloc);
         let mut lists = Few::new(alloc);

@@ -97,7 +97,8 @@ impl<V: Version> View<V> {
     /// The row with this number among the rows of the view, which are numbered from 0 in the order of their keys. It goes
     /// through those before it.
     pub fn nth_row(&self, number: usize) -> Option<&Row>
-        ensures row { option_copied result ≡ slice_get (values_of (rows_shown V.item_of self.now)) number }
+        ensures row { option_copied result
+            ≡ slice_get (values_of (rows_shown V.item_of self.now)) number }
         ensures ordered { HasRowsInOrder self.now }
     {
         let (_, row) = self.rows().nth(number)?;

@@ -101,7 +101,8 @@ fn row_versions<K: Store>(
 ) -> Result<Changes<OfFlight, K::Version>, AllocError>
     requires { spare.entries ≡ [] }
     ensures versions { IfOk result (λ versions.
-        AreAlike (NextRow K.Version.item_of K.Version.stamp_of position) rows.now versions.entries) }
+        AreAlike (NextRow K.Version.item_of K.Version.stamp_of position) rows.now
+        versions.entries) }
     ensures ordered { IfOk result (λ versions. AreInOrder versions.entries) }
 {
     let mut versions = spare;
@@ -122,7 +123,8 @@ fn list_versions<K: Store>(
 ) -> Result<Changes<OfRegulation, K::Version>, AllocError>
     requires { spare.entries ≡ [] }
     ensures versions { IfOk result (λ versions.
-        AreAlike (NextList K.Version.item_of K.Version.stamp_of position) lists.now versions.entries) }
+        AreAlike (NextList K.Version.item_of K.Version.stamp_of position) lists.now
+        versions.entries) }
     ensures ordered { IfOk result (λ versions. AreInOrder versions.entries) }
 {
     let mut versions = spare;
@@ -174,7 +176,8 @@ pub(crate) fn fit<K: Store>(
 ) -> Result<(), AllocError>
     requires { IsInOrder (versions items.old) }
     ensures same { versions items.new ≡ versions items.old }
-    ensures room { OnOk result (IsApplied K.Version.item_of K.Version.stamp_of (says change.now) position (versions items.new) (next_versions items.new)) }
+    ensures room { OnOk result (IsApplied K.Version.item_of K.Version.stamp_of
+        (says change.now) position (versions items.new) (next_versions items.new)) }
 {
     items.next_clock = clock_version(alloc, store, position, change.clock())?;
     items.next_catalogue = catalogue_version(store, position, change.catalogue())?;

@@ -12,5 +12,6 @@ pub fn line_has_its_first_fault()
     ensures fault { (line : List ℕ) (fault : WireFault) →
         (line_call line ≡ Err fault) ↔ (first_fault (line_checks line) ≡ Some fault) }
     ensures call { (line : List ℕ) (call : Call) →
-        (line_call line ≡ Ok call) ↔ ((first_fault (line_checks line) ≡ None) × (said_call line ≡ Some call)) }
+        (line_call line ≡ Ok call)
+        ↔ ((first_fault (line_checks line) ≡ None) × (said_call line ≡ Some call)) }
 {}

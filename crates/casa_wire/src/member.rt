@@ -221,7 +221,8 @@ fn period_of(value: &Value) -> Option<Period>
 /// `None` where one of the values is no period.
 fn periods_of(alloc: Global, list: &Vec<Value>) -> Result<Option<Vec<Period>>, AllocError>
     ensures { IfOk result (λ found.
-        option_map (λ periods. periods.items) found ≡ all_of period_of (items_view list.now.items)) }
+        option_map (λ periods. periods.items) found
+        ≡ all_of period_of (items_view list.now.items)) }
 {
     let mut found = Vec::with_capacity(alloc, list.len())?;
     for value in list {

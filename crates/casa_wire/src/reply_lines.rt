@@ -28,7 +28,8 @@ const MESSAGE_ROOM: usize = 80;
 ///
 /// `AllocError` where there is no memory for it.
 pub fn reply_line(alloc: Global, receipt: &Receipt<Call, Reply>) -> Result<Vec<u8>, AllocError>
-    ensures { IfOk result (λ line. line.items ≡ reply_line receipt.now.entry.reply receipt.now.position) }
+    ensures { IfOk result (λ line. line.items
+        ≡ reply_line receipt.now.entry.reply receipt.now.position) }
 {
     let mut line = Vec::new(alloc);
     push_reply(&mut line, receipt)?;
@@ -105,7 +106,8 @@ fn push_reply_line(out: &mut Vec<u8>, reply: &Reply, position: usize) -> Result<
 }
 
 fn push_reply_text(out: &mut Vec<u8>, reply: &Reply, position: usize) -> Result<(), AllocError>
-    ensures { Writes result out.old.items out.new.items (compact_text (reply_data reply.now position)) }
+    ensures { Writes result out.old.items out.new.items
+        (compact_text (reply_data reply.now position)) }
 {
     match reply {
         Reply::Refused(refusal) => push_refusal(out, *refusal, position),
@@ -135,7 +137,8 @@ fn room_for(reply: &Reply) -> usize {
 }
 
 fn push_refusal(out: &mut Vec<u8>, refusal: Refusal, position: usize) -> Result<(), AllocError>
-    ensures { Writes result out.old.items out.new.items (compact_text (reply_data (Reply.Refused refusal) position)) }
+    ensures { Writes result out.old.items out.new.items
+        (compact_text (reply_data (Reply.Refused refusal) position)) }
 {
     push_parts(
         out,
@@ -171,7 +174,8 @@ fn push_answer_opening(out: &mut Vec<u8>, answer: &Answer) -> Result<(), AllocEr
 }
 
 fn push_messages(out: &mut Vec<u8>, messages: &[Message]) -> Result<(), AllocError>
-    ensures { Writes result out.old.items out.new.items (compact_text (messages_data messages.now)) }
+    ensures { Writes result out.old.items out.new.items
+        (compact_text (messages_data messages.now)) }
 {
     let Some((first, rest)) = messages.split_first() else {
         return push_text(out, b"[]");
@@ -196,7 +200,8 @@ fn push_message(
     before: &'static [u8],
     message: &Message,
 ) -> Result<(), AllocError>
-    ensures { Writes result out.old.items out.new.items (before.now ++ compact_text (message_data message.now)) }
+    ensures { Writes result out.old.items out.new.items
+        (before.now ++ compact_text (message_data message.now)) }
 {
     match message {
         Message::Sam(key, ctot, reg) => push_slot(out, before, "SAM", key, *ctot, reg),
@@ -325,7 +330,8 @@ fn push_more_rows(out: &mut Vec<u8>, rows: &[ListRow]) -> Result<(), AllocError>
 
 /// Writes a row, behind a text.
 fn push_row(out: &mut Vec<u8>, before: &'static [u8], row: &ListRow) -> Result<(), AllocError>
-    ensures { Writes result out.old.items out.new.items (before.now ++ compact_text (row_data row.now)) }
+    ensures { Writes result out.old.items out.new.items
+        (before.now ++ compact_text (row_data row.now)) }
 {
     push_parts(
         out,

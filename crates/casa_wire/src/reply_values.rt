@@ -51,7 +51,8 @@ pub fn too_long_line() -> &'static [u8]
 ///
 /// `AllocError` where there is no memory for it.
 pub fn reply_value(alloc: Global, receipt: &Receipt<Call, Reply>) -> Result<Value, AllocError>
-    ensures { IfOk result (λ value. view value ≡ reply_data receipt.now.entry.reply receipt.now.position) }
+    ensures { IfOk result (λ value. view value
+        ≡ reply_data receipt.now.entry.reply receipt.now.position) }
 {
     let position = receipt.position;
     match &receipt.entry.reply {

@@ -26,7 +26,8 @@ pub(crate) fn open_desks<W: Stamped>(
     ensures same_world { world_of room.new ≡ world_of room.old }
     ensures same_history { history_of room.new ≡ history_of room.old }
     ensures all { IfOk result (λ ds. vec_len ds ≡ most_workers) }
-    ensures scene { IfOk result (λ ds. IsRoomScene W.World W.Stamped.own room.new ds.items opening_scene) }
+    ensures scene { IfOk result (λ ds. IsRoomScene W.World W.Stamped.own room.new ds.items
+        opening_scene) }
 {
     let mut desks = Vec::new(alloc);
     for _ in 0..MAX_WORKERS {
@@ -55,7 +56,8 @@ where
     Direct: Gate<W>,
     requires seated { AreOfRoom W.World room.old desks.old }
     requires all { length desks.old ≡ most_workers }
-    ensures happens { OnOk result ((m : Scene W.Call W.Reply) → IsRoomScene W.World W.Stamped.own room.old desks.old m →
+    ensures happens { OnOk result ((m : Scene W.Call W.Reply)
+        → IsRoomScene W.World W.Stamped.own room.old desks.old m →
         (n : Scene W.Call W.Reply) × Happens (reply_after W.World) W.is_unmoved event.now m n
         × IsRoomScene W.World W.Stamped.own room.new desks.new n) }
 {
@@ -78,7 +80,8 @@ where
     Direct: Gate<W>,
     requires scene { IsRoomScene W.World W.Stamped.own room.old desks.old opening_scene }
     requires all { length desks.old ≡ most_workers }
-    ensures leads { OnOk result ((n : Scene W.Call W.Reply) × Leads (reply_after W.World) W.is_unmoved events.now opening_scene n
+    ensures leads { OnOk result ((n : Scene W.Call W.Reply)
+        × Leads (reply_after W.World) W.is_unmoved events.now opening_scene n
         × IsRoomScene W.World W.Stamped.own room.new desks.new n) }
 {
     for event in events {

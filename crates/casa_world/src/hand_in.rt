@@ -24,14 +24,19 @@ pub(crate) fn hand_in<W: Stamped>(
     requires admitted { Admits room.old pass.old }
     requires of_world { W.is_of (view_of prepared) (world_of room.old) }
     ensures desk { OnOk result (desk_of pass.new ≡ desk_of pass.old) }
-    ensures views { OnOk result ((v : W.View) → W.is_of v (world_of room.old) → W.is_of v (world_of room.new)) }
+    ensures views { OnOk result ((v : W.View) → W.is_of v (world_of room.old)
+        → W.is_of v (world_of room.new)) }
     ensures ties { OnOk result ((c : W.Call) (v : W.View) (before : List (Entry W.Call W.Reply)) →
-        Begins before (entries_of room.old) → W.is_of v (world_of room.old) → W.is_view_of before c v →
+        Begins before (entries_of room.old) → W.is_of v (world_of room.old)
+        → W.is_view_of before c v →
         W.is_tied v (world_of room.old) → W.is_tied v (world_of room.new)) }
     ensures grows { OnOk result (Begins (entries_of room.old) (entries_of room.new)) }
-    ensures tells { IfOk result (λ outcome. (before : List (Entry W.Call W.Reply)) → Begins before (entries_of room.old) →
-        W.is_view_of before (call_of prepared) (view_of prepared) → W.is_tied (view_of prepared) (world_of room.old) →
-        IsOutcomeOfCommit (W.is_unmoved before (call_of prepared) (entries_of room.old)) outcome (entries_of room.old)
+    ensures tells { IfOk result (λ outcome. (before : List (Entry W.Call W.Reply))
+        → Begins before (entries_of room.old) →
+        W.is_view_of before (call_of prepared) (view_of prepared)
+        → W.is_tied (view_of prepared) (world_of room.old) →
+        IsOutcomeOfCommit (W.is_unmoved before (call_of prepared) (entries_of room.old)) outcome
+        (entries_of room.old)
         (entry (desk_of pass.old) (call_of prepared) (reply_of prepared)) (entries_of room.new)) }
     ensures admitted { OnOk result (Admits room.new pass.new) }
     ensures others { OnOk result ((p : Pass W.Call W.Reply) → desk_of p ≢ desk_of pass.old →

@@ -10,5 +10,6 @@ ghost use Rattle.casa_world.specs.Scenes.{Scene, Leads};
 /// A list of events leads from a scene to one scene alone, so that one run comes of it.
 pub fn events_lead_to_one_scene()
     ensures { (events : List (Event Call)) (m n k : Scene Call Reply) →
-        Leads sequential_reply HasSameStamps events m n → Leads sequential_reply HasSameStamps events m k → n ≡ k }
+        Leads sequential_reply HasSameStamps events m n
+        → Leads sequential_reply HasSameStamps events m k → n ≡ k }
 {}

@@ -30,7 +30,8 @@ impl<K: Store> Run<Board<K>> {
     /// The board, as it stands after the history.
     pub fn state(&self) -> &Board<K>
         ensures same { result.now ≡ run_world self.now }
-        ensures stands { IsBoardAfter (run_history self.now) (⟦<Board<K> as World>⟧.state result.now) }
+        ensures stands { IsBoardAfter (run_history self.now)
+            (⟦<Board<K> as World>⟧.state result.now) }
     {
         board_of(&self.room)
     }
@@ -53,11 +54,15 @@ pub fn play<K: Store>(
     store: K,
     events: &[Event<Call>],
 ) -> Result<Run<Board<K>>, AllocError>
-    ensures run { IfOk result (λ run. IsRun sequential_reply HasSameStamps events.now (run_history run) (run_outcomes run)) }
+    ensures run { IfOk result (λ run. IsRun sequential_reply HasSameStamps events.now
+        (run_history run) (run_outcomes run)) }
     ensures sequential { IfOk result (λ run. IsSequential (run_history run)) }
-    ensures stands { IfOk result (λ run. IsBoardAfter (run_history run) (⟦<Board<K> as World>⟧.state (run_world run))) }
-    ensures committed { IfOk result (λ run. AreCommitted sequential_reply HasSameStamps events.now (run_history run)) }
-    ensures accepted { IfOk result (λ run. AreAtTheirPositions (run_history run) (run_outcomes run)) }
+    ensures stands { IfOk result (λ run. IsBoardAfter (run_history run)
+        (⟦<Board<K> as World>⟧.state (run_world run))) }
+    ensures committed { IfOk result (λ run. AreCommitted sequential_reply HasSameStamps events.now
+        (run_history run)) }
+    ensures accepted { IfOk result (λ run. AreAtTheirPositions (run_history run)
+        (run_outcomes run)) }
     ensures refused { IfOk result (λ run. RefusalsHaveCauses events.now (run_outcomes run)) }
 {
     let board = Board::new(alloc, store)?;

@@ -31,9 +31,11 @@ pub(crate) fn play_on<W: Stamped + Drop>(
 where
     Direct: Gate<W>,
     requires { W.state world ≡ W.opening }
-    ensures run { IfOk result (λ run. IsRun (reply_after W.World) W.is_unmoved events.now (run_history run) (run_outcomes run)) }
+    ensures run { IfOk result (λ run. IsRun (reply_after W.World) W.is_unmoved events.now
+        (run_history run) (run_outcomes run)) }
     ensures legal { IfOk result (λ run. IsLegal W.after W.reply W.opening (run_history run)) }
-    ensures state { IfOk result (λ run. W.state (run_world run) ≡ replay W.after W.opening (run_history run)) }
+    ensures state { IfOk result (λ run. W.state (run_world run)
+        ≡ replay W.after W.opening (run_history run)) }
 {
     let mut room = Room::new(alloc, world, 0);
     let mut desks = open_desks(alloc, &mut room)?;

@@ -29,7 +29,8 @@ pub(crate) fn read<W: Stamped>(
     ensures pass { desk.new.pass ≡ desk.old.pass }
     ensures stands { OnOk result ((x : Worker W.Call W.Reply) →
         IsRoomWorker W.World W.Stamped.own room.now desk.old x →
-        IsRoomWorker W.World W.Stamped.own room.now desk.new (with_hand (read call.now (entries_of room.now) x.hand) x)) }
+        IsRoomWorker W.World W.Stamped.own room.now desk.new
+        (with_hand (read call.now (entries_of room.now) x.hand) x)) }
 {
     if let Held::Nothing = desk.held {
         let view = room.world().view(call)?;
@@ -87,13 +88,15 @@ pub(crate) fn commit<W: Stamped>(
     ensures admitted { OnOk result (Admits room.new desk.new.pass) }
     ensures others { OnOk result ((p : Pass W.Call W.Reply) → desk_of p ≢ desk_of desk.old.pass →
         Admits room.old p → Admits room.new p) }
-    ensures stay { OnOk result ((y : Desk W.Call W.Reply W.View (Prepared W W.Call W.View W.Change W.Reply W.World)) (x : Worker W.Call W.Reply) →
+    ensures stay { OnOk result ((y : Desk W.Call W.Reply W.View
+        (Prepared W W.Call W.View W.Change W.Reply W.World)) (x : Worker W.Call W.Reply) →
         IsRoomWorker W.World W.Stamped.own room.old y x →
         IsRoomWorker W.World W.Stamped.own room.new y x) }
     ensures happens { OnOk result ((w : ℕ) (m : Scene W.Call W.Reply) → desk_of desk.old.pass ≡ w →
         m.history ≡ entries_of room.old →
         IsRoomWorker W.World W.Stamped.own room.old desk.old (m.workers w) →
-        (n : Scene W.Call W.Reply) × Commits (reply_after W.World) W.is_unmoved w (m.workers w).hand m n
+        (n : Scene W.Call W.Reply)
+        × Commits (reply_after W.World) W.is_unmoved w (m.workers w).hand m n
         × (n.history ≡ entries_of room.new)
         × IsRoomWorker W.World W.Stamped.own room.new desk.new (n.workers w)
         × ((v : ℕ) → v ≢ w → n.workers v ≡ m.workers v)) }
@@ -126,7 +129,8 @@ where
     ensures admitted { OnOk result (Admits room.new desk.new.pass) }
     ensures others { OnOk result ((p : Pass W.Call W.Reply) → desk_of p ≢ desk_of desk.old.pass →
         Admits room.old p → Admits room.new p) }
-    ensures stay { OnOk result ((y : Desk W.Call W.Reply W.View (Prepared W W.Call W.View W.Change W.Reply W.World)) (x : Worker W.Call W.Reply) →
+    ensures stay { OnOk result ((y : Desk W.Call W.Reply W.View
+        (Prepared W W.Call W.View W.Change W.Reply W.World)) (x : Worker W.Call W.Reply) →
         IsRoomWorker W.World W.Stamped.own room.old y x →
         IsRoomWorker W.World W.Stamped.own room.new y x) }
     ensures happens { OnOk result ((m : Scene W.Call W.Reply) →
