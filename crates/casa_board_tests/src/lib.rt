@@ -30,8 +30,6 @@ mod plan_scripts;
 #[cfg(test)]
 mod played;
 #[cfg(test)]
-mod refused;
-#[cfg(test)]
 mod versions;
 #[cfg(test)]
 mod view_scripts;

@@ -286,22 +286,9 @@ make {"cmd":"file","key":"D","eobt":30000,"taxi":600,"via":[]}
 
 #[test]
 fn views_are_the_same_and_show_what_they_hold(rt: HostRuntime) {
-    for script in [ABSENT, VERSIONS, ROWS, FOUND, HELD, READERS] {
+    for script in [
+        ABSENT, VERSIONS, ROWS, FOUND, HELD, READERS, EVERYTHING, LAST,
+    ] {
         assert_eq!(rt; transcript(rt.alloc(), script).as_deref(), Some(script));
     }
-}
-
-/// Run also with each allocation refused in turn: the line is then done again.
-#[test]
-fn a_refused_growth_leaves_the_board(rt: HostRuntime) {
-    assert_eq!(rt;
-        transcript(rt.alloc(), EVERYTHING).as_deref(),
-        Some(EVERYTHING)
-    );
-}
-
-/// The same, where a change writes several items.
-#[test]
-fn a_refused_growth_leaves_the_change(rt: HostRuntime) {
-    assert_eq!(rt; transcript(rt.alloc(), LAST).as_deref(), Some(LAST));
 }

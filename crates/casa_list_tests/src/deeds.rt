@@ -35,7 +35,7 @@ pub type Step = (Deed, &'static str, u32, Option<Place>, Option<u32>);
 type Answer = (Option<Place>, Option<Moment>);
 
 /// A deed with a flight, and its answer; none where the flight is there already as it may not be.
-fn attempt(
+fn answer(
     list: &mut SlotList,
     deed: Deed,
     comp: &Comp,
@@ -57,22 +57,6 @@ fn attempt(
     Ok((list.place_of(&comp.key), list.cto_of(&comp.key)))
 }
 
-/// The answer of a deed, which is done again where memory was refused: that has changed nothing.
-fn answer(
-    rt: &impl Abort,
-    list: &mut SlotList,
-    deed: Deed,
-    comp: &Comp,
-    at: Option<u32>,
-) -> Answer {
-    let was = list.stance_of(&comp.key);
-    if let Ok(answer) = attempt(list, deed, comp, moment_at(rt, at)) {
-        return answer;
-    }
-    assert!(rt; list.stance_of(&comp.key) == was);
-    attempt(list, deed, comp, moment_at(rt, at)).expect(rt, "memory")
-}
-
 /// The moment at this second, if one is given.
 fn moment_at(rt: &impl Abort, at: Option<u32>) -> Option<Moment> {
     match at {
@@ -84,8 +68,10 @@ fn moment_at(rt: &impl Abort, at: Option<u32>) -> Option<Moment> {
 /// Does step `n` with the list, and ends the test where it answers something else.
 fn take(rt: &impl Abort, list: &mut SlotList, n: usize, step: &Step) {
     let (deed, text, eto, place, cto) = *step;
-    let answer = answer(rt, list, deed, &comp(rt, text.as_bytes(), eto), cto);
-    let wanted = (place, moment_at(rt, cto));
+    let flight = comp(rt, text.as_bytes(), eto);
+    let cto = moment_at(rt, cto);
+    let answer = answer(list, deed, &flight, cto).expect(rt, "memory");
+    let wanted = (place, cto);
     assert_eq!(rt; answer, wanted, "step {n}: {text}");
 }
 

@@ -8,7 +8,7 @@ use casa_grid::Place::{Over, Slot};
 use casa_grid::{Grid, Period, Place};
 use casa_list::{SlotList, Standing};
 use casa_time::Moment;
-use std::alloc::{AllocError, Global};
+use std::alloc::Global;
 use std::process::Abort;
 
 /// Each deed once: B comes before A, which is issued; C comes in issued, so that B has the slot behind both; A leaves, and
@@ -125,21 +125,15 @@ const CLOSED_AT_FIRST: &[Step] = &[(Enter, "A", 36_100, Some(Slot(0)), Some(36_6
 /// The last ten minutes have no slot.
 const CLOSED_AT_LAST: &[Step] = &[(Enter, "A", 36_700, Some(Over), Some(37_200))];
 
-/// The slots of these periods, made again where memory was refused.
+/// The slots of these periods.
 fn grid(rt: &impl Abort, alloc: Global, periods: &[Period]) -> Grid {
     let profile = profile(rt, alloc, periods);
-    match Grid::of(alloc, &profile) {
-        Ok(grid) => grid,
-        Err(AllocError) => Grid::of(alloc, &profile).expect(rt, "memory"),
-    }
+    Grid::of(alloc, &profile).expect(rt, "memory")
 }
 
-/// The list of these periods, with no flights, made likewise.
+/// The list of these periods, with no flights.
 fn list(rt: &impl Abort, alloc: Global, periods: &[Period]) -> SlotList {
-    match SlotList::new(alloc, grid(rt, alloc, periods)) {
-        Ok(list) => list,
-        Err(AllocError) => SlotList::new(alloc, grid(rt, alloc, periods)).expect(rt, "memory"),
-    }
+    SlotList::new(alloc, grid(rt, alloc, periods)).expect(rt, "memory")
 }
 
 /// The list from 36000 to 37200 with 30 flights per hour, ten slots two minutes apart, after these steps.
@@ -154,22 +148,15 @@ pub fn three_flights(rt: &impl Abort, alloc: Global) -> SlotList {
     ten_slots(rt, alloc, THREE_FLIGHTS)
 }
 
-/// Gives the list five slots, four minutes apart; again where memory was refused, which has changed nothing.
+/// Gives the list five slots, four minutes apart.
 fn widen(rt: &impl Abort, alloc: Global, list: &mut SlotList) {
     let wider = [period(rt, 36_000, 37_200, 15)];
-    let (slots, governed) = (list.grid().len(), list.governed());
-    if list.regrid(grid(rt, alloc, &wider)).is_err() {
-        assert!(rt; list.grid().len() == slots && list.governed() == governed);
-        list.regrid(grid(rt, alloc, &wider)).expect(rt, "memory");
-    }
+    list.regrid(grid(rt, alloc, &wider)).expect(rt, "memory");
 }
 
-/// A copy of the list, made again where memory was refused.
+/// A copy of the list.
 fn copy(rt: &impl Abort, list: &SlotList) -> SlotList {
-    match list.try_clone() {
-        Ok(copy) => copy,
-        Err(AllocError) => list.try_clone().expect(rt, "memory"),
-    }
+    list.try_clone().expect(rt, "memory")
 }
 
 #[test]
@@ -206,9 +193,8 @@ fn forced_flights_take_no_slot(rt: HostRuntime) {
     assert!(&rt; list.governed() == 2 && list.nth(2).is_none());
 }
 
-/// Run also with each allocation refused in turn: a flight that stands forced stays so.
 #[test]
-fn a_refused_growth_leaves_a_flight_forced(rt: HostRuntime) {
+fn a_forced_flight_enters_or_is_held(rt: HostRuntime) {
     for steps in [FORCED_ENTERS, FORCED_IS_HELD] {
         let mut list = three_flights(&rt, rt.alloc());
         follow(&rt, &mut list, steps);
@@ -266,27 +252,6 @@ fn a_closed_period_has_no_slot(rt: HostRuntime) {
         ];
         follow(&rt, &mut list(&rt, rt.alloc(), &periods), steps);
     }
-}
-
-/// Run also with each allocation refused in turn: the refused call has changed nothing, and is made again.
-#[test]
-fn a_refused_growth_leaves_the_flight_out(rt: HostRuntime) {
-    assert!(&rt; three_flights(&rt, rt.alloc()).governed() == 2);
-}
-
-/// Likewise.
-#[test]
-fn a_refused_growth_copies_nothing(rt: HostRuntime) {
-    let list = three_flights(&rt, rt.alloc());
-    assert!(&rt; copy(&rt, &list) == list);
-}
-
-/// Likewise.
-#[test]
-fn a_refused_growth_leaves_the_slots(rt: HostRuntime) {
-    let mut list = three_flights(&rt, rt.alloc());
-    widen(&rt, rt.alloc(), &mut list);
-    follow(&rt, &mut list, WIDER_SLOTS);
 }
 
 /// The example of the doc comment of `SlotList`: the two flights of the README.

@@ -33,10 +33,7 @@ pub fn period(rt: &impl Abort, begin: u32, until: u32, rate: u32) -> Period {
     }
 }
 
-/// The profile of these periods, made again where memory was refused.
+/// The profile of these periods.
 pub fn profile(rt: &impl Abort, alloc: Global, periods: &[Period]) -> Profile {
-    match Profile::new(alloc, periods) {
-        Ok(profile) => profile,
-        Err(_) => Profile::new(alloc, periods).expect(rt, "a profile"),
-    }
+    Profile::new(alloc, periods).expect(rt, "a profile")
 }

@@ -1,6 +1,6 @@
 //! Sessions over a desk that is alone on a board.
 
-use crate::parts::{INPUT, OUTPUT, ends_after_whole_replies};
+use crate::parts::{INPUT, OUTPUT};
 use casa_flight::{Answer, Call, RegId, Reply};
 use casa_session::{Desk, Lone};
 use std::alloc::Global;
@@ -33,20 +33,6 @@ fn a_desk_answers_after_a_session(rt: HostRuntime) {
     assert!(&rt; lone.run(rt.alloc(), &mut input, &mut output) == Ok(5));
     assert!(&rt; output.as_slice() == OUTPUT);
     assert!(&rt; listed(&rt, rt.alloc(), &mut lone) == (6, Some(2)));
-}
-
-/// Run also with each allocation refused in turn: the session then ends after whole replies, without memory or, where
-/// it is the output that can't grow, with a failed write.
-#[test]
-fn a_refused_growth_ends_a_session(rt: HostRuntime) {
-    let alloc = rt.alloc();
-    let Ok(mut lone) = Lone::new(alloc) else {
-        return;
-    };
-    let mut input = INPUT;
-    let mut output = Vec::new(alloc);
-    let ended = lone.run(alloc, &mut input, &mut output);
-    ends_after_whole_replies(&rt, ended, output.as_slice(), 5, OUTPUT);
 }
 
 /// The example of the doc comment of `Lone`: the first line of the README.

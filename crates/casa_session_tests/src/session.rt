@@ -4,7 +4,6 @@ ghost use Rattle.std.specs.Prelude.{◌≡◌, ⊤, IfOk};
 ghost use Rattle.casa_history.specs.Entries.{receipt};
 ghost use Rattle.casa_commit.specs.Legal.{entry};
 
-use crate::parts::ends_after_whole_replies;
 use casa_commit::CallFault;
 use casa_flight::{Call, Refusal, Reply};
 use casa_history::{Entry, Receipt, SharedEntry};
@@ -86,16 +85,6 @@ fn a_session_answers_each_line(rt: HostRuntime) {
     let ended = serve(rt.alloc(), &mut input, &mut output);
     assert!(rt; ended == (Ok(4), 2));
     assert!(rt; output.as_slice() == OUTPUT);
-}
-
-/// Run also with each allocation refused in turn: the session then ends after whole replies, without memory
-/// or, where it is the output that can't grow, with a failed write.
-#[test]
-fn a_refused_growth_ends_a_session(rt: HostRuntime) {
-    let mut input = INPUT;
-    let mut output = Vec::new(rt.alloc());
-    let (ended, _) = serve(rt.alloc(), &mut input, &mut output);
-    ends_after_whole_replies(&rt, ended, output.as_slice(), 4, OUTPUT);
 }
 
 /// Gives a line a time, and fails where one of the lines before has no reply yet.

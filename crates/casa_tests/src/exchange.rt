@@ -3,7 +3,7 @@
 use crate::parts::{equal_at, key, loc, moment, over, period, profile, reg};
 use casa_flight::{Answer, Call, FlightReply, Message, Messages, Plan, Refusal, Reply, Sts};
 use casa_plain::Plain;
-use std::alloc::{AllocError, Global};
+use std::alloc::Global;
 use std::process::Abort;
 
 /// The call that opens a regulation from `begin`, for 20 minutes.
@@ -131,13 +131,10 @@ fn reply_to(rt: &impl Abort, alloc: Global, number: u32) -> Reply {
     }
 }
 
-/// Makes the call with this number, again where memory was refused, and it is answered as it is to be.
+/// Makes the call with this number, and it is answered as it is to be.
 fn check_reply(rt: &impl Abort, alloc: Global, plain: &mut Plain, number: u32) {
     let call = call(rt, alloc, number);
-    let reply = match plain.step(alloc, &call) {
-        Ok(reply) => reply,
-        Err(AllocError) => plain.step(alloc, &call).expect(rt, "memory"),
-    };
+    let reply = plain.step(alloc, &call).expect(rt, "memory");
     equal_at(rt, &number, &reply, &reply_to(rt, alloc, number));
 }
 

@@ -5,7 +5,7 @@ use casa_flight::{
     Answer, Call, Crossing, Key, Kind, ListReply, ListRow, Loc, Measure, Message, Messages, Plan,
     PlanFault, Refusal, RegId, Regulation, Reply, Row, Rows, Sts, subject,
 };
-use std::alloc::{AllocError, Global};
+use std::alloc::Global;
 use std::process::Abort;
 
 /// What a plan is of: its key, its off-block time and its taxi time, and the locations that it crosses, each with its
@@ -148,34 +148,14 @@ fn refusals_have_a_code_and_a_name(rt: HostRuntime) {
     }
 }
 
-/// A plan, made again where memory was refused and nothing else.
-fn made(rt: &impl Abort, alloc: Global) -> Plan {
-    let via = [over(rt, b"LA", 36010)];
-    let eobt = moment(rt, 30000);
-    match Plan::new(alloc, b"A", eobt, 600, &via, Sts::Plain) {
-        Ok(plan) => plan,
-        Err(fault) => {
-            assert!(rt; fault == PlanFault::NoMemory);
-            Plan::new(alloc, b"A", eobt, 600, &via, Sts::Plain).expect(rt, "a plan")
-        }
-    }
-}
-
-/// A copy of a call, made again where memory was refused.
-fn copy(rt: &impl Abort, call: &Call) -> Call {
-    match call.try_clone() {
-        Ok(copy) => copy,
-        Err(AllocError) => call.try_clone().expect(rt, "memory"),
-    }
-}
-
-/// Run also with each allocation refused in turn: the refused call answers that memory was refused and nothing else, and
-/// is as good as new when it is made again.
 #[test]
-fn a_refused_growth_of_a_plan_can_be_tried_again(rt: HostRuntime) {
-    let call = Call::File(made(&rt, rt.alloc()));
-    let copy = copy(&rt, &call);
-    assert!(&rt; copy == call && copy != Call::Tick(moment(&rt, 30000)));
+fn a_copied_call_is_the_same(rt: HostRuntime) {
+    let via = [over(&rt, b"LA", 36010)];
+    let eobt = moment(&rt, 30000);
+    let plan = Plan::new(rt.alloc(), b"A", eobt, 600, &via, Sts::Plain).expect(&rt, "a plan");
+    let call = Call::File(plan);
+    let copy = call.try_clone().expect(&rt, "memory");
+    assert!(&rt; copy == call && copy != Call::Tick(eobt));
 }
 
 #[test]

@@ -1,8 +1,8 @@
 //! Profiles and slots.
 
-use crate::parts::{equal, equal_at, moment, period, shows};
+use crate::parts::{equal, equal_at, moment, period, profile, shows};
 use casa_grid::{Grid, Period, Place, Profile, ProfileFault};
-use std::alloc::{AllocError, Global};
+use std::alloc::Global;
 use std::process::Abort;
 
 /// Slots of two hours with 28 flights per hour, with the seconds at which they begin.
@@ -93,23 +93,16 @@ fn a_place_gives_the_later_time(rt: HostRuntime) {
     }
 }
 
-/// A copy of the profile and that of its slots equal it.
-fn check_copy_of_profile(rt: &impl Abort, alloc: Global, profile: &Profile) {
-    assert!(rt; copy(rt, profile) == *profile);
-    assert!(rt; *slots_of(rt, alloc, profile).profile() == *profile);
-}
-
 #[test]
 fn a_profile_is_its_periods(rt: HostRuntime) {
     let periods = [period(&rt, 36000, 43200, 28)];
-    let profile = made(&rt, rt.alloc(), &periods);
+    let profile = profile(&rt, rt.alloc(), &periods);
     assert!(&rt; profile.periods() == periods.as_slice());
     equal(
         &rt,
         &profile.span(),
         &(moment(&rt, 36000), moment(&rt, 43200)),
     );
-    check_copy_of_profile(&rt, rt.alloc(), &profile);
 }
 
 #[test]
@@ -126,39 +119,11 @@ fn each_fault_has_its_name(rt: HostRuntime) {
     );
 }
 
-/// A profile, made again where memory was refused and nothing else.
-fn made(rt: &impl Abort, alloc: Global, periods: &[Period]) -> Profile {
-    match Profile::new(alloc, periods) {
-        Ok(profile) => profile,
-        Err(fault) => {
-            assert!(rt; fault == ProfileFault::NoMemory);
-            Profile::new(alloc, periods).expect(rt, "a profile")
-        }
-    }
-}
-
-/// The slots of a profile, made again where memory was refused.
-fn slots_of(rt: &impl Abort, alloc: Global, profile: &Profile) -> Grid {
-    match Grid::of(alloc, profile) {
-        Ok(grid) => grid,
-        Err(AllocError) => Grid::of(alloc, profile).expect(rt, "memory"),
-    }
-}
-
-/// A copy of a profile, made again where memory was refused.
-fn copy(rt: &impl Abort, profile: &Profile) -> Profile {
-    match profile.clone() {
-        Ok(copy) => copy,
-        Err(AllocError) => profile.clone().expect(rt, "memory"),
-    }
-}
-
-/// Run also with each allocation refused in turn: the refused call answers that memory is refused and nothing
-/// else, and is as good as new when it is made again.
 #[test]
-fn a_refused_growth_is_answered(rt: HostRuntime) {
+fn copies_have_the_same_profile(rt: HostRuntime) {
     let periods = [period(&rt, 0, 60, 600), period(&rt, 60, 120, 0)];
-    let profile = made(&rt, rt.alloc(), &periods);
-    assert!(&rt; slots_of(&rt, rt.alloc(), &profile).len() == 10);
-    assert!(&rt; copy(&rt, &profile) == profile);
+    let profile = profile(&rt, rt.alloc(), &periods);
+    let grid = Grid::of(rt.alloc(), &profile).expect(&rt, "memory");
+    assert!(&rt; grid.len() == 10 && *grid.profile() == profile);
+    assert!(&rt; profile.clone().expect(&rt, "memory") == profile);
 }

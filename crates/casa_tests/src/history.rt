@@ -2,10 +2,10 @@
 
 use crate::parts::equal;
 use casa_history::{Entry, History, Holds, Pass, Receipt, Settled, SharedEntry, Torn, settle};
-use std::alloc::{AllocError, Global};
+use std::alloc::Global;
 use std::process::Abort;
 
-/// A call of a desk with its reply, both numbers; again where memory was refused.
+/// A call of a desk with its reply, both numbers.
 fn entry(
     rt: &impl Abort,
     alloc: Global,
@@ -13,12 +13,7 @@ fn entry(
     call: u32,
     reply: u32,
 ) -> SharedEntry<u32, u32> {
-    match SharedEntry::new(alloc, Entry { desk, call, reply }) {
-        Ok(entry) => entry,
-        Err(AllocError) => {
-            SharedEntry::new(alloc, Entry { desk, call, reply }).expect(rt, "memory")
-        }
-    }
+    SharedEntry::new(alloc, Entry { desk, call, reply }).expect(rt, "memory")
 }
 
 /// Appends an entry to the history.
@@ -161,32 +156,4 @@ fn desks_with_other_receipts_are_torn(rt: HostRuntime) {
         ],
         &[Err(Torn(2)), Err(Torn(2)), Err(Torn(0))],
     );
-}
-
-/// Appends the first entry of a history, again where memory was refused, which has changed nothing.
-fn append_first(rt: &impl Abort, alloc: Global, history: &mut History<u32, u32>) {
-    if history.reserve().is_err() {
-        assert!(rt; history.len() == 0);
-        history.reserve().expect(rt, "memory");
-    }
-    history.push(entry(rt, alloc, 0, 1, 10));
-}
-
-/// Appends the first receipt of a pass likewise.
-fn receive_first(rt: &impl Abort, alloc: Global, pass: &mut Pass<u32, u32>) {
-    if pass.reserve().is_err() {
-        assert!(rt; pass.calls() == 0);
-        pass.reserve().expect(rt, "memory");
-    }
-    let entry = entry(rt, alloc, 0, 1, 10);
-    pass.push(Receipt { position: 1, entry });
-}
-
-#[test]
-fn a_refused_growth_changes_nothing(rt: HostRuntime) {
-    let mut history = History::new(rt.alloc());
-    append_first(&rt, rt.alloc(), &mut history);
-    let mut pass = Pass::new(rt.alloc(), 7, 0);
-    receive_first(&rt, rt.alloc(), &mut pass);
-    equal(&rt, &(history.len(), pass.calls()), &(1, 1));
 }

@@ -7,7 +7,7 @@ use casa_flight::{
 };
 use casa_plain::Plain;
 use casa_time::Moment;
-use std::alloc::{AllocError, Global};
+use std::alloc::Global;
 use std::process::Abort;
 
 /// The call that opens R1 at LA from 36000, at 30 flights per hour.
@@ -24,16 +24,11 @@ fn rates(rt: &impl Abort, alloc: Global, begin: u32, until: u32) -> Call {
     )
 }
 
-/// The call that files a flight over LA, made again where memory was refused: ten minutes of taxi.
+/// The call that files a flight over LA: ten minutes of taxi.
 fn file(rt: &impl Abort, alloc: Global, key: &[u8], eobt: u32, eto: u32) -> Call {
     let via = [over(rt, b"LA", eto)];
     let eobt = moment(rt, eobt);
-    match Plan::new(alloc, key, eobt, 600, &via, Sts::Plain) {
-        Ok(plan) => Call::File(plan),
-        Err(_) => Call::File(Plan::new(alloc, key, eobt, 600, &via, Sts::Plain).expect(
-            rt, "a plan",
-        )),
-    }
+    Call::File(Plan::new(alloc, key, eobt, 600, &via, Sts::Plain).expect(rt, "a plan"))
 }
 
 /// The reply with this answer and these messages.
@@ -138,12 +133,9 @@ fn reply_to(rt: &impl Abort, alloc: Global, number: usize) -> Reply {
     }
 }
 
-/// The reply to a call, which is made again where memory was refused the first time.
+/// The reply to a call.
 fn reply(rt: &impl Abort, alloc: Global, plain: &mut Plain, call: &Call) -> Reply {
-    match plain.step(alloc, call) {
-        Ok(reply) => reply,
-        Err(AllocError) => plain.step(alloc, call).expect(rt, "memory"),
-    }
+    plain.step(alloc, call).expect(rt, "memory")
 }
 
 /// Makes the call with this number, which is answered as it is to be.
@@ -170,10 +162,8 @@ fn refusal(reply: &Reply) -> Option<Refusal> {
     }
 }
 
-/// Run also with each allocation refused in turn: the refused call was not made, so it is answered when it is made
-/// again, and once only.
 #[test]
-fn a_refused_growth_leaves_the_call_unmade(rt: HostRuntime) {
+fn a_flight_is_filed_once(rt: HostRuntime) {
     let alloc = rt.alloc();
     let mut plain = Plain::new(alloc);
     for (number, wanted) in [(0, None), (1, None), (1, Some(Refusal::Duplicate))] {

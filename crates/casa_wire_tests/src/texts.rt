@@ -163,35 +163,13 @@ fn a_reply_is_a_value_too(rt: HostRuntime) {
     );
 }
 
-/// Writes a fault's line behind the others, again where memory was refused, which has written nothing.
-fn write_fault(rt: &impl Abort, out: &mut Vec<u8>, fault: WireFault) {
-    let before = out.len();
-    if push_fault(out, fault).is_err() {
-        assert!(rt; out.len() == before);
-        push_fault(out, fault).expect(rt, "memory");
-    }
-}
-
-/// Writes a reply's line likewise.
-fn write_reply(rt: &impl Abort, out: &mut Vec<u8>, receipt: &Receipt<Call, Reply>) {
-    let before = out.len();
-    if push_reply(out, receipt).is_err() {
-        assert!(rt; out.len() == before);
-        push_reply(out, receipt).expect(rt, "memory");
-    }
-}
-
-/// Run also with each allocation refused in turn: what stood there stays, and the same call made again gives the line.
 #[test]
-fn a_refused_growth_leaves_the_lines_before(rt: HostRuntime) {
+fn lines_come_behind_those_before(rt: HostRuntime) {
     let mut out = Vec::new(rt.alloc());
-    write_fault(&rt, &mut out, WireFault::NoCommand);
-    write_fault(&rt, &mut out, WireFault::BadField(Field::Key));
-    write_reply(
-        &rt,
-        &mut out,
-        &receipt(&rt, rt.alloc(), Reply::Refused(Refusal::Late), 7),
-    );
+    push_fault(&mut out, WireFault::NoCommand).expect(&rt, "memory");
+    push_fault(&mut out, WireFault::BadField(Field::Key)).expect(&rt, "memory");
+    let late = receipt(&rt, rt.alloc(), Reply::Refused(Refusal::Late), 7);
+    push_reply(&mut out, &late).expect(&rt, "memory");
     assert!(&rt;
         out.as_slice()
             == b"{\"fault\":\"NoCommand\"}\n{\"fault\":\"BadField\",\"field\":\"key\"}\n{\"code\":3,\"n\":7,\"refused\":\"Late\"}\n".as_slice()
