@@ -48,13 +48,13 @@ module _ {I O W V D : Type 0} (L : Type 0) (world : WorldOf W Call V D Reply)
     (remaining : I → Option (List ℕ)) (contents : O → Option (List ℕ)) where
   -- a session by a pass that had no receipt
   pub is_session : (before after : I × O) (used new : CountedPass W L Call V D Reply world) (result : Result ℕ SessionFault) → receipts (pass_of used) ≡ []
-      → Ends ⊤ result (remaining before.0) (remaining after.0) (receipts (pass_of used)) (receipts (pass_of new)) (contents before.1) (contents after.1)
+      → Ends ⊤ result (record { input = remaining before.0; input_left = remaining after.0; receipts = receipts (pass_of used); receipts_now = receipts (pass_of new); output = contents before.1; output_now = contents after.1 })
       → IsSession L world remaining contents before result
   is_session before after used new result none e = record {
     after = after;
     pass = new;
     stand = new.stand;
-    ends = subst (λ (rs : Receipts). Ends ⊤ result (remaining before.0) (remaining after.0) rs (receipts (pass_of new)) (contents before.1) (contents after.1)) none e;
+    ends = subst (λ (rs : Receipts). Ends ⊤ result (record { input = remaining before.0; input_left = remaining after.0; receipts = rs; receipts_now = receipts (pass_of new); output = contents before.1; output_now = contents after.1 })) none e;
   }
 
   pub same_session : (before : I × O) (r s : Result ℕ SessionFault) → r ≡ s → IsSession L world remaining contents before s → IsSession L world remaining contents before r

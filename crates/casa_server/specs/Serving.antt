@@ -31,8 +31,14 @@ module _ {I O W V D : Type 0} (L : Type 0) (world : WorldOf W Call V D Reply)
     pub after : I × O
     pub pass : CountedPass W L Call V D Reply world
     pub stand : ∥ AreReceiptsOf world (desk_of (pass_of pass)) (receipts (pass_of pass)) ∥₁
-    pub ends : Ends ⊤ result (remaining before.0) (remaining after.0) [] (receipts (pass_of pass))
-        (contents before.1) (contents after.1)
+    pub ends : Ends ⊤ result (record {
+      input = remaining before.0;
+      input_left = remaining after.0;
+      receipts = [];
+      receipts_now = receipts (pass_of pass);
+      output = contents before.1;
+      output_now = contents after.1;
+    })
 
   abbrev pub HasEnded : I × O → Ending → Type 0
   HasEnded connection refused = ⊤

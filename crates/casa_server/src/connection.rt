@@ -59,9 +59,14 @@ fn session<K: Store, L: Ledger, G: Gate<Board<K>>, R: Wait, I: Read, O: Write>(
     reader: &mut I,
     writer: &mut O,
 ) -> (Result<u64, SessionFault>, DeskPass<K, L>)
-    ensures { Ends ⊤ result.0 (I.remaining reader.old) (I.remaining reader.new)
-        (receipts (pass_of pass)) (receipts (pass_of result.1)) (O.contents writer.old)
-        (O.contents writer.new) }
+    ensures { Ends ⊤ result.0 (record {
+      input = I.remaining reader.old;
+      input_left = I.remaining reader.new;
+      receipts = receipts (pass_of pass);
+      receipts_now = receipts (pass_of result.1);
+      output = O.contents writer.old;
+      output_now = O.contents writer.new;
+    }) }
 {
     let mut desk = EngineDesk::new(engine, rt, pass);
     let ended = run(alloc, reader, writer, &mut desk);

@@ -3,6 +3,7 @@ pub mod Splitting
 pub mod Transcripts
 pub mod Gathered
 pub mod Progress
+pub mod Sides
 pub mod Runs
 pub mod PlayedCalls
 pub mod Shown

@@ -18,9 +18,10 @@ use Rattle.casa_session.specs.declared.fault.SessionFault.{SessionFault}
 use Rattle.casa_session.specs.declared.fault.SessionFault.TheVariants.{LineTooLong, ReadFailed, WriteFailed, ForeignPass, NoMemory}
 use Rattle.casa_session.specs.Lines.{ended_lines, lines_of}
 use Rattle.casa_desk.specs.Receipts.{Receipts}
-use Rattle.casa_session.specs.Transcript.{AnswersLines, Cut, Ends, Stopped, calls, calls_of, transcript}
+use Rattle.casa_session.specs.Transcript.{AnswersLines, Cut, Stopped, calls, calls_of, transcript}
 use Rattle.casa_session.specs.Played.{calls_in, only_desk, sequential_history, receipts_after, receipts_played, state_after}
 use Rattle.casa_session.specs.Alone.{AnsweredFirst, LoneEnds, transcript_after}
+use Rattle.casa_session.proofs.Sides.{EndsAt}
 
 -- one call more is one entry more
 pub played-push : (m : State) (cs : List Call) (c : Call) → sequential_history m (cs ++ c ∷ []) ≡ sequential_history m cs ++ entry only_desk c (reply (fold next m cs) c) ∷ []
@@ -120,7 +121,7 @@ cut before now v w lines n h =
     )
 
 -- where the desk is alone, a session writes what the sequential allocator answers
-pub lone-ends : (before now : List Call) (result : Result ℕ SessionFault) (r s v w : Option (List ℕ)) → Ends ⊥ result r s (receipts_played before) (receipts_played now) v w → LoneEnds before now result r s v w
+pub lone-ends : (before now : List Call) (result : Result ℕ SessionFault) (r s v w : Option (List ℕ)) → EndsAt ⊥ result r s (receipts_played before) (receipts_played now) v w → LoneEnds before now result r s v w
 lone-ends before now (Ok n) r s v w h =
     if_some _ _ (λ xs p. (answered before now v w (lines_of xs) p.0, p.1, p.2, calls-lines before now p.0.receipts (lines_of xs) p.0.grows p.0.called)) r h
 lone-ends before now (Err LineTooLong) r s v w h =

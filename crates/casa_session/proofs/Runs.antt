@@ -14,7 +14,8 @@ use Rattle.casa_session.specs.LineReader.{IsPart}
 use Rattle.casa_session.specs.Lines.{ended_lines, lines_of, rest_from, has_too_long, is_too_long, HasNoLf}
 use Rattle.casa_session.specs.Replies.{Answers, CutText, EndsBy, Fails, IsUnwritten, TooLongEnds}
 use Rattle.casa_desk.specs.Receipts.{Receipts}
-use Rattle.casa_session.specs.Transcript.{calls, transcript, AnswersLines, Cut, Ends, Stopped}
+use Rattle.casa_session.specs.Transcript.{calls, transcript, AnswersLines, Cut, Stopped}
+use Rattle.casa_session.proofs.Sides.{EndsAt}
 use Rattle.casa_session.proofs.Parts.{no_lf_append}
 use Rattle.casa_session.proofs.Progress.{Progress, answered, cut_done, cut_line, cut_more, no_progress, progress_line, progress_sent, stopped, stopped_between, too_long_written}
 use Rattle.casa_session.proofs.Splitting.{ended_kept, ended_more, has_too_long-append, line_first, line_only, lines_of-append, long_first, short_part, whole_more}
@@ -97,7 +98,7 @@ lines_from r s a b u v replies count line pending ys p =
 -- a line has no reply
 ends_failing : (foreign : Type 0) (fault : SessionFault) (r t : Option (List ℕ)) (a b c : Receipts) (u v w : Option (List ℕ)) (old : Replies) (done : List (List ℕ)) (line : List ℕ)
     → Progress a b u v old done → is_too_long line ≡ false → IfSome r (λ xs. (rest : List (List ℕ)) × (lines_of xs ≡ done ++ line ∷ rest)) → Fails foreign fault (line_call line) b c old v w
-    → Ends foreign (Err fault) r t a c u w
+    → EndsAt foreign (Err fault) r t a c u w
 ends_failing foreign LineTooLong r t a b c u v w old done line p short ahead h = absurd h
 ends_failing foreign ReadFailed r t a b c u v w old done line p short ahead h = absurd h
 ends_failing foreign (WriteFailed n) r t a b c u v w old done line p short ahead (text, may, cut) =
@@ -111,7 +112,7 @@ ends_failing foreign NoMemory r t a b c u v w old done line p short ahead (text,
 
 -- what is gathered can't be written
 ends_unwritten : (foreign : Type 0) (fault : SessionFault) (r t : Option (List ℕ)) (a b : Receipts) (u v w : Option (List ℕ)) (old : Replies) (done : List (List ℕ))
-    → Progress a b u v old done → IfSome r (λ xs. (rest : List (List ℕ)) × (lines_of xs ≡ done ++ rest)) → IsUnwritten fault old v w → Ends foreign (Err fault) r t a b u w
+    → Progress a b u v old done → IfSome r (λ xs. (rest : List (List ℕ)) × (lines_of xs ≡ done ++ rest)) → IsUnwritten fault old v w → EndsAt foreign (Err fault) r t a b u w
 ends_unwritten foreign LineTooLong r t a b u v w old done p ahead h = absurd h
 ends_unwritten foreign ReadFailed r t a b u v w old done p ahead h = absurd h
 ends_unwritten foreign ForeignPass r t a b u v w old done p ahead h = absurd h
@@ -128,7 +129,7 @@ some_ahead r s a b u v replies count line pending p =
 -- a line that ended has no reply
 pub ends_at_line : (foreign : Type 0) (fault : SessionFault) (r s t : Option (List ℕ)) (a b c : Receipts) (u v w : Option (List ℕ)) (old : Replies) (count : ℕ) (line before part bytes pending : List ℕ)
     → Between r s a b u v old count before bytes → bytes ≡ part ++ 10 ∷ pending → line ≡ before ++ part → HasNoLf line → is_too_long line ≡ false
-    → Fails foreign fault (line_call line) b c old v w → Ends foreign (Err fault) r t a c u w
+    → Fails foreign fault (line_call line) b c old v w → EndsAt foreign (Err fault) r t a c u w
 ends_at_line foreign fault r s t a b c u v w old count line before part bytes pending p split is no_lf short h =
     let ahead : IfSome r (λ xs. (rest : List (List ℕ)) × (lines_of xs ≡ p.done ++ line ∷ rest)) =
     known r s (p.taken ++ (before ++ bytes)) (λ xs. (rest : List (List ℕ)) × (lines_of xs ≡ p.done ++ line ∷ rest)) p.consumed (λ ys.
@@ -138,13 +139,13 @@ ends_at_line foreign fault r s t a b c u v w old count line before part bytes pe
 
 -- what is gathered can't be written before a read
 pub ends_before_read : (foreign : Type 0) (fault : SessionFault) (r s t : Option (List ℕ)) (a b : Receipts) (u v w : Option (List ℕ)) (old : Replies) (count : ℕ) (line pending : List ℕ)
-    → Between r s a b u v old count line pending → IsUnwritten fault old v w → Ends foreign (Err fault) r t a b u w
+    → Between r s a b u v old count line pending → IsUnwritten fault old v w → EndsAt foreign (Err fault) r t a b u w
 ends_before_read foreign fault r s t a b u v w old count line pending p h =
     ends_unwritten foreign fault r t a b u v w old p.done p.progress (some_ahead r s a b u v old count line pending p) h
 
 -- there is no memory for a line
 pub ends_without_memory : (foreign : Type 0) (ended : SessionFault) (r s t : Option (List ℕ)) (a b : Receipts) (u v w : Option (List ℕ)) (old : Replies) (count : ℕ) (line pending : List ℕ)
-    → Between r s a b u v old count line pending → EndsBy ended NoMemory old v w → Ends foreign (Err ended) r t a b u w
+    → Between r s a b u v old count line pending → EndsBy ended NoMemory old v w → EndsAt foreign (Err ended) r t a b u w
 ends_without_memory foreign ended r s t a b u v w old count line pending p (inl by) =
     rw (by.0) (if_some _ _ (λ xs q. (p.done, q.0, q.1, stopped_between a b u v w old p.done q.0 p.progress by.1)) r (some_ahead r s a b u v old count line pending p))
 ends_without_memory foreign ended r s t a b u v w old count line pending p (inr h) = ends_before_read foreign ended r s t a b u v w old count line pending p h
@@ -162,7 +163,7 @@ long_ahead r s a b u v old count before part rest bytes p split no_lf no_lf_in l
 -- a line is too long
 pub ends_too_long : (foreign : Type 0) (fault : SessionFault) (r s t : Option (List ℕ)) (a b : Receipts) (u v w : Option (List ℕ)) (old : Replies) (count : ℕ) (before part rest bytes : List ℕ)
     → Between r s a b u v old count before bytes → bytes ≡ part ++ rest → HasNoLf before → HasNoLf part → is_too_long (before ++ part) ≡ true
-    → TooLongEnds fault old v w → Ends foreign (Err fault) r t a b u w
+    → TooLongEnds fault old v w → EndsAt foreign (Err fault) r t a b u w
 ends_too_long foreign LineTooLong r s t a b u v w old count before part rest bytes p split no_lf no_lf_in long h =
     if_some _ _ (λ xs q.
     let (first, tail, is, first_long) = q in
@@ -185,7 +186,7 @@ ends_too_long foreign NoMemory r s t a b u v w old count before part rest bytes 
 
 -- the input ended after a line
 pub ends_input : (foreign : Type 0) (r t : Option (List ℕ)) (a b : Receipts) (u v : Option (List ℕ)) (replies : Replies) (count : ℕ) (line : List ℕ)
-    → Between r t a b u v replies count line [] → IsAtEnd t → line ≡ [] → replies.bytes.items ≡ [] → Ends foreign (Ok count) r t a b u v
+    → Between r t a b u v replies count line [] → IsAtEnd t → line ≡ [] → replies.bytes.items ≡ [] → EndsAt foreign (Ok count) r t a b u v
 ends_input foreign r t a b u v replies count line p end no_line none =
     Consumes-whole r t (p.taken ++ (line ++ [])) (λ xs. AnswersLines a b u v (lines_of xs) × (has_too_long (lines_of xs) ≡ false) × (count ≡ length (lines_of xs))) p.consumed end (
     let all : lines_of (p.taken ++ (line ++ [])) ≡ p.done = rw no_line (ap lines_of (append-nil p.taken) ∙ rw (p.ended, p.whole) (append-nil p.done)) in
@@ -199,7 +200,7 @@ last_line r t a b u v replies count line p no_lf some =
 -- the last line has no reply
 pub ends_at_last : (foreign : Type 0) (fault : SessionFault) (r t x : Option (List ℕ)) (a b c : Receipts) (u v w : Option (List ℕ)) (old : Replies) (count : ℕ) (line : List ℕ)
     → Between r t a b u v old count line [] → IsAtEnd t → HasNoLf line → is_too_long line ≡ false → 0 < length line
-    → Fails foreign fault (line_call line) b c old v w → Ends foreign (Err fault) r x a c u w
+    → Fails foreign fault (line_call line) b c old v w → EndsAt foreign (Err fault) r x a c u w
 ends_at_last foreign fault r t x a b c u v w old count line p end no_lf short some h =
     let ahead : IfSome r (λ xs. (rest : List (List ℕ)) × (lines_of xs ≡ p.done ++ line ∷ rest)) =
     Consumes-whole r t (p.taken ++ (line ++ [])) (λ xs. (rest : List (List ℕ)) × (lines_of xs ≡ p.done ++ line ∷ rest)) p.consumed end
@@ -209,7 +210,7 @@ ends_at_last foreign fault r t x a b c u v w old count line p end no_lf short so
 -- the last line was answered, and what is gathered can't be written
 pub ends_last_unwritten : (foreign : Type 0) (fault : SessionFault) (r t x : Option (List ℕ)) (a b c : Receipts) (u v w y : Option (List ℕ)) (old new : Replies) (count : ℕ) (line : List ℕ)
     → Between r t a b u v old count line [] → IsAtEnd t → HasNoLf line → is_too_long line ≡ false → 0 < length line
-    → Answers (line_call line) b c old new v w → IsUnwritten fault new w y → Ends foreign (Err fault) r x a c u y
+    → Answers (line_call line) b c old new v w → IsUnwritten fault new w y → EndsAt foreign (Err fault) r x a c u y
 ends_last_unwritten foreign fault r t x a b c u v w y old new count line p end no_lf short some (text, replied, gathers) h =
     let ahead : IfSome r (λ xs. (rest : List (List ℕ)) × (lines_of xs ≡ (p.done ++ line ∷ []) ++ rest)) =
     Consumes-whole r t (p.taken ++ (line ++ [])) (λ xs. (rest : List (List ℕ)) × (lines_of xs ≡ (p.done ++ line ∷ []) ++ rest)) p.consumed end
@@ -220,7 +221,7 @@ ends_last_unwritten foreign fault r t x a b c u v w y old new count line p end n
 pub ends_after_last : (foreign : Type 0) (r t x : Option (List ℕ)) (a b c : Receipts) (u v w y : Option (List ℕ)) (old mid new : Replies) (count : ℕ) (line : List ℕ)
     → Between r t a b u v old count line [] → IsAtEnd t → HasNoLf line → is_too_long line ≡ false → 0 < length line
     → Answers (line_call line) b c old mid v w → Appends w y mid.bytes.items → new.bytes.items ≡ [] → new.written ≡ saturating_count (mid.written + length mid.bytes.items)
-    → Ends foreign (Ok (count + 1)) r x a c u y
+    → EndsAt foreign (Ok (count + 1)) r x a c u y
 ends_after_last foreign r t x a b c u v w y old mid new count line p end no_lf short some (text, replied, gathers) sent none counted_so =
     let last = progress_line a b c u v w old mid p.done line text p.progress short replied gathers in
     let written = progress_sent a c u w y mid new (p.done ++ line ∷ []) last sent none counted_so in
@@ -230,7 +231,7 @@ ends_after_last foreign r t x a b c u v w y old mid new count line p end no_lf s
 
 -- a read failed
 pub ends_unread : (foreign : Type 0) (r t : Option (List ℕ)) (a b : Receipts) (u v : Option (List ℕ)) (replies : Replies) (count : ℕ) (line : List ℕ)
-    → Between r t a b u v replies count line [] → HasNoLf line → is_too_long line ≡ false → replies.bytes.items ≡ [] → Ends foreign (Err ReadFailed) r t a b u v
+    → Between r t a b u v replies count line [] → HasNoLf line → is_too_long line ≡ false → replies.bytes.items ≡ [] → EndsAt foreign (Err ReadFailed) r t a b u v
 ends_unread foreign r t a b u v replies count line p no_lf short none =
     let same : ended_lines (p.taken ++ line) ≡ p.done = ended_kept p.taken line no_lf ∙ p.ended in
     let all : lines_of (p.taken ++ line) ≡ p.done ++ lines_of line = lines_of-append p.taken line p.whole ∙ ap (λ d. d ++ lines_of line) p.ended in (

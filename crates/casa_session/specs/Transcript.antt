@@ -73,22 +73,40 @@ pub record Stopped (a b : Receipts) (v w : Option (List ℕ)) (lines left : List
   pub called : calls_of receipts ≡ calls lines
   pub written : Appends v w (transcript receipts lines)
 
--- how a session ends, of an input with r to s left: with the transcript of all its lines; with that up to a line that is
--- too long; with that of the lines ended before a read failed, where no line is too long, the unfinished one neither;
--- within that of the first lines, before its end, where a write failed; or with that of the first lines, none too long,
--- where memory was refused or a desk that may be foreign was so
-abbrev pub Ends : (foreign : Type 0) → Result ℕ SessionFault → (r s : Option (List ℕ)) (a b : Receipts) (v w : Option (List ℕ)) → Type 0
-Ends foreign (Ok n) r s a b v w =
-    IfSome r (λ xs.
-    AnswersLines a b v w (lines_of xs) × (has_too_long (lines_of xs) ≡ false) × (n ≡ length (lines_of xs)))
-Ends foreign (Err LineTooLong) r s a b v w =
-    IfSome r (λ xs. AnswersLines a b v w (lines_of xs) × (has_too_long (lines_of xs) ≡ true))
-Ends foreign (Err ReadFailed) r s a b v w =
-    (taken : List ℕ) × Consumes r s taken × AnswersLines a b v w (ended_lines taken)
+-- what a session has to do with, before it and after: what there is to read, the desk's receipts, and what was written
+pub record Sides : Type 0 where
+  pub input : Option (List ℕ)
+  pub input_left : Option (List ℕ)
+  pub receipts : Receipts
+  pub receipts_now : Receipts
+  pub output : Option (List ℕ)
+  pub output_now : Option (List ℕ)
+
+-- the lines were answered by the receipts that the desk has got, and their transcript was written
+abbrev pub HasAnswered : Sides → List (List ℕ) → Type 0
+HasAnswered s lines = AnswersLines s.receipts s.receipts_now s.output s.output_now lines
+
+-- the first lines were answered, none of them too long, and perhaps the next one; the transcript of the first was written
+abbrev pub HasStopped : Sides → Type 0
+HasStopped s =
+    IfSome s.input (λ xs. (lines rest : List (List ℕ)) × (lines_of xs ≡ lines ++ rest)
+    × Stopped s.receipts s.receipts_now s.output s.output_now lines rest)
+
+-- how a session ends: with the transcript of all its lines; with that up to a line that is too long; with that of the lines
+-- ended before a read failed, where no line is too long, the unfinished one neither; within that of the first lines, before
+-- its end, where a write failed; or with that of the first lines, none too long, where memory was refused or a desk that may
+-- be foreign was so
+abbrev pub Ends : (foreign : Type 0) → Result ℕ SessionFault → Sides → Type 0
+Ends foreign (Ok n) s =
+    IfSome s.input (λ xs.
+    HasAnswered s (lines_of xs) × (has_too_long (lines_of xs) ≡ false) × (n ≡ length (lines_of xs)))
+Ends foreign (Err LineTooLong) s =
+    IfSome s.input (λ xs. HasAnswered s (lines_of xs) × (has_too_long (lines_of xs) ≡ true))
+Ends foreign (Err ReadFailed) s =
+    (taken : List ℕ) × Consumes s.input s.input_left taken × HasAnswered s (ended_lines taken)
     × (has_too_long (lines_of taken) ≡ false)
-Ends foreign (Err (WriteFailed n)) r s a b v w =
-    IfSome r (λ xs. (lines rest : List (List ℕ)) × (lines_of xs ≡ lines ++ rest) × Cut a b v w lines n)
-Ends foreign (Err ForeignPass) r s a b v w =
-    foreign × IfSome r (λ xs. (lines rest : List (List ℕ)) × (lines_of xs ≡ lines ++ rest) × Stopped a b v w lines rest)
-Ends foreign (Err NoMemory) r s a b v w =
-    IfSome r (λ xs. (lines rest : List (List ℕ)) × (lines_of xs ≡ lines ++ rest) × Stopped a b v w lines rest)
+Ends foreign (Err (WriteFailed n)) s =
+    IfSome s.input (λ xs. (lines rest : List (List ℕ)) × (lines_of xs ≡ lines ++ rest)
+    × Cut s.receipts s.receipts_now s.output s.output_now lines n)
+Ends foreign (Err ForeignPass) s = foreign × HasStopped s
+Ends foreign (Err NoMemory) s = HasStopped s

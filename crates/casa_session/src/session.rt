@@ -22,10 +22,14 @@ pub fn run<R: Read, W: Write, D: Desk>(
     desk: &mut D,
 ) -> Result<u64, SessionFault>
     ensures lawful { D.lawful (D.answered desk.new) }
-    ensures ends { Ends D.may_be_foreign result
-        (R.remaining reader.old) (R.remaining reader.new) (D.answered desk.old)
-        (D.answered desk.new)
-        (W.contents writer.old) (W.contents writer.new) }
+    ensures ends { Ends D.may_be_foreign result (record {
+      input = R.remaining reader.old;
+      input_left = R.remaining reader.new;
+      receipts = D.answered desk.old;
+      receipts_now = D.answered desk.new;
+      output = W.contents writer.old;
+      output_now = W.contents writer.new;
+    }) }
 {
     let mut lines = LineReader::new();
     let mut line = Vec::new(alloc);

@@ -3,7 +3,7 @@ use Rattle.std.proofs.lemmas.Grind.{common_steps}
 use Rattle.std.specs.Prelude.{Result}
 use Rattle.casa_session.specs.declared.fault.SessionFault.{SessionFault}
 use Rattle.casa_session.specs.LineReader.{pending}
-use Rattle.casa_session.specs.Transcript.{Ends}
+use Rattle.casa_session.proofs.Sides.{EndsAt}
 use Rattle.casa_session.proofs.Parts.{no_lf_joined}
 use Rattle.casa_session.proofs.Runs.{after_line, after_read, begins, ends_after_last, ends_at_last, ends_at_line, ends_before_read, ends_input, ends_last_unwritten, ends_too_long, ends_unread, ends_without_memory, part_ended, part_open, passed_on}
 use Rattle.casa_session.proofs.session.run.Goals as goal
@@ -28,7 +28,7 @@ returns-in_err-answer-in-Ok-true-clause-ends g c =
     let split = part_ended _ _ ok.0 (pending c.take_part.new.self) c.in-Ok-true.field-0-test ok.2 in
     let no_lf = no_lf_joined _ c.lines.line.items ok.0 ok.3 c.lines.invariant.no_lf ok.1 in
     let fails = rw c.deref.ensures.value at (c.in_err-answer-in-Ok-true.ensures.err) in
-    let P : Result ℕ SessionFault → Type 0 = λ (r : Result ℕ SessionFault). Ends foreign r (reads c.args.reader.now) (reads c.lines.reader) (answered c.args.desk.now) (answered c.answer.new.desk) (contents c.args.writer.now) (contents c.answer.new.writer) in
+    let P : Result ℕ SessionFault → Type 0 = λ (r : Result ℕ SessionFault). EndsAt foreign r (reads c.args.reader.now) (reads c.lines.reader) (answered c.args.desk.now) (answered c.answer.new.desk) (contents c.args.writer.now) (contents c.answer.new.writer) in
     passed_on _ fault P c.from_residual.ensures
     (ends_at_line foreign fault _ _ (reads c.lines.reader) _ _ (answered c.answer.new.desk) _ _ (contents c.answer.new.writer) c.lines.replies _ line c.lines.line.items ok.0 _ (pending c.take_part.new.self)
     c.lines.invariant.between split ok.3 no_lf c.in-Ok-true.ensures.short fails)
@@ -56,7 +56,7 @@ returns-in_err-write-in-Ok-false-clause-ends g c =
     let answered = g.D.Desk.answered in
     let contents = g.W.Write.contents in
     let fault = c.in_err-write-in-Ok-false.field-0.0 in
-    let P : Result ℕ SessionFault → Type 0 = λ (r : Result ℕ SessionFault). Ends foreign r (reads c.args.reader.now) (reads c.lines.reader) (answered c.args.desk.now) (answered c.lines.desk) (contents c.args.writer.now) (contents c.write.new.writer) in
+    let P : Result ℕ SessionFault → Type 0 = λ (r : Result ℕ SessionFault). EndsAt foreign r (reads c.args.reader.now) (reads c.lines.reader) (answered c.args.desk.now) (answered c.lines.desk) (contents c.args.writer.now) (contents c.write.new.writer) in
     passed_on _ fault P c.from_residual-in_err-write-in-Ok-false.ensures
     (ends_before_read foreign fault _ _ (reads c.lines.reader) _ _ _ _ (contents c.write.new.writer) c.lines.replies _ _ _ c.lines.invariant.between c.in_err-write-in-Ok-false.ensures.err)
 
@@ -118,7 +118,7 @@ returns-in_err-answer-in-End-clause-ends g c =
     let between = after_read _ _ at_end _ _ _ _ _ c.lines.replies c.write.new.self _ line c.lines.line.items ok.0 _ []
     c.lines.invariant.between all ok.3 given.0 written.ok written.none written.count in
     let fails = rw c.deref-in-End.ensures.value at (c.in_err-answer-in-End.ensures.err) in
-    let P : Result ℕ SessionFault → Type 0 = λ (r : Result ℕ SessionFault). Ends foreign r (reads c.args.reader.now) at_end (answered c.args.desk.now) (answered c.answer-in-End.new.desk) (contents c.args.writer.now) (contents c.answer-in-End.new.writer) in
+    let P : Result ℕ SessionFault → Type 0 = λ (r : Result ℕ SessionFault). EndsAt foreign r (reads c.args.reader.now) at_end (answered c.args.desk.now) (answered c.answer-in-End.new.desk) (contents c.args.writer.now) (contents c.answer-in-End.new.writer) in
     passed_on _ fault P c.from_residual-in_err-answer-in-End.ensures
     (ends_at_last foreign fault _ at_end at_end _ _ (answered c.answer-in-End.new.desk) _ _ (contents c.answer-in-End.new.writer) c.write.new.self _ line between given.1 no_lf c.in-Ok-false.ensures.short some fails)
 
@@ -140,7 +140,7 @@ returns-in_err-write-in-End-clause-ends g c =
     let between = after_read _ _ at_end _ _ _ _ _ c.lines.replies c.write.new.self _ line c.lines.line.items ok.0 _ []
     c.lines.invariant.between all ok.3 given.0 written.ok written.none written.count in
     let answers = rw c.deref-in-End.ensures.value at (c.in_ok-answer-in-End.ensures.ok) in
-    let P : Result ℕ SessionFault → Type 0 = λ (r : Result ℕ SessionFault). Ends foreign r (reads c.args.reader.now) at_end (answered c.args.desk.now) (answered c.answer-in-End.new.desk) (contents c.args.writer.now) (contents c.write-in-End.new.writer) in
+    let P : Result ℕ SessionFault → Type 0 = λ (r : Result ℕ SessionFault). EndsAt foreign r (reads c.args.reader.now) at_end (answered c.args.desk.now) (answered c.answer-in-End.new.desk) (contents c.args.writer.now) (contents c.write-in-End.new.writer) in
     passed_on _ fault P c.from_residual-in_err-write-in-End.ensures
     (ends_last_unwritten foreign fault _ at_end at_end _ _ (answered c.answer-in-End.new.desk) _ _ _ (contents c.write-in-End.new.writer) c.write.new.self c.answer-in-End.new.self _ line
     between given.1 no_lf c.in-Ok-false.ensures.short some answers c.in_err-write-in-End.ensures.err)
