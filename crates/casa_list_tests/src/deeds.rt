@@ -35,7 +35,7 @@ pub type Step = (Deed, &'static str, u32, Option<Place>, Option<u32>);
 type Answer = (Option<Place>, Option<Moment>);
 
 /// A deed with a flight, and its answer; none where the flight is there already as it may not be.
-fn answer(
+fn attempt(
     list: &mut SlotList,
     deed: Deed,
     comp: &Comp,
@@ -57,6 +57,17 @@ fn answer(
     Ok((list.place_of(&comp.key), list.cto_of(&comp.key)))
 }
 
+/// The answer of a deed.
+fn answer(
+    rt: &impl Abort,
+    list: &mut SlotList,
+    deed: Deed,
+    comp: &Comp,
+    at: Option<u32>,
+) -> Answer {
+    attempt(list, deed, comp, moment_at(rt, at)).expect(rt, "memory")
+}
+
 /// The moment at this second, if one is given.
 fn moment_at(rt: &impl Abort, at: Option<u32>) -> Option<Moment> {
     match at {
@@ -68,10 +79,8 @@ fn moment_at(rt: &impl Abort, at: Option<u32>) -> Option<Moment> {
 /// Does step `n` with the list, and ends the test where it answers something else.
 fn take(rt: &impl Abort, list: &mut SlotList, n: usize, step: &Step) {
     let (deed, text, eto, place, cto) = *step;
-    let flight = comp(rt, text.as_bytes(), eto);
-    let cto = moment_at(rt, cto);
-    let answer = answer(list, deed, &flight, cto).expect(rt, "memory");
-    let wanted = (place, cto);
+    let answer = answer(rt, list, deed, &comp(rt, text.as_bytes(), eto), cto);
+    let wanted = (place, moment_at(rt, cto));
     assert_eq!(rt; answer, wanted, "step {n}: {text}");
 }
 

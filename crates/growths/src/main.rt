@@ -3,8 +3,10 @@
 
 use std::alloc::Global;
 use std::env;
-use std::io::{self, Read, Write};
+use std::io::{self, Input, Write};
 use std::process::ExitCode;
+use std::sync::Wait;
+use std::thread::Threads;
 use trials::{Ending, Fault, Trial};
 
 /// The words of the command line, without the program's name.
@@ -17,11 +19,18 @@ fn print_all<W: Write>(writer: &mut W) -> io::Result<()> {
     growths_of_values::print_all(writer)?;
     growths_of_boards::print_all(writer)?;
     growths_of_rooms::print_all(writer)?;
-    growths_of_sessions::print_all(writer)
+    growths_of_sessions::print_all(writer)?;
+    growths_of_desks::print_all(writer)
 }
 
 /// Tries the call of the scenario's case with these names.
-fn try_scenario<R: Read + Drop>(alloc: Global, mut reader: R, scenario: &str, case: &str) -> Trial {
+fn try_scenario<R: Threads + Wait + Sync + Input>(
+    rt: &R,
+    alloc: Global,
+    scenario: &str,
+    case: &str,
+) -> Trial {
+    let mut reader = rt.reader();
     if let Some(found) = growths_of_values::try_scenario(alloc, &mut reader, scenario, case) {
         return found;
     }
@@ -29,6 +38,9 @@ fn try_scenario<R: Read + Drop>(alloc: Global, mut reader: R, scenario: &str, ca
         return found;
     }
     if let Some(found) = growths_of_rooms::try_scenario(alloc, &mut reader, scenario, case) {
+        return found;
+    }
+    if let Some(found) = growths_of_desks::try_scenario(rt, alloc, &mut reader, scenario, case) {
         return found;
     }
     match growths_of_sessions::try_scenario(alloc, reader, scenario, case) {
@@ -47,9 +59,9 @@ fn text_of(trial: Trial) -> &'static str {
 }
 
 /// Does what the words ask for, and says whether all is right.
-fn carry_out<R: Read + Drop, W: Write>(
+fn carry_out<R: Threads + Wait + Sync + Input, W: Write>(
+    rt: &R,
     alloc: Global,
-    reader: R,
     writer: &mut W,
     words: &[String],
 ) -> io::Result<bool> {
@@ -57,7 +69,7 @@ fn carry_out<R: Read + Drop, W: Write>(
         print_all(writer)?;
         return Ok(true);
     };
-    let trial = try_scenario(alloc, reader, scenario.as_str(), case.as_str());
+    let trial = try_scenario(rt, alloc, scenario.as_str(), case.as_str());
     writeln!(writer, "{scenario} {case}: {}", text_of(trial))?;
     Ok(trial.is_ok())
 }
@@ -67,7 +79,7 @@ fn main(rt: HostRuntime) -> ExitCode {
     let Some(words) = words(&rt) else {
         return ExitCode::FAILURE;
     };
-    match carry_out(rt.alloc(), rt.reader(), &mut writer, words.as_slice()) {
+    match carry_out(&rt, rt.alloc(), &mut writer, words.as_slice()) {
         Ok(true) => ExitCode::SUCCESS,
         _ => ExitCode::FAILURE,
     }

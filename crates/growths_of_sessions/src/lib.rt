@@ -4,6 +4,7 @@
 mod late;
 mod sessions;
 
+pub use crate::sessions::try_session;
 use crate::sessions::{try_lone, try_reply};
 use std::alloc::Global;
 use std::io::{self, Read, Write};
