@@ -51,11 +51,11 @@ module _ {V : Type 0} (item_of : V → Item) (stamp_of : V → ℕ) (is_same : V
   stamp_held w = option_map_or stamp_of w 0
 
   -- equal versions have the same stamp
-  same_stamp : (x y : Option V) → same_version is_same x y ≡ true → stamp_held x ≡ stamp_held y
-  same_stamp None None e = refl
-  same_stamp None (Some w) e = absurd (cc)
-  same_stamp (Some v) None e = absurd (cc)
-  same_stamp (Some v) (Some w) e = same_stamp v w e
+  same_stamp_held : (x y : Option V) → same_version is_same x y ≡ true → stamp_held x ≡ stamp_held y
+  same_stamp_held None None e = refl
+  same_stamp_held None (Some w) e = absurd (cc)
+  same_stamp_held (Some v) None e = absurd (cc)
+  same_stamp_held (Some v) (Some w) e = same_stamp v w e
 
   -- what a view shows of an item that it holds
   shown_held : (v : View V) (i : ItemName) (w : Option V) → seen v i ≡ Some w
@@ -69,8 +69,8 @@ module _ {V : Type 0} (item_of : V → Item) (stamp_of : V → ℕ) (is_same : V
     stamp_is : (i : ItemName) → stamp_at stamp_of vs i ≡ stamp history i
     stamp_is i = ap (λ (s : BoardState). s.stamp i) is ∙ stamp_replayed history i
 
-    stands_well : IsGoodBoard (board_state item_of stamp_of vs)
-    stands_well = good_state IsGoodBoard after after_is_good opening opening_is_good history (board_state item_of stamp_of vs) is
+    board_is_good : IsGoodBoard (board_state item_of stamp_of vs)
+    board_is_good = good_state IsGoodBoard after after_is_good opening opening_is_good history (board_state item_of stamp_of vs) is
 
     module _ (orderly : IsOrderly item_of vs) (v : View V) (call : Call) (for_call : IsFor item_of v call)
         (current : IsCurrent is_same vs v) (shows : Shows item_of (shown_state item_of vs) v) where
@@ -112,13 +112,13 @@ module _ {V : Type 0} (item_of : V → Item) (stamp_of : V → ℕ) (is_same : V
               let kept : content_at item_of vs (a_row key) ≡ row_or_none (row_of (item_of z)) =
               ap (λ (o : Option V). content_as (a_row key) (option_map item_of o)) there in
               let same = same_row (row_of (item_of z)) (row_of (item_of w))
-              (sym kept ∙ contains item_of stamp_of vs orderly.in_order.rows stands_well (a_row key) ∙ shown_so) in
+              (sym kept ∙ contains item_of stamp_of vs orderly.in_order.rows board_is_good (a_row key) ∙ shown_so) in
               subst IsSome same (orderly.rows_are_there key z there)
 
       pub present_view : IsViewAfter item_of stamp_of history call v
       present_view = record {
         shows = shows_now;
-        stamped = λ i w holds. sym (same_stamp (version_at vs i) w (current i w holds)) ∙ stamp_is i;
+        stamped = λ i w holds. sym (same_stamp_held (version_at vs i) w (current i w holds)) ∙ stamp_is i;
         rows_are_there = row_is_there;
       }
 
@@ -145,7 +145,7 @@ module _ {V : Type 0} (item_of : V → Item) (stamp_of : V → ℕ) (is_same : V
   current_unmoved vs before later call v is tied viewed = (
     (λ current i read_it.
         let h = holds_read before call v viewed i read_it in
-        sym (stamp_is vs (before ++ later) is i) ∙ same_stamp (version_at vs i) h.0 (current i h.0 h.1)
+        sym (stamp_is vs (before ++ later) is i) ∙ same_stamp_held (version_at vs i) h.0 (current i h.0 h.1)
         ∙ viewed.stamped i h.0 h.1),
     (λ unmoved i w holds.
         tied i w holds
