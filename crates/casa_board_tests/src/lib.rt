@@ -1,4 +1,4 @@
-//! Tests of casa_named, casa_view, casa_shelf, casa_plan and casa_world, through what is public of them.
+//! Tests of casa_view, casa_shelf, casa_plan and casa_world, through what is public of them.
 //!
 //! They stand in a crate of their own, so that each library is proved once.
 #![tactic(auto)]
@@ -21,8 +21,6 @@ mod interleavings;
 mod items;
 #[cfg(test)]
 mod lines;
-#[cfg(test)]
-mod named;
 #[cfg(test)]
 mod outdated;
 #[cfg(test)]

@@ -1,4 +1,4 @@
-//! Tests of casa_list, through what is public of it.
+//! Tests of casa_list and casa_named, through what is public of them.
 //!
 //! They stand in a crate of their own, so that they are proved beside those of the other crates.
 #![tactic(auto)]
@@ -9,6 +9,8 @@ mod chains;
 mod deeds;
 #[cfg(test)]
 mod list;
+#[cfg(test)]
+mod named;
 #[cfg(test)]
 mod parts;
 #[cfg(test)]

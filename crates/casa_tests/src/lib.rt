@@ -10,8 +10,6 @@ mod flight;
 #[cfg(test)]
 mod grid;
 #[cfg(test)]
-mod history;
-#[cfg(test)]
 mod parts;
 #[cfg(test)]
 mod plain;

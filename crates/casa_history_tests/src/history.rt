@@ -1,9 +1,14 @@
 //! Histories and passes.
 
-use crate::parts::equal;
 use casa_history::{Entry, History, Holds, Pass, Receipt, Settled, SharedEntry, Torn, settle};
 use std::alloc::Global;
+use std::fmt::Debug;
 use std::process::Abort;
+
+/// Ends the test where what was found is not what is wanted, and shows both.
+fn equal<T: PartialEq + Debug>(rt: &impl Abort, found: &T, wanted: &T) {
+    assert_eq!(rt; *found, *wanted);
+}
 
 /// A call of a desk with its reply, both numbers.
 fn entry(
