@@ -94,9 +94,8 @@ impl<W: World> Room<W> {
     /// memory for it.
     pub fn open_desk(&mut self) -> Result<Pass<W::Call, W::Reply>, DeskFault>
         ensures full { (result ≡ Err DeskFault.TooManyDesks) ↔ (open_desks self.old ≡ most_desks) }
-        ensures number { IfOk result (λ p. number_of p ≡ room_number self.old) }
-        ensures desk { IfOk result (λ p. desk_of p ≡ open_desks self.old) }
-        ensures empty { IfOk result (λ p. receipts p ≡ []) }
+        ensures pass { IfOk result (λ p. (number_of p ≡ room_number self.old)
+            × (desk_of p ≡ open_desks self.old) × (receipts p ≡ [])) }
         ensures opened { OnOk result (open_desks self.new ≡ open_desks self.old + 1) }
         ensures closed { OnErr result (open_desks self.new ≡ open_desks self.old) }
         ensures same_number { room_number self.new ≡ room_number self.old }

@@ -158,14 +158,12 @@ impl<W: Shareable + Drop, L: Ledger> CountedRoom<W, L> {
         ensures desks { result.1 ≡ open_desks self.room }
         ensures opened { length passes.items ≤ result.1 }
         ensures legal { IsLegal W.after W.reply W.opening (entries result.0) }
-        ensures settled { IfOk result.2 (λ s. (d : ℕ)
-            → IsSettled d (entries result.0) (passes_in passes.items)) }
-        ensures counts { IfOk result.2 (λ s. (s.desks ≡ length passes.items)
-            × (s.entries ≡ length (entries result.0))) }
-        ensures torn { IfErr result.2 (λ t. ¬
-            (IsSettled t.0 (entries result.0) (passes_in passes.items))) }
-        ensures least { IfErr result.2 (λ t. (d : ℕ) → d < t.0 →
-            IsSettled d (entries result.0) (passes_in passes.items)) }
+        ensures settled { IfOk result.2 (λ s. (s.desks ≡ length passes.items)
+            × (s.entries ≡ length (entries result.0))
+            × ((d : ℕ) → IsSettled d (entries result.0) (passes_in passes.items))) }
+        ensures torn { IfErr result.2 (λ t.
+            (¬ (IsSettled t.0 (entries result.0) (passes_in passes.items)))
+            × ((d : ℕ) → d < t.0 → IsSettled d (entries result.0) (passes_in passes.items))) }
         ensures all_calls { length passes.items ≡ result.1 →
             calls_in passes.items ≡ length (entries result.0) }
     {

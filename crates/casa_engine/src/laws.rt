@@ -14,6 +14,7 @@ use casa_view::{Board, Store};
 /// replies after the entries before it.
 pub fn legal_histories_are_sequential<K: Store>()
     ensures { (es : List (Entry Call Reply)) →
-        IsLegal ⟦<Board<K> as World>⟧.after ⟦<Board<K> as World>⟧.reply ⟦<Board<K> as World>⟧.opening es →
+        IsLegal ⟦<Board<K> as World>⟧.after ⟦<Board<K> as World>⟧.reply
+        ⟦<Board<K> as World>⟧.opening es →
         IsSequential es }
 {}

@@ -78,10 +78,10 @@ impl Cost {
         requires room { AreAtMost (2 ^ 127) self.old }
         ensures within { AreAtMost (2 ^ 64) (cost_of list.now) }
         ensures slots { self.new.slots ≡ self.old.slots + list.now.slots }
-        ensures governed { self.new.governed ≡ self.old.governed + count is_governed list.now.rows }
-        ensures issued { self.new.issued ≡ self.old.issued + count is_issued list.now.rows }
-        ensures forced { self.new.forced ≡ self.old.forced + count is_forced list.now.rows }
-        ensures over { self.new.over ≡ self.old.over + count is_over list.now.rows }
+        ensures flights { (self.new.governed ≡ self.old.governed + count is_governed list.now.rows)
+            × (self.new.issued ≡ self.old.issued + count is_issued list.now.rows)
+            × (self.new.forced ≡ self.old.forced + count is_forced list.now.rows)
+            × (self.new.over ≡ self.old.over + count is_over list.now.rows) }
         ensures delay { self.new.delay ≡ self.old.delay }
         ensures longest { self.new.longest ≡ max self.old.longest
             (greatest (governed_delays list.now.rows)) }

@@ -23,7 +23,8 @@ pub(crate) fn hand_in<W: Stamped>(
 ) -> Result<Outcome, AllocError>
     requires admitted { Admits room.old pass.old }
     requires of_world { W.is_of (view_of prepared) (world_of room.old) }
-    ensures desk { OnOk result (desk_of pass.new ≡ desk_of pass.old) }
+    ensures pass { OnOk result ((desk_of pass.new ≡ desk_of pass.old)
+        × Admits room.new pass.new) }
     ensures views { OnOk result ((v : W.View) → W.is_of v (world_of room.old)
         → W.is_of v (world_of room.new)) }
     ensures ties { OnOk result ((c : W.Call) (v : W.View) (before : List (Entry W.Call W.Reply)) →
@@ -38,7 +39,6 @@ pub(crate) fn hand_in<W: Stamped>(
         IsOutcomeOfCommit (W.is_unmoved before (call_of prepared) (entries_of room.old)) outcome
         (entries_of room.old)
         (entry (desk_of pass.old) (call_of prepared) (reply_of prepared)) (entries_of room.new)) }
-    ensures admitted { OnOk result (Admits room.new pass.new) }
     ensures others { OnOk result ((p : Pass W.Call W.Reply) → desk_of p ≢ desk_of pass.old →
         Admits room.old p → Admits room.new p) }
 {

@@ -121,12 +121,12 @@ pub(crate) fn act<W: Stamped>(
 where
     Direct: Gate<W>,
     requires admitted { Admits room.old desk.old.pass }
-    requires for_call { IsForHeld W.is_for desk.old.held }
-    requires of_world { IsOfHeld (λ p. W.is_of (view_of p) (world_of room.old)) desk.old.held }
+    requires held { IsForHeld W.is_for desk.old.held
+        × IsOfHeld (λ p. W.is_of (view_of p) (world_of room.old)) desk.old.held }
     requires sits { desk_of desk.old.pass ≡ worker_of event.now }
     requires few { desk_of desk.old.pass < most_workers }
-    ensures desk { OnOk result (desk_of desk.new.pass ≡ desk_of desk.old.pass) }
-    ensures admitted { OnOk result (Admits room.new desk.new.pass) }
+    ensures pass { OnOk result ((desk_of desk.new.pass ≡ desk_of desk.old.pass)
+        × Admits room.new desk.new.pass) }
     ensures others { OnOk result ((p : Pass W.Call W.Reply) → desk_of p ≢ desk_of desk.old.pass →
         Admits room.old p → Admits room.new p) }
     ensures stay { OnOk result ((y : Desk W.Call W.Reply W.View

@@ -31,7 +31,7 @@ returns g c = record {
         r.1,
         scene_turn (Admits room) (Admits room') (IsRoomView world stamped room) (IsRoomView world stamped room')
             (IsRoomAnswer world stamped room) (IsRoomAnswer world stamped room') (entries_of room) (entries_of room') ds at d d' m r.0
-            here scene r.2 en.desk en.admitted stands' (λ v other. r.4 v (λ same. other (same ∙ sym is))) en.others en.stay,
+            here scene r.2 en.pass.0 en.pass.1 stands' (λ v other. r.4 v (λ same. other (same ∙ sym is))) en.others en.stay,
       );
 }
 

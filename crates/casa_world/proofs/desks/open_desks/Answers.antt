@@ -28,7 +28,7 @@ pub loop-preserved : goal.loop-preserved
 loop-preserved g c =
     let inv = c.loop.invariant in
     let en = c.in-Ok.ensures in
-    let desk : desk_of c.in-Ok.pass ≡ length c.loop.desks.items = omega (arith, en.desk, inv.opened, inv.counted, c.loop.desks.ok.0) in
+    let desk : desk_of c.in-Ok.pass ≡ length c.loop.desks.items = omega (arith, en.pass.1, inv.opened, inv.counted, c.loop.desks.ok.0) in
     let d : DeskOf g = record { pass = c.in-Ok.pass; held = Nothing; outcome = None } in
     record {
       counted = search rules;
@@ -38,7 +38,7 @@ loop-preserved g c =
       history = en.same_history ∙ inv.history;
       fresh = subst (λ (xs : List (DeskOf g)). AreFresh c.open_desk.new.self.number xs) (sym c.in_ok-push.ensures.items)
           (subst (λ (n : ℕ). AreFresh n (c.loop.desks.items ++ d ∷ [])) (sym en.same_number)
-          (fresh_push c.loop.room.number c.loop.desks.items d inv.fresh desk en.number en.empty refl refl));
+          (fresh_push c.loop.room.number c.loop.desks.items d inv.fresh desk en.pass.0 en.pass.2 refl refl));
     }
 
 pub returns-clause-scene : goal.returns-clause-scene

@@ -1,13 +1,15 @@
-use Rattle.std.proofs.Common.{[], sym, append-nil, ◌∙◌}
+use Rattle.std.proofs.Common.{[], sym, append-nil, ◌∙◌, rules}
 use Rattle.casa_commit.specs.Prepared.{call_of, change_of}
 use Rattle.casa_commit.specs.Rooms.{entries_of}
 use Rattle.casa_world.proofs.Passes.{admits_own, admits_other, admits_still}
 use Rattle.casa_world.proofs.hand_in.hand_in.Goals as goal
 
-pub returns-in-Ok-clause-admitted : goal.returns-in-Ok-clause-admitted
-returns-in-Ok-clause-admitted g c =
-    admits_own c.args.room.now c.commit.new.room c.args.pass.now c.commit.new.pass
-    (call_of c.args.prepared) (change_of c.args.prepared) c.in-Ok.receipt c.in-Ok.ensures.accepted
+pub returns-in-Ok-clause-pass : goal.returns-in-Ok-clause-pass
+returns-in-Ok-clause-pass g c = (
+  search rules,
+  admits_own c.args.room.now c.commit.new.room c.args.pass.now c.commit.new.pass
+      (call_of c.args.prepared) (change_of c.args.prepared) c.in-Ok.receipt c.in-Ok.ensures.accepted,
+)
 
 pub returns-in-Ok-clause-others : goal.returns-in-Ok-clause-others
 returns-in-Ok-clause-others g c =

@@ -22,17 +22,17 @@ loop-list-preserved c =
     rows-next lists i list c.loop-list-test.true ∙ ap (λ (l : ListReply). before ++ l.rows) (sym c.list-item.is) in
     record {
       slots = omega (arith, more.slots, kept.slots, ap (sum_by slots_of) here, sum_by_push slots_of (take i lists) list);
-      governed = omega (arith, more.governed, kept.governed, ap (count is_governed) rows, count-append is_governed before list.rows);
-      issued = omega (arith, more.issued, kept.issued, ap (count is_issued) rows, count-append is_issued before list.rows);
-      forced = omega (arith, more.forced, kept.forced, ap (count is_forced) rows, count-append is_forced before list.rows);
-      over = omega (arith, more.over, kept.over, ap (count is_over) rows, count-append is_over before list.rows);
+      governed = omega (arith, more.flights.0, kept.governed, ap (count is_governed) rows, count-append is_governed before list.rows);
+      issued = omega (arith, more.flights.1, kept.issued, ap (count is_issued) rows, count-append is_issued before list.rows);
+      forced = omega (arith, more.flights.2, kept.forced, ap (count is_forced) rows, count-append is_forced before list.rows);
+      over = omega (arith, more.flights.3, kept.over, ap (count is_over) rows, count-append is_over before list.rows);
       delay = more.delay ∙ kept.delay;
       longest = omega (arith, more.longest, kept.longest, ap (λ (rs : List ListRow). greatest (governed_delays rs)) rows, longest-append before list.rows);
       bound = record {
         slots = omega (arith, more.slots, kept.bound.slots, more.within.slots);
-        governed = omega (arith, more.governed, kept.bound.governed, more.within.governed);
-        issued = omega (arith, more.issued, kept.bound.issued, more.within.issued);
-        forced = omega (arith, more.forced, kept.bound.forced, more.within.forced);
-        over = omega (arith, more.over, kept.bound.over, more.within.over);
+        governed = omega (arith, more.flights.0, kept.bound.governed, more.within.governed);
+        issued = omega (arith, more.flights.1, kept.bound.issued, more.within.issued);
+        forced = omega (arith, more.flights.2, kept.bound.forced, more.within.forced);
+        over = omega (arith, more.flights.3, kept.bound.over, more.within.over);
       };
     }
