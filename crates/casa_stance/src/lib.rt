@@ -1,8 +1,6 @@
 //! One flight in the list of a regulation: how it comes, goes or stands otherwise, and the time that it would have there.
 #![tactic(auto)]
 
-mod lists;
-mod times;
+mod stance;
 
-pub use lists::with_flight;
-pub use times::time_there;
+pub use stance::{time_there, with_flight};

@@ -2,7 +2,7 @@ use Rattle.std.proofs.Common.{◌≡◌, ◌∙◌, sym, subst}
 use Rattle.casa_flight.specs.Good.{AreInOrder}
 use Rattle.casa_flight.specs.Listing.{Listing, stance_of}
 use Rattle.casa_stance.proofs.Standing.{with_same}
-use Rattle.casa_stance.proofs.lists.with_flight.Goals as goal
+use Rattle.casa_stance.proofs.stance.with_flight.Goals as goal
 
 pub returns-then-is_stance : goal.returns-then-is_stance
 returns-then-is_stance c =

@@ -7,7 +7,7 @@ use Rattle.casa_flight.specs.Listing.{Listing, cto_as}
 use Rattle.casa_flight.specs.Entry.{with_competitor}
 use Rattle.casa_plan_spec.specs.Write.{with_flight}
 use Rattle.casa_stance.proofs.Standing.{absent_without, put_again}
-use Rattle.casa_stance.proofs.times.time_anew.Goals as goal
+use Rattle.casa_stance.proofs.stance.time_anew.Goals as goal
 
 pub would_pass-requires : goal.would_pass-requires
 would_pass-requires c =

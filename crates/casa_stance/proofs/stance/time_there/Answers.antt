@@ -4,7 +4,7 @@ use Rattle.casa_flight.specs.declared.row.Stance.{Stance}
 use Rattle.casa_flight.specs.declared.row.Stance.TheVariants.{Competing}
 use Rattle.casa_flight.specs.Listing.{stance_of}
 use Rattle.casa_stance.proofs.Standing.{time_kept}
-use Rattle.casa_stance.proofs.times.time_there.Goals as goal
+use Rattle.casa_stance.proofs.stance.time_there.Goals as goal
 
 pub returns-then-eq : goal.returns-then-eq
 returns-then-eq c =

@@ -3,7 +3,7 @@ use Rattle.std.specs.Option.{option_and_then}
 use Rattle.casa_filing.specs.Text.{Text}
 use Rattle.casa_list.specs.Standings.{place_as}
 use Rattle.casa_stance.proofs.Standing.{absent_without, put_again}
-use Rattle.casa_stance.proofs.lists.make_way.Goals as goal
+use Rattle.casa_stance.proofs.stance.make_way.Goals as goal
 
 pub returns-in_default-clause-ungoverned : goal.returns-in_default-clause-ungoverned
 returns-in_default-clause-ungoverned c =
