@@ -52,6 +52,11 @@ impl Version for Copied {
         })
     }
 
+    fn into_item(self) -> Option<Arc<Item>> {
+        let Copied { stamp: _, item } = self;
+        Some(item)
+    }
+
     ghost same_itself = { same_copy };
 
     ghost same_stamp = { same_copy_stamp };

@@ -4,9 +4,11 @@
 mod catalogue;
 mod copies;
 mod item;
+mod spare;
 mod version;
 
 pub use catalogue::{Catalogue, Crossings};
 pub use copies::{Copied, Copies};
 pub use item::{Item, row_in};
+pub use spare::Spare;
 pub use version::{Store, Version};

@@ -1,4 +1,4 @@
-ghost use Rattle.std.specs.Prelude.{◌≡◌, ℕ, Bool, true, IfOk, IsTrue};
+ghost use Rattle.std.specs.Prelude.{◌≡◌, ℕ, Bool, true, IfOk, IfSome, IsTrue};
 ghost use Rattle.std.specs.Arc.{arc_value};
 ghost use Rattle.casa_item.specs.declared.item.Item.{Item};
 
@@ -29,6 +29,15 @@ pub trait Version: Drop {
     /// The same version once more. `AllocError` where there is no memory for it.
     fn try_clone(&self) -> Result<Self, AllocError>
         ensures { IfOk result (λ version. version ≡ self.now) };
+
+    /// The item as it is shared, where the version has it in memory of its own.
+    fn into_item(self) -> Option<Arc<Item>>
+    where
+        Self: Sized,
+        ensures { IfSome result (λ item. arc_value item ≡ item_of self) }
+    {
+        None
+    }
 
     /// Each version is equal to itself.
     ghost same_itself: { (v : Self) → is_same v v ≡ true };

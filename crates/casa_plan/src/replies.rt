@@ -11,7 +11,7 @@ use crate::flight_reply::{ctot_shown_if, delay_in};
 use crate::shown::Shown;
 use casa_flight::{Answer, Key, Message, Messages, Refusal, Reply, Row, is_issued};
 use casa_list::SlotList;
-use casa_view::{Change, Version, WrittenRow};
+use casa_view::{Change, Version};
 use std::alloc::{AllocError, Global};
 
 /// A refused call, which writes nothing.
@@ -75,11 +75,11 @@ fn message_of_row<V: Version>(
     view: &Shown<V>,
     draft: &Change,
     key: &Key,
-    row: &WrittenRow,
+    row: &Option<Row>,
 ) -> Option<Message>
     ensures { result ≡ option_and_then (message_shown view.now draft.now key.now) row.now }
 {
-    message_to(view, draft, key, row.row()?)
+    message_to(view, draft, key, row.as_ref()?)
 }
 
 /// The messages to the operators of the flights that a draft writes, in the order of their keys, in no more memory than

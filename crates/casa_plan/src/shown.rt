@@ -163,7 +163,7 @@ pub(crate) fn row_with<'a>(draft: &'a Change, key: &Key, shown: Option<&'a Row>)
         ≡ unwrap_or (at_name draft.now.rows key.now) (option_copied shown.entry) }
 {
     match draft.rows().get(key) {
-        Some(row) => row.row(),
+        Some(row) => row.as_ref(),
         None => shown,
     }
 }

@@ -9,7 +9,7 @@ ghost use Rattle.casa_table.specs.Laid.{with_value, with_changes};
 
 use crate::index::Index;
 use casa_flight::Name;
-use casa_item::Version;
+use casa_item::{Spare, Version};
 use std::alloc::{AllocError, Global};
 use std::collections::BTreeMap;
 use std::collections::btree_map::Entry;
@@ -66,8 +66,9 @@ impl<Kind, V, I: Index<Kind, V>> Base<Kind, V, I> {
 }
 
 impl<Kind: Copy, V: Drop, I: Index<Kind, V>> Base<Kind, V, I> {
-    /// Puts a value under a name. `AllocError` where there is no memory for it; the values are then as they were.
-    fn put(&mut self, name: Name<Kind>, value: V) -> Result<(), AllocError>
+    /// Puts a value under a name, and gives the one that stood there. `AllocError` where there is no memory for it; the
+    /// values are then as they were.
+    fn put(&mut self, name: Name<Kind>, value: V) -> Result<Option<V>, AllocError>
         ensures written { OnOk result (self.new ≡ put self.old name value) }
         ensures unchanged { OnErr result (self.new ≡ self.old) }
     {
@@ -76,46 +77,47 @@ impl<Kind: Copy, V: Drop, I: Index<Kind, V>> Base<Kind, V, I> {
                 let place = entry.into_mut();
                 self.index.note(&name, &value, Some(&*place))?;
                 self.index.forget(&name, &*place, Some(&value));
-                *place = value;
-                Ok(())
+                Ok(Some(mem::replace(place, value)))
             }
             Ok(Entry::Vacant(entry)) => {
                 let earlier: Option<V> = None;
                 self.index.note(&name, &value, earlier.as_ref())?;
                 entry.insert(value);
-                Ok(())
+                Ok(None)
             }
             Err(_) => Err(AllocError),
         }
     }
 
     /// Takes out the value under a name.
-    fn remove(&mut self, name: &Name<Kind>)
+    fn remove(&mut self, name: &Name<Kind>) -> Option<V>
         ensures { self.new ≡ without self.old name.now }
     {
-        if let Some(gone) = self.values.remove(name) {
-            self.index.forget(name, &gone, self.values.get(name));
-        }
+        let gone = self.values.remove(name)?;
+        self.index.forget(name, &gone, self.values.get(name));
+        Some(gone)
     }
 }
 
 impl<Kind: Copy, V: Version, I: Index<Kind, V>> Base<Kind, V, I> {
-    /// Makes a change. `AllocError` where there is no memory for it; the values are then as they were.
-    fn write(&mut self, name: &Name<Kind>, change: &Option<V>) -> Result<(), AllocError>
+    /// Makes a change, and gives the value that stood there. `AllocError` where there is no memory for it; the values are
+    /// then as they were.
+    fn write(&mut self, name: &Name<Kind>, change: &Option<V>) -> Result<Option<V>, AllocError>
         ensures written { OnOk result (self.new ≡ with_value self.old name.now change.now) }
         ensures unchanged { OnErr result (self.new ≡ self.old) }
     {
         match change {
             Some(value) => self.put(*name, value.try_clone()?),
-            None => {
-                self.remove(name);
-                Ok(())
-            }
+            None => Ok(self.remove(name)),
         }
     }
 
-    /// Moves the first change over to the values.
-    fn absorb_first(&mut self, changes: &mut Changes<Kind, V>) -> Result<(), AllocError>
+    /// Moves the first change over to the values, and keeps the memory of what it replaces.
+    fn absorb_first(
+        &mut self,
+        changes: &mut Changes<Kind, V>,
+        spare: &mut Spare,
+    ) -> Result<(), AllocError>
         ensures same { with_changes changes.new.entries self.new
             ≡ with_changes changes.old.entries self.old }
         ensures fewer { OnOk result (length changes.new.entries ≡ length changes.old.entries - 1) }
@@ -125,14 +127,18 @@ impl<Kind: Copy, V: Version, I: Index<Kind, V>> Base<Kind, V, I> {
         let Some((name, change)) = changes.first_key_value() else {
             return Ok(());
         };
-        self.write(name, change)?;
+        let replaced = self.write(name, change)?;
         changes.pop_first();
-        Ok(())
+        spare.keep_replaced(replaced)
     }
 
     /// Moves all changes over to the values. `AllocError` where there is no memory for one; what the changes lead to is
     /// then the same.
-    fn absorb(&mut self, changes: &mut Changes<Kind, V>) -> Result<(), AllocError>
+    fn absorb(
+        &mut self,
+        changes: &mut Changes<Kind, V>,
+        spare: &mut Spare,
+    ) -> Result<(), AllocError>
         ensures same { with_changes changes.new.entries self.new
             ≡ with_changes changes.old.entries self.old }
         ensures done { OnOk result (changes.new.entries ≡ []) }
@@ -140,7 +146,7 @@ impl<Kind: Copy, V: Version, I: Index<Kind, V>> Base<Kind, V, I> {
         ensures changes_ordered { AreInOrder changes.old.entries → AreInOrder changes.new.entries }
     {
         while !changes.is_empty() {
-            self.absorb_first(changes)?;
+            self.absorb_first(changes, spare)?;
         }
         Ok(())
     }
@@ -265,11 +271,11 @@ impl<Kind: Copy, V: Version, I: Index<Kind, V>> Table<Kind, V, I> {
     }
 
     /// Moves the changes that lie beside the base into it, if no view has it, or into a new one, if they are too many.
-    /// `AllocError` where there is no memory for it.
-    pub fn consolidate(&mut self) -> Result<(), AllocError>
+    /// What is replaced leaves its memory to the spare. `AllocError` where there is no memory for it.
+    pub fn consolidate(&mut self, spare: &mut Spare) -> Result<(), AllocError>
         ensures { self.new.entries ≡ self.old.entries }
     {
-        absorb_alone(&mut self.base, &mut self.recent)?;
+        absorb_alone(&mut self.base, &mut self.recent, spare)?;
         if MOST_BESIDE < self.recent.len() {
             let base = Arc::new(self.alloc, self.base.merged(self.alloc, &self.recent)?)?;
             self.recent = Arc::new(self.alloc, BTreeMap::new(self.alloc))?;
@@ -293,13 +299,12 @@ impl<Kind: Copy, V: Version, I: Index<Kind, V>> Table<Kind, V, I> {
         spare
     }
 
-    /// Makes changes ready to be adopted. `AllocError` where there is no memory for them; the values are then as they
-    /// were.
+    /// Makes changes ready to be adopted, with those that lie beside the base. `AllocError` where there is no memory for
+    /// them; the values are then as they were.
     pub fn fit(&mut self, changes: Changes<Kind, V>) -> Result<(), AllocError>
         ensures same { self.new.entries ≡ self.old.entries }
         ensures next { OnOk result (self.new.next ≡ with_changes changes.entries self.new.entries) }
     {
-        self.consolidate()?;
         let mut changes = changes;
         keep_others(&mut changes, &self.recent)?;
         put_shared(self.alloc, &mut self.coming, changes)
@@ -332,6 +337,7 @@ fn put_shared<T: Drop>(alloc: Global, shared: &mut Arc<T>, value: T) -> Result<(
 fn absorb_alone<Kind: Copy, V: Version, I: Index<Kind, V>>(
     base: &mut Arc<Base<Kind, V, I>>,
     changes: &mut Arc<Changes<Kind, V>>,
+    spare: &mut Spare,
 ) -> Result<(), AllocError>
     ensures same { with_changes (arc_value changes.new).entries (arc_value base.new)
         ≡ with_changes (arc_value changes.old).entries (arc_value base.old) }
@@ -341,7 +347,7 @@ fn absorb_alone<Kind: Copy, V: Version, I: Index<Kind, V>>(
 {
     if let Some(base) = Arc::get_mut(base) {
         if let Some(changes) = Arc::get_mut(changes) {
-            base.absorb(changes)?;
+            base.absorb(changes, spare)?;
         }
     }
     Ok(())

@@ -12,7 +12,7 @@ use crate::view::View;
 use casa_commit::World;
 use casa_flight::{Call, Key, RegId, Regulation, Reply, Row};
 use casa_list::{SharedList, SlotList};
-use casa_table::{Catalogue, Item, Store, Table, Version, row_in};
+use casa_table::{Catalogue, Item, Spare, Store, Table, Version, row_in};
 use casa_time::Moment;
 use std::alloc::{AllocError, Global};
 use std::sync::Arc;
@@ -69,6 +69,7 @@ impl<K: Store> Board<K> {
             next_catalogue: None,
             rows: Table::new(alloc)?,
             lists: Table::new(alloc)?,
+            spare: Spare::new(alloc)?,
         };
         Ok(Board {
             alloc,
@@ -183,13 +184,7 @@ impl<K: Store> World for Board<K> {
     }
 
     fn fits(&mut self, position: usize, change: &Change) -> Result<(), AllocError> {
-        fit(
-            self.alloc,
-            &mut self.store,
-            &mut self.items,
-            position,
-            change,
-        )
+        fit(&mut self.store, &mut self.items, position, change)
     }
 
     fn apply(&mut self, _position: usize, _change: Change) {

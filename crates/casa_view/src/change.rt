@@ -1,17 +1,15 @@
 //! What a call writes.
 
-ghost use Rattle.std.specs.Prelude.{◌≡◌, Some, IfOk, OnOk, OnErr};
-ghost use Rattle.std.specs.Option.{option_copied};
+ghost use Rattle.std.specs.Prelude.{◌≡◌, Some, OnOk, OnErr};
 ghost use Rattle.casa_filing.specs.Text.{at_name, put, without};
 ghost use Rattle.casa_flight.specs.Good.{AreInOrder};
 ghost use Rattle.casa_plan_spec.specs.Sight.{nothing_written};
 ghost use Rattle.casa_view.specs.Board.{catalogue_written};
-ghost use Rattle.casa_view.specs.Next.{NextRow};
 
 use casa_flight::{Key, OfFlight, OfRegulation, RegId, Row};
 use casa_list::SharedList;
 use casa_named::Few;
-use casa_table::{Catalogue, Item, Store, row_in};
+use casa_table::{Catalogue, Item};
 use casa_time::Moment;
 use std::alloc::{AllocError, Global};
 use std::marker::Model;
@@ -25,7 +23,7 @@ pub struct Change {
     alloc: Global,
     clock: Option<Moment>,
     catalogue: Option<Arc<Item>>,
-    rows: Few<OfFlight, WrittenRow>,
+    rows: Few<OfFlight, Option<Row>>,
     lists: Few<OfRegulation, Option<SharedList>>,
 }
 
@@ -92,7 +90,6 @@ impl Change {
         ensures written { OnOk result (self.new
             ≡ record self.old { rows = put self.old.rows key row }) }
     {
-        let row = WrittenRow::new(self.alloc, key, row)?;
         self.rows.put(key, row)
     }
 
@@ -130,7 +127,7 @@ impl Change {
     }
 
     /// The rows that are written, or absences, by keys.
-    pub fn rows(&self) -> &Few<OfFlight, WrittenRow>
+    pub fn rows(&self) -> &Few<OfFlight, Option<Row>>
         ensures { result.now ≡ self.now.rows }
     {
         &self.rows
@@ -141,70 +138,5 @@ impl Change {
         ensures { result.now ≡ self.now.lists }
     {
         &self.lists
-    }
-}
-
-/// The row of a flight as it is written, or that there is none: the item of which its version will be made, so that it is
-/// not made twice.
-///
-/// Contracts see the row.
-pub struct WrittenRow {
-    item: Option<Arc<Item>>,
-}
-
-impl Model for WrittenRow {
-    ghost use Rattle.std.specs.Prelude.{Option, IsSome, IfSome};
-    ghost use Rattle.std.specs.Option.{option_and_then};
-    ghost use Rattle.std.specs.Arc.{arc_value};
-    ghost use Rattle.casa_flight.specs.declared.row.Row.{Row};
-    ghost use Rattle.casa_item.specs.Versions.{row_of};
-
-    ghost Value = { Option Row };
-
-    ghost view = { λ w. option_and_then (λ item. row_of (arc_value item)) w.item };
-
-    ghost invariant = { λ w. IfSome w.item (λ item. IsSome (row_of (arc_value item))) };
-}
-
-impl Drop for WrittenRow {
-    fn drop(self) {
-        let WrittenRow { item: _ } = self;
-    }
-}
-
-impl WrittenRow {
-    /// The row of the flight under this key, or that there is none. `AllocError` where there is no memory for it.
-    pub fn new(alloc: Global, key: Key, row: Option<Row>) -> Result<WrittenRow, AllocError>
-        ensures { IfOk result (λ written. written ≡ row) }
-    {
-        let item = match row {
-            Some(row) => Some(Arc::new(alloc, Item::Row(key, Some(row)))?),
-            None => None,
-        };
-        Ok(WrittenRow { item })
-    }
-
-    /// The row, if there is one.
-    pub fn row(&self) -> Option<&Row>
-        ensures { option_copied result ≡ self.now }
-    {
-        match &self.item {
-            Some(item) => row_in(item),
-            None => None,
-        }
-    }
-
-    /// The version that the entry at this position writes. An absent row has none.
-    pub(crate) fn version<K: Store>(
-        &self,
-        store: &mut K,
-        position: usize,
-    ) -> Result<Option<K::Version>, AllocError>
-        ensures { IfOk result (NextRow K.Version.item_of K.Version.stamp_of position self.now) }
-    {
-        match &self.item {
-            Some(item) => Ok(Some(store.put(position, Arc::try_clone(item)?)?)),
-            None => Ok(None),
-        }
     }
 }

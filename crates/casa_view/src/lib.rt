@@ -16,7 +16,7 @@ mod view;
 
 pub use board::Board;
 pub use casa_table::{Catalogue, Copied, Copies, Crossings, Item, Store, Version};
-pub use change::{Change, WrittenRow};
+pub use change::Change;
 pub use laws::rows_are_those_shown;
 pub use rows::Rows;
 pub use view::View;

@@ -3,7 +3,7 @@
 use casa_commit::World;
 use casa_flight::{Call, Key, Loc, RegId, Regulation};
 use casa_time::Moment;
-use casa_view::{Board, Catalogue, Change, Copied, Copies, View, WrittenRow};
+use casa_view::{Board, Catalogue, Change, Copied, Copies, View};
 use std::alloc::{AllocError, Global};
 
 /// The flights that may be on a board.
@@ -82,7 +82,7 @@ pub fn push_board(
 pub fn push_change(told: &mut String, change: &Change) -> Result<(), AllocError> {
     for text in KEYS {
         let written = Key::new(text.as_bytes()).and_then(|key| change.rows().get(&key));
-        writeln!(told, "{text} {:?}", written.map(WrittenRow::row))?;
+        writeln!(told, "{text} {:?}", written.map(Option::as_ref))?;
     }
     for text in REGULATIONS {
         let written = RegId::new(text.as_bytes()).and_then(|id| change.lists().get(&id));

@@ -5,4 +5,4 @@ use Rattle.casa_table.proofs.table.Base.absorb_first.Goals as goal
 
 pub returns-clause-ordered : goal.returns-clause-ordered
 returns-clause-ordered g c =
-    λ h. subst (λ es. AreInOrder es) (sym c.in_ok-write.ensures.written) (sorted-with_value _ _ c.args.self.now h)
+    λ h. subst (λ es. AreInOrder es) (sym c.in_ok-replaced.ensures.written) (sorted-with_value _ _ c.args.self.now h)

@@ -3,8 +3,8 @@ use Rattle.casa_filing.specs.Text.{at_name}
 use Rattle.casa_table.proofs.Layers.{where-put}
 use Rattle.casa_table.proofs.table.Base.remove.Goals as goal
 
-pub invariant_of-self : goal.invariant_of-self
-invariant_of-self g c =
+pub invariant_of-self-2 : goal.invariant_of-self-2
+invariant_of-self-2 g c =
     let es = c.self.inside.values.entries in
     let now = c.remove.new.self.entries in
     let index = c.self.inside.index in
