@@ -6,7 +6,7 @@ ghost use Rattle.casa_footprint.specs.Finding.{crossed};
 ghost use Rattle.casa_plan_spec.specs.Sight.{row_with, row_in};
 ghost use Rattle.casa_plan_spec.specs.Enter.{situation_with, with_reentry, with_entries};
 
-use crate::offers::best_offer;
+use crate::one_flight::best_offer;
 use crate::shown::{Shown, row_with};
 use crate::write::write_flight;
 use casa_flight::{Comp, Key, Row};

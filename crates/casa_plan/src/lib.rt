@@ -8,7 +8,6 @@ mod flight_reply;
 mod issuing;
 mod laws;
 mod list_reply;
-mod offers;
 mod one_flight;
 mod opening;
 mod planning;

@@ -1,9 +1,10 @@
 //! The one way in which a flight is written.
 
-ghost use Rattle.std.specs.Prelude.{◌≡◌, ◌++◌, [], ◌∷◌, IfOk, OnOk, option_copied};
+ghost use Rattle.std.specs.Prelude.{◌≡◌, ◌++◌, [], ◌∷◌, List, true, IfOk, OnOk, option_copied};
 ghost use Rattle.std.specs.Option.{option_map};
 ghost use Rattle.casa_flight.specs.Listing.{Listing};
 ghost use Rattle.casa_filing.specs.Text.{without};
+ghost use Rattle.casa_filing.specs.declared.regulation.Regulation.{Regulation};
 ghost use Rattle.casa_flight.specs.Good.{AreInOrder};
 ghost use Rattle.casa_plan_spec.specs.Sight.{regulations_in, list_with};
 ghost use Rattle.casa_plan_spec.specs.Write.{with_flight, with_stances, crossed_by, stances_gone, stances_now, write_flight};
@@ -159,6 +160,17 @@ fn crossed_by<V: Version>(
     }
 }
 
+/// Whether a flight stood with the plan that it has now, and so was subject to the same regulations.
+fn keeps_plan(was: Option<&Row>, now: &Option<Row>) -> bool
+    ensures { result ≡ true → (all : List Regulation) →
+        crossed_by all (option_copied was.entry) ≡ crossed_by all now.now }
+{
+    match (was, now) {
+        (Some(was), Some(now)) => was.plan == now.plan,
+        _ => false,
+    }
+}
+
 /// What is written of a flight that stood so and now stands so, subject to these regulations: its row and its lists.
 /// `AllocError` where there is no memory for that.
 pub(crate) fn flight_written<V: Version>(
@@ -173,8 +185,12 @@ pub(crate) fn flight_written<V: Version>(
     ensures { IfOk result (λ draft.
         draft ≡ flight_written view.now key (option_copied was.entry) now) }
 {
-    let had = crossed_by(alloc, view, was)?;
     let mut draft = Change::new(alloc);
+    if keeps_plan(was, &now) {
+        write_flight(alloc, view, &mut draft, key, now, has, has)?;
+        return Ok(draft);
+    }
+    let had = crossed_by(alloc, view, was)?;
     write_flight(alloc, view, &mut draft, key, now, &had, has)?;
     Ok(draft)
 }

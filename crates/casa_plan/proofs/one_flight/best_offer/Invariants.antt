@@ -3,7 +3,7 @@ use Rattle.casa_flight.specs.Entry.{most_penalising}
 use Rattle.casa_flight.proofs.Offers.{most_from}
 use Rattle.casa_plan_spec.specs.Sight.{list_with}
 use Rattle.casa_plan_spec.specs.OneFlight.{offers_of}
-use Rattle.casa_plan.proofs.offers.best_offer.Given as goal
+use Rattle.casa_plan.proofs.one_flight.best_offer.Given as goal
 
 abbrev pub invariant-loop-id : goal.invariant-loop-id
 invariant-loop-id g l =

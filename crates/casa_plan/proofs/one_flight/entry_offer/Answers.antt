@@ -5,7 +5,7 @@ use Rattle.casa_flight.specs.State.{is_exempt}
 use Rattle.casa_flight.specs.Entry.{Offer, most_penalising}
 use Rattle.casa_plan_spec.specs.Sight.{Sight, clock_in, list_with}
 use Rattle.casa_plan_spec.specs.OneFlight.{offers_of, best_offer}
-use Rattle.casa_plan.proofs.offers.entry_offer.Goals as goal
+use Rattle.casa_plan.proofs.one_flight.entry_offer.Goals as goal
 
 pub returns : goal.returns
 returns g c =
