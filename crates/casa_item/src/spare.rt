@@ -13,6 +13,8 @@ use std::sync::Arc;
 const MOST_SPARE: usize = 32;
 
 /// Memory of items that were replaced, for those that come in their place. What the items were is let go at once.
+///
+/// Contracts see nothing of it: an item is the same wherever it lies.
 pub struct Spare {
     alloc: Global,
     items: Vec<Arc<Item>>,
@@ -33,7 +35,8 @@ impl Spare {
         })
     }
 
-    /// Keeps the memory of an item, if nobody else has the item and there is room for it.
+    /// Keeps the memory of an item, if nobody else has the item and there is room for it. `AllocError` where there is no
+    /// memory to note it.
     fn keep(&mut self, item: Arc<Item>) -> Result<(), AllocError> {
         let mut item = item;
         if MOST_SPARE <= self.items.len() {
@@ -46,7 +49,8 @@ impl Spare {
         Ok(())
     }
 
-    /// Keeps the memory of a version that was replaced, if there was one and nobody else has its item.
+    /// Keeps the memory of a version that was replaced, if there was one and nobody else has its item. `AllocError` where
+    /// there is no memory to note it.
     pub fn keep_replaced<V: Version>(&mut self, version: Option<V>) -> Result<(), AllocError> {
         let Some(version) = version else {
             return Ok(());

@@ -30,7 +30,7 @@ pub trait Version: Drop {
     fn try_clone(&self) -> Result<Self, AllocError>
         ensures { IfOk result (λ version. version ≡ self.now) };
 
-    /// The item as it is shared, where the version has it in memory of its own.
+    /// The item that the version shares with its copies; `None` where a store keeps it.
     fn into_item(self) -> Option<Arc<Item>>
     where
         Self: Sized,
