@@ -1,26 +1,15 @@
 //! A board with views of it, which the lines of a script write to, take and ask.
 
-use crate::desk::Desk;
 use crate::items::change;
 use crate::lines::call_of;
 use crate::view_text::push_shown;
-use casa_commit::World;
-use casa_flight::Call;
+use casa_commit::{Room, World};
+use casa_flight::{Call, Reply};
+use casa_history::Pass;
+use casa_plan::{Direct, plan};
 use casa_view::{Board, Change, Copied, Copies, View};
-use std::alloc::{AllocError, Global};
-
-/// Room for a transcript, in bytes, so that it does not grow.
-const ROOM: usize = 10_000;
-
-/// Room for what a line shows, in bytes, so that it does not grow.
-const WIDTH: usize = 100;
-
-/// Applies a change to a board as the entry with this number.
-fn apply(board: &mut Board<Copies>, number: usize, change: Change) -> Result<(), AllocError> {
-    board.fits(number, &change)?;
-    board.apply(number, change);
-    Ok(())
-}
+use std::alloc::Global;
+use std::process::Abort;
 
 /// A view with its call.
 #[derive(Drop)]
@@ -31,167 +20,108 @@ struct Taken {
 
 /// A board, the views that were taken of it, and how many entries wrote to it.
 ///
-/// What calls write is planned by a desk on a room beside it, which answers them too. What no call writes, the board
-/// alone has.
+/// What calls write is planned on a room beside it, which answers them too. What no call writes, the board alone has.
 #[derive(Drop)]
 struct Bench {
-    desk: Desk,
+    room: Room<Board<Copies>>,
+    pass: Pass<Call, Reply>,
     board: Board<Copies>,
     taken: Vec<Taken>,
     entries: usize,
 }
 
 impl Bench {
-    /// The board on which nothing is written, with no view; `None` where memory is refused.
-    fn new(alloc: Global) -> Option<Bench> {
-        Some(Bench {
-            desk: Desk::new(alloc)?,
-            board: Board::new(alloc, Copies::new()).ok()?,
+    /// The board on which nothing is written, with no view.
+    fn new(rt: &impl Abort, alloc: Global) -> Bench {
+        let empty = Board::new(alloc, Copies::new()).expect(rt, "memory");
+        let mut room = Room::new(alloc, empty, 7);
+        let pass = room.open_desk().expect(rt, "a desk");
+        Bench {
+            room,
+            pass,
+            board: Board::new(alloc, Copies::new()).expect(rt, "memory"),
             taken: Vec::new(alloc),
             entries: 0,
-        })
-    }
-
-    /// Writes a letter for each view: `x` where it is not the same, and else a dot.
-    fn push_letters(&self, out: &mut String) -> Option<()> {
-        for taken in self.taken.as_slice() {
-            out.push(if self.board.same(&taken.view) {
-                '.'
-            } else {
-                'x'
-            })
-            .ok()?;
         }
-        Some(())
     }
 
-    /// How many views are the same.
-    fn count(&self) -> usize {
-        let mut count = 0usize;
-        for taken in self.taken.as_slice() {
-            count = count.saturating_add(usize::from(self.board.same(&taken.view)));
-        }
-        count
+    /// Applies a change as the next entry.
+    fn apply(&mut self, rt: &impl Abort, change: Change) {
+        self.entries = self.entries.saturating_add(1);
+        self.board.fits(self.entries, &change).expect(rt, "memory");
+        self.board.apply(self.entries, change);
     }
 
-    /// Applies a change as the next entry; `None` where memory is refused.
-    fn apply(&mut self, change: Change) -> Option<()> {
-        let number = self.entries.saturating_add(1);
-        apply(&mut self.board, number, change).ok()?;
-        self.entries = number;
-        Some(())
-    }
-
-    /// Makes a call, whose change is planned; `None` where memory is refused.
-    fn make(&mut self, alloc: Global, call: &Call) -> Option<()> {
-        let (_, change) = self.desk.planned(alloc, call).ok()?;
-        self.apply(change)?;
-        self.desk.answers(alloc, call).then_some(())
+    /// Makes a call, whose change is planned.
+    fn make(&mut self, rt: &impl Abort, alloc: Global, call: &Call) {
+        let view = self.room.world().view(call).expect(rt, "memory");
+        let (_, change) = plan(alloc, &view, call).expect(rt, "memory");
+        self.apply(rt, change);
+        self.room
+            .locked(alloc, &mut self.pass, call, &Direct)
+            .expect(rt, "a receipt");
     }
 
     /// Takes a view for a call.
-    fn take(&mut self, call: Call) -> Option<()> {
-        let view = self.board.view(&call).ok()?;
-        self.taken.push(Taken { call, view }).ok()
+    fn take(&mut self, rt: &impl Abort, call: Call) {
+        let view = self.board.view(&call).expect(rt, "memory");
+        self.taken.push(Taken { call, view }).expect(rt, "memory");
     }
 
     /// Takes all views anew.
-    fn renew(&mut self) -> Option<()> {
+    fn renew(&mut self, rt: &impl Abort) {
         for taken in self.taken.iter_mut() {
-            taken.view = match self.board.view(&taken.call) {
-                Ok(view) => view,
-                Err(AllocError) => self.board.view(&taken.call).ok()?,
-            };
+            taken.view = self.board.view(&taken.call).expect(rt, "memory");
         }
-        Some(())
     }
 
-    /// Writes the items with these names in one change, which is made once more where memory is refused.
-    fn write(&mut self, alloc: Global, names: &str) -> Option<()> {
-        let change = match change(alloc, &self.board, names) {
-            Some(change) => change,
-            None => change(alloc, &self.board, names)?,
-        };
-        self.apply(change)
-    }
-
-    /// Does what a line asks for, and writes what it shows; where memory is refused, nothing has changed.
-    fn push_played(&mut self, alloc: Global, line: &str, out: &mut String) -> Option<()> {
-        let (word, rest) = line.split_once(' ')?;
+    /// Does what a line tells to do.
+    fn play(&mut self, rt: &impl Abort, alloc: Global, word: &str, rest: &str) {
         match word {
-            "make" => self.make(alloc, &call_of(alloc, rest)?)?,
-            "view" => self.take(call_of(alloc, rest)?)?,
-            "all" => self.renew()?,
-            "write" => self.write(alloc, rest)?,
+            "make" => self.make(rt, alloc, &call_of(rt, alloc, rest)),
+            "view" => self.take(rt, call_of(rt, alloc, rest)),
+            "write" => self.apply(rt, change(rt, alloc, &self.board, rest)),
             "drop" => drop(self.taken.pop()),
-            _ => {
-                let taken = self.taken.get(rest.parse::<usize>().ok()?)?;
-                return push_shown(alloc, out, &self.board, &taken.view, word);
+            _ => self.renew(rt),
+        }
+    }
+
+    /// Writes a letter for each view: `x` where it is not the same, and else a dot.
+    fn push_letters(&self, rt: &impl Abort, out: &mut String) {
+        for taken in self.taken.as_slice() {
+            let is_same = self.board.same(&taken.view);
+            out.push(if is_same { '.' } else { 'x' })
+                .expect(rt, "memory");
+        }
+    }
+
+    /// Writes a line with what it shows: what it asks of the view with a number, or the letters of all views once it is
+    /// done.
+    fn push_line(&mut self, rt: &impl Abort, alloc: Global, line: &str, out: &mut String) {
+        write!(out, "{line}\n=").expect(rt, "memory");
+        let (word, rest) = line.split_once(' ').expect(rt, "two words");
+        match rest.parse::<usize>() {
+            Ok(number) => {
+                let taken = self.taken.get(number).expect(rt, "a view");
+                push_shown(rt, alloc, out, &self.board, &taken.view, word);
+            }
+            Err(_) => {
+                self.play(rt, alloc, word, rest);
+                self.push_letters(rt, out);
             }
         }
-        self.push_letters(out)
-    }
-
-    /// The same, as a text of its own.
-    fn play(&mut self, alloc: Global, line: &str) -> Option<String> {
-        let mut out = String::with_capacity(alloc, WIDTH).ok()?;
-        self.push_played(alloc, line, &mut out).map(|_| out)
-    }
-
-    /// What a line shows, played once more where memory is refused; `None` where it is refused twice, or a refusal changed
-    /// which views are the same.
-    fn shown(&mut self, alloc: Global, line: &str) -> Option<String> {
-        let count = self.count();
-        let shown = self.play(alloc, line);
-        if shown.is_some() {
-            return shown;
-        }
-        if self.count() == count {
-            self.play(alloc, line)
-        } else {
-            None
-        }
+        out.push('\n').expect(rt, "memory");
     }
 }
 
-/// Room for a transcript, asked for again where memory is refused.
-fn room(alloc: Global) -> Option<String> {
-    match String::with_capacity(alloc, ROOM) {
-        Ok(out) => Some(out),
-        Err(_) => String::with_capacity(alloc, ROOM).ok(),
-    }
-}
-
-/// A bench, made again where memory is refused.
-fn new_bench(alloc: Global) -> Option<Bench> {
-    match Bench::new(alloc) {
-        Some(bench) => Some(bench),
-        None => Bench::new(alloc),
-    }
-}
-
-/// Writes a line of a script with what it shows; `None` where that is not to be had.
-fn push_line(alloc: Global, bench: &mut Bench, line: &str, out: &mut String) -> Option<()> {
-    out.push_str(line).ok()?;
-    out.push_str("\n=").ok()?;
-    out.push_str(bench.shown(alloc, line)?.as_str()).ok()?;
-    out.push('\n').ok()
-}
-
-/// Writes all lines of a script likewise, but those that tell what is to be shown.
-fn push_lines(alloc: Global, bench: &mut Bench, script: &str, out: &mut String) -> Option<()> {
+/// Each line of a script with what it shows, in place of the lines that tell what is to be shown.
+pub fn transcript(rt: &impl Abort, alloc: Global, script: &str) -> String {
+    let mut out = String::new(alloc);
+    let mut bench = Bench::new(rt, alloc);
     for line in script.lines() {
         if !line.starts_with('=') {
-            push_line(alloc, bench, line, out)?;
+            bench.push_line(rt, alloc, line, &mut out);
         }
     }
-    Some(())
-}
-
-/// Each line of a script with what it shows; `None` where that is not to be had.
-pub fn transcript(alloc: Global, script: &str) -> Option<String> {
-    let mut out = room(alloc)?;
-    let mut bench = new_bench(alloc)?;
-    push_lines(alloc, &mut bench, script, &mut out)?;
-    Some(out)
+    out
 }

@@ -1,124 +1,137 @@
-//! Scripts of command lines, answered by a desk on a room of a board and by the slow sequential allocator, which is the
-//! reference.
+//! Command lines that a desk on a room of a board answers, and the slow sequential allocator, which is the reference.
 
-use crate::desk::Desk;
-use crate::lines::{quoted_call_of, reply_of};
+use crate::chance::{later_ends, script};
+use crate::lines::call_of;
+use crate::mornings::MORNINGS;
+use casa_commit::{Room, World};
 use casa_flight::{Call, Reply};
+use casa_history::Pass;
 use casa_plain::Plain;
+use casa_plan::{Direct, board_of, plan};
 use casa_view::{Board, Copies};
-use std::alloc::{AllocError, Global};
+use std::alloc::Global;
+use std::process::Abort;
 
-/// Room for a transcript, in bytes: it does not grow.
-const ROOM: usize = 100_000;
+/// The commands, by the numbers of their kinds.
+const COMMANDS: [&str; 12] = [
+    "file", "amend", "cancel", "revise", "exempt", "open", "close", "rates", "tick", "show",
+    "list", "swap",
+];
 
-/// Whether a board has what a call got an answer about, and else has not.
-fn stands(board: &Board<Copies>, call: &Call, reply: &Reply) -> bool {
-    let is_answered = matches!(reply, Reply::Answered(..));
+/// The number of a call's kind.
+fn kind(call: &Call) -> usize {
     match call {
-        Call::Tick(at) => (board.clock() == *at) == is_answered,
-        Call::Show(key) => board.row(key).is_some() == is_answered,
-        Call::List(id) => board.list(id).is_some() == is_answered,
-        _ => true,
+        Call::File(_) => 0,
+        Call::Amend(_) => 1,
+        Call::Cancel(_) => 2,
+        Call::Revise(_) => 3,
+        Call::Exempt(_) => 4,
+        Call::OpenReg(..) => 5,
+        Call::CloseReg(_) => 6,
+        Call::Rates(..) => 7,
+        Call::Tick(_) => 8,
+        Call::Show(_) => 9,
+        Call::List(_) => 10,
+        Call::Swap(..) => 11,
     }
 }
 
-/// Whether both reply alike to a call, and as it was planned; what memory is refused for is done again.
-fn agree(
-    alloc: Global,
-    desk: &mut Desk,
-    plain: &mut Plain,
-    call: &Call,
-) -> Result<bool, AllocError> {
-    let (planned, _) = match desk.planned(alloc, call) {
-        Ok(planned) => planned,
-        Err(AllocError) => desk.planned(alloc, call)?,
-    };
-    let wanted = match plain.step(alloc, call) {
-        Ok(reply) => reply,
-        Err(AllocError) => plain.step(alloc, call)?,
-    };
-    let is_answered = desk.answers(alloc, call);
-    let given = desk.receipt().map(|receipt| &receipt.entry.reply);
-    Ok(
-        is_answered
-            && given == Some(&wanted)
-            && given == Some(&planned)
-            && stands(desk.board(), call, &wanted),
-    )
+/// How many calls of each kind were answered, and how many were refused.
+#[derive(Clone, Copy)]
+struct Counts {
+    answered: [u32; 12],
+    refused: [u32; 12],
 }
 
-/// Answers a line, and writes it down with the reply; `None` where the two differ, or memory is refused twice.
-fn play(
-    alloc: Global,
-    desk: &mut Desk,
-    plain: &mut Plain,
-    line: &str,
-    out: &mut String,
-) -> Option<()> {
-    let call = match quoted_call_of(alloc, line) {
-        Some(call) => call,
-        None => quoted_call_of(alloc, line)?,
-    };
-    if !agree(alloc, desk, plain, &call).ok()? {
-        return None;
-    }
-    out.push_str(line).ok()?;
-    out.push('\n').ok()?;
-    let receipt = desk.receipt()?;
-    match reply_of(alloc, receipt) {
-        Some(reply) => out.push_str(reply.as_str()).ok(),
-        None => out.push_str(reply_of(alloc, receipt)?.as_str()).ok(),
+/// Counts a call of this kind.
+fn count(counts: &mut [u32; 12], kind: usize) {
+    if let Some(count) = counts.get_mut(kind) {
+        *count = count.saturating_add(1);
     }
 }
 
-/// Writes a line that is no command and no reply.
-fn push_text(line: &str, out: &mut String) -> Option<()> {
-    out.push_str(line).ok()?;
-    out.push('\n').ok()
+/// Both, as they stand after some calls.
+#[derive(Drop)]
+struct Both {
+    room: Room<Board<Copies>>,
+    pass: Pass<Call, Reply>,
+    plain: Plain,
 }
 
-/// Writes the lines of a script with the reply to each command in place of those that stand there, up to the first command
-/// on which the two differ.
-fn push_lines(
-    alloc: Global,
-    desk: &mut Desk,
-    plain: &mut Plain,
-    script: &str,
-    out: &mut String,
-) -> Option<()> {
-    for line in script.lines() {
-        if line.starts_with("{'cmd':") {
-            if play(alloc, desk, plain, line, out).is_none() {
-                break;
-            }
-        } else if !line.starts_with('{') {
-            push_text(line, out)?;
+impl Both {
+    /// An empty board and an empty slow allocator.
+    fn new(rt: &impl Abort, alloc: Global) -> Both {
+        let board = Board::new(alloc, Copies::new()).expect(rt, "memory");
+        let mut room = Room::new(alloc, board, 7);
+        let pass = room.open_desk().expect(rt, "a desk");
+        let plain = Plain::new(alloc);
+        Both { room, pass, plain }
+    }
+
+    /// The reply that is planned for a call, which is not made.
+    fn planned(&self, rt: &impl Abort, alloc: Global, call: &Call) -> Reply {
+        let view = self.room.world().view(call).expect(rt, "memory");
+        let (reply, _) = plan(alloc, &view, call).expect(rt, "memory");
+        reply
+    }
+
+    /// Whether the board has what a call got an answer about, and else has not.
+    fn stands(&self, call: &Call, is_answered: bool) -> bool {
+        let board = board_of(&self.room);
+        match call {
+            Call::Tick(at) => (board.clock() == *at) == is_answered,
+            Call::Show(key) => board.row(key).is_some() == is_answered,
+            Call::List(id) => board.list(id).is_some() == is_answered,
+            _ => true,
         }
     }
-    Some(())
-}
 
-/// A desk, made again where memory is refused.
-fn new_desk(alloc: Global) -> Option<Desk> {
-    match Desk::new(alloc) {
-        Some(desk) => Some(desk),
-        None => Desk::new(alloc),
+    /// Makes a call of both, and ends the test where they differ in their replies, or from what was planned.
+    fn step(&mut self, rt: &impl Abort, alloc: Global, call: &Call, counts: &mut Counts) {
+        let planned = self.planned(rt, alloc, call);
+        let receipt = self
+            .room
+            .locked(alloc, &mut self.pass, call, &Direct)
+            .expect(rt, "a receipt");
+        let wanted = self.plain.step(alloc, call).expect(rt, "memory");
+        assert!(rt; receipt.entry.reply == wanted && planned == wanted);
+        let is_answered = matches!(&wanted, Reply::Answered(..));
+        assert!(rt; self.stands(call, is_answered));
+        if is_answered {
+            count(&mut counts.answered, kind(call));
+        } else {
+            count(&mut counts.refused, kind(call));
+        }
     }
 }
 
-/// Room for a transcript, asked for again where memory is refused.
-fn room(alloc: Global) -> Option<String> {
-    match String::with_capacity(alloc, ROOM) {
-        Ok(out) => Some(out),
-        Err(_) => String::with_capacity(alloc, ROOM).ok(),
+/// Makes the calls of these lines, from empty ones on.
+fn compare(rt: &impl Abort, alloc: Global, lines: &str, counts: &mut Counts) {
+    let mut both = Both::new(rt, alloc);
+    for line in lines.lines() {
+        both.step(rt, alloc, &call_of(rt, alloc, line), counts);
     }
 }
 
-/// What `push_lines` writes of a script, to a new desk and a new slow allocator; `None` where memory is refused twice.
-pub fn transcript(alloc: Global, script: &str) -> Option<String> {
-    let mut desk = new_desk(alloc)?;
-    let mut plain = Plain::new(alloc);
-    let mut out = room(alloc)?;
-    push_lines(alloc, &mut desk, &mut plain, script, &mut out)?;
-    Some(out)
+/// In the worked mornings, and in scripts that look like chance. A call of each kind is answered, and one is refused.
+#[test]
+fn planners_equal_plain(rt: HostRuntime) {
+    let alloc = rt.alloc();
+    let mut counts = Counts {
+        answered: [0; 12],
+        refused: [0; 12],
+    };
+    for morning in MORNINGS {
+        compare(&rt, alloc, morning, &mut counts);
+    }
+    let script = script(alloc).expect(&rt, "memory");
+    compare(&rt, alloc, script.as_str(), &mut counts);
+    let later_ends = later_ends(alloc).expect(&rt, "memory");
+    compare(&rt, alloc, later_ends.as_str(), &mut counts);
+    for (command, count) in COMMANDS.iter().zip(counts.answered.iter()) {
+        assert!(&rt; *count > 0, "{command} is never answered");
+    }
+    for (command, count) in COMMANDS.iter().zip(counts.refused.iter()) {
+        assert!(&rt; *count > 0, "{command} is never refused");
+    }
 }

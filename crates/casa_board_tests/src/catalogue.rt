@@ -45,8 +45,7 @@ fn two(rt: &impl Abort, alloc: Global) -> Catalogue {
 
 /// What these regulations show of the flight.
 fn told(rt: &impl Abort, alloc: Global, all: &Catalogue) -> String {
-    let call = call_of(alloc, PLAN).expect(rt, "a filing");
-    match &call {
+    match &call_of(rt, alloc, PLAN) {
         Call::File(plan) => shown(alloc, all, plan).expect(rt, "memory"),
         _ => String::new(alloc),
     }

@@ -7,32 +7,30 @@ use std::alloc::{AllocError, Global};
 
 /// What its first lines are made of: `#` is any digit, `?` one of 0 to 4, and `@` the clock.
 const FORMS: [&str; 24] = [
-    "{'cmd':'file','key':'F#','eobt':2###0,'taxi':6#0,'via':[{'loc':'L0','eto':36##0},{'loc':'L1','eto':37##0}]}",
-    "{'cmd':'file','key':'F#','eobt':2###0,'taxi':6#0,'via':[{'loc':'L1','eto':36##0},{'loc':'L2','eto':37##0}]}",
-    "{'cmd':'file','key':'F#','eobt':2###0,'taxi':6#0,'via':[{'loc':'L2','eto':36##0},{'loc':'L0','eto':36##0}]}",
-    "{'cmd':'file','key':'F#','eobt':2###0,'taxi':6#0,'via':[{'loc':'L?','eto':36##0}],'sts':'HEAD'}",
-    "{'cmd':'amend','key':'F#','eobt':2###0,'taxi':6#0,'via':[{'loc':'L1','eto':36##0},{'loc':'L0','eto':36##0}]}",
-    "{'cmd':'amend','key':'F#','eobt':2###0,'taxi':6#0,'via':[{'loc':'L?','eto':36##0}]}",
-    "{'cmd':'cancel','key':'F#'}",
-    "{'cmd':'revise','key':'F#'}",
-    "{'cmd':'revise','key':'F#'}",
-    "{'cmd':'revise','key':'F#'}",
-    "{'cmd':'revise','key':'F#'}",
-    "{'cmd':'exempt','key':'F#'}",
-    "{'cmd':'open','reg':'R?','loc':'L0','periods':[{'from':36000,'to':36900,'rate':1?},\
-        {'from':36900,'to':37200,'rate':2?}]}",
-    "{'cmd':'open','reg':'R?','loc':'L1','periods':[{'from':36000,'to':36900,'rate':1?},\
-        {'from':36900,'to':37200,'rate':?}]}",
-    "{'cmd':'rates','reg':'R?','periods':[{'from':36000,'to':36600,'rate':?},{'from':36600,'to':37?00,'rate':3#}]}",
-    "{'cmd':'rates','reg':'R?','periods':[{'from':36000,'to':36600,'rate':?},{'from':36600,'to':37200,'rate':3#}]}",
-    "{'cmd':'close','reg':'R?'}",
-    "{'cmd':'tick','at':@}",
-    "{'cmd':'tick','at':1####}",
-    "{'cmd':'show','key':'F#'}",
-    "{'cmd':'list','reg':'R?'}",
-    "{'cmd':'list','reg':'R?'}",
-    "{'cmd':'list','reg':'R?'}",
-    "{'cmd':'tick','at':@}",
+    r#"{"cmd":"file","key":"F#","eobt":2###0,"taxi":6#0,"via":[{"loc":"L0","eto":36##0},{"loc":"L1","eto":37##0}]}"#,
+    r#"{"cmd":"file","key":"F#","eobt":2###0,"taxi":6#0,"via":[{"loc":"L1","eto":36##0},{"loc":"L2","eto":37##0}]}"#,
+    r#"{"cmd":"file","key":"F#","eobt":2###0,"taxi":6#0,"via":[{"loc":"L2","eto":36##0},{"loc":"L0","eto":36##0}]}"#,
+    r#"{"cmd":"file","key":"F#","eobt":2###0,"taxi":6#0,"via":[{"loc":"L?","eto":36##0}],"sts":"HEAD"}"#,
+    r#"{"cmd":"amend","key":"F#","eobt":2###0,"taxi":6#0,"via":[{"loc":"L1","eto":36##0},{"loc":"L0","eto":36##0}]}"#,
+    r#"{"cmd":"amend","key":"F#","eobt":2###0,"taxi":6#0,"via":[{"loc":"L?","eto":36##0}]}"#,
+    r#"{"cmd":"cancel","key":"F#"}"#,
+    r#"{"cmd":"revise","key":"F#"}"#,
+    r#"{"cmd":"revise","key":"F#"}"#,
+    r#"{"cmd":"revise","key":"F#"}"#,
+    r#"{"cmd":"revise","key":"F#"}"#,
+    r#"{"cmd":"exempt","key":"F#"}"#,
+    r#"{"cmd":"open","reg":"R?","loc":"L0","periods":[{"from":36000,"to":36900,"rate":1?},{"from":36900,"to":37200,"rate":2?}]}"#,
+    r#"{"cmd":"open","reg":"R?","loc":"L1","periods":[{"from":36000,"to":36900,"rate":1?},{"from":36900,"to":37200,"rate":?}]}"#,
+    r#"{"cmd":"rates","reg":"R?","periods":[{"from":36000,"to":36600,"rate":?},{"from":36600,"to":37?00,"rate":3#}]}"#,
+    r#"{"cmd":"rates","reg":"R?","periods":[{"from":36000,"to":36600,"rate":?},{"from":36600,"to":37200,"rate":3#}]}"#,
+    r#"{"cmd":"close","reg":"R?"}"#,
+    r#"{"cmd":"tick","at":@}"#,
+    r#"{"cmd":"tick","at":1####}"#,
+    r#"{"cmd":"show","key":"F#"}"#,
+    r#"{"cmd":"list","reg":"R?"}"#,
+    r#"{"cmd":"list","reg":"R?"}"#,
+    r#"{"cmd":"list","reg":"R?"}"#,
+    r#"{"cmd":"tick","at":@}"#,
 ];
 
 /// What the lines behind these are made of: exchanges, and flights over M0 and M1, of which most are issued as they are
@@ -41,51 +39,50 @@ const FORMS: [&str; 24] = [
 /// Flights G want to pass as the first slot begins, so that two of them are too early by the clock alone; flights H take
 /// off behind the clock of all lines, so that two of these are too early by their times over alone.
 const EXCHANGES: [&str; 16] = [
-    "{'cmd':'open','reg':'S0','loc':'M0','periods':[{'from':36000,'to':37200,'rate':3#}]}",
-    "{'cmd':'open','reg':'S1','loc':'M1','periods':[{'from':36000,'to':37200,'rate':3#}]}",
-    "{'cmd':'file','key':'G?','eobt':@,'taxi':6#0,'via':[{'loc':'M0','eto':36000}]}",
-    "{'cmd':'file','key':'G?','eobt':@,'taxi':6#0,'via':[{'loc':'M0','eto':36000}]}",
-    "{'cmd':'amend','key':'G?','eobt':@,'taxi':6#0,'via':[{'loc':'M0','eto':36000}]}",
-    "{'cmd':'amend','key':'G?','eobt':@,'taxi':6#0,'via':[{'loc':'M1','eto':36000}]}",
-    "{'cmd':'file','key':'H?','eobt':32##0,'taxi':6#0,'via':[{'loc':'M0','eto':360#0}]}",
-    "{'cmd':'file','key':'H?','eobt':32##0,'taxi':6#0,'via':[{'loc':'M0','eto':360#0}]}",
-    "{'cmd':'amend','key':'H?','eobt':34##0,'taxi':6#0,'via':[{'loc':'M0','eto':36##0}]}",
-    "{'cmd':'tick','at':@}",
-    "{'cmd':'list','reg':'S0'}",
-    "{'cmd':'swap','key':'G?','other':'G?'}",
-    "{'cmd':'swap','key':'G?','other':'G?'}",
-    "{'cmd':'swap','key':'H?','other':'H?'}",
-    "{'cmd':'swap','key':'H?','other':'H?'}",
-    "{'cmd':'swap','key':'G?','other':'H?'}",
+    r#"{"cmd":"open","reg":"S0","loc":"M0","periods":[{"from":36000,"to":37200,"rate":3#}]}"#,
+    r#"{"cmd":"open","reg":"S1","loc":"M1","periods":[{"from":36000,"to":37200,"rate":3#}]}"#,
+    r#"{"cmd":"file","key":"G?","eobt":@,"taxi":6#0,"via":[{"loc":"M0","eto":36000}]}"#,
+    r#"{"cmd":"file","key":"G?","eobt":@,"taxi":6#0,"via":[{"loc":"M0","eto":36000}]}"#,
+    r#"{"cmd":"amend","key":"G?","eobt":@,"taxi":6#0,"via":[{"loc":"M0","eto":36000}]}"#,
+    r#"{"cmd":"amend","key":"G?","eobt":@,"taxi":6#0,"via":[{"loc":"M1","eto":36000}]}"#,
+    r#"{"cmd":"file","key":"H?","eobt":32##0,"taxi":6#0,"via":[{"loc":"M0","eto":360#0}]}"#,
+    r#"{"cmd":"file","key":"H?","eobt":32##0,"taxi":6#0,"via":[{"loc":"M0","eto":360#0}]}"#,
+    r#"{"cmd":"amend","key":"H?","eobt":34##0,"taxi":6#0,"via":[{"loc":"M0","eto":36##0}]}"#,
+    r#"{"cmd":"tick","at":@}"#,
+    r#"{"cmd":"list","reg":"S0"}"#,
+    r#"{"cmd":"swap","key":"G?","other":"G?"}"#,
+    r#"{"cmd":"swap","key":"G?","other":"G?"}"#,
+    r#"{"cmd":"swap","key":"H?","other":"H?"}"#,
+    r#"{"cmd":"swap","key":"H?","other":"H?"}"#,
+    r#"{"cmd":"swap","key":"G?","other":"H?"}"#,
 ];
 
 /// What each step of a second script begins with, at a clock of 14000 to 21200: flights over N0 behind 36600, of which D
 /// are mostly due as they enter, E are not, and G are over N1 too.
 const FLIGHTS: [&str; 15] = [
-    "{'cmd':'file','key':'?D','eobt':@,'taxi':600,'via':[{'loc':'N0','eto':37##0}]}",
-    "{'cmd':'file','key':'?D','eobt':21##0,'taxi':600,'via':[{'loc':'N0','eto':37##0}]}",
-    "{'cmd':'file','key':'?E','eobt':30##0,'taxi':600,'via':[{'loc':'N0','eto':37##0}]}",
-    "{'cmd':'file','key':'?G','eobt':21##0,'taxi':600,'via':[{'loc':'N0','eto':37##0},{'loc':'N1','eto':36##0}]}",
-    "{'cmd':'file','key':'?H','eobt':21##0,'taxi':600,'via':[{'loc':'N0','eto':365#0}]}",
-    "{'cmd':'cancel','key':'?D'}",
-    "{'cmd':'exempt','key':'?E'}",
-    "{'cmd':'tick','at':@}",
-    "{'cmd':'close','reg':'T0'}",
-    "{'cmd':'close','reg':'T0'}",
-    "{'cmd':'close','reg':'T0'}",
-    "{'cmd':'close','reg':'T1'}",
-    "{'cmd':'open','reg':'T1','loc':'N1','periods':[{'from':36000,'to':37200,'rate':1#}]}",
-    "{'cmd':'rates','reg':'T0','periods':[{'from':36060,'to':39000,'rate':1#}]}",
-    "{'cmd':'rates','reg':'T0','periods':[{'from':36000,'to':36500,'rate':1#}]}",
+    r#"{"cmd":"file","key":"?D","eobt":@,"taxi":600,"via":[{"loc":"N0","eto":37##0}]}"#,
+    r#"{"cmd":"file","key":"?D","eobt":21##0,"taxi":600,"via":[{"loc":"N0","eto":37##0}]}"#,
+    r#"{"cmd":"file","key":"?E","eobt":30##0,"taxi":600,"via":[{"loc":"N0","eto":37##0}]}"#,
+    r#"{"cmd":"file","key":"?G","eobt":21##0,"taxi":600,"via":[{"loc":"N0","eto":37##0},{"loc":"N1","eto":36##0}]}"#,
+    r#"{"cmd":"file","key":"?H","eobt":21##0,"taxi":600,"via":[{"loc":"N0","eto":365#0}]}"#,
+    r#"{"cmd":"cancel","key":"?D"}"#,
+    r#"{"cmd":"exempt","key":"?E"}"#,
+    r#"{"cmd":"tick","at":@}"#,
+    r#"{"cmd":"close","reg":"T0"}"#,
+    r#"{"cmd":"close","reg":"T0"}"#,
+    r#"{"cmd":"close","reg":"T0"}"#,
+    r#"{"cmd":"close","reg":"T1"}"#,
+    r#"{"cmd":"open","reg":"T1","loc":"N1","periods":[{"from":36000,"to":37200,"rate":1#}]}"#,
+    r#"{"cmd":"rates","reg":"T0","periods":[{"from":36060,"to":39000,"rate":1#}]}"#,
+    r#"{"cmd":"rates","reg":"T0","periods":[{"from":36000,"to":36500,"rate":1#}]}"#,
 ];
 
 /// What it ends with: N0 is regulated until 36600, and then mostly until later.
-const LATER_END: &str = "
-{'cmd':'open','reg':'T0','loc':'N0','periods':[{'from':36000,'to':36600,'rate':1#}]}
-{'cmd':'list','reg':'T0'}
-{'cmd':'rates','reg':'T0','periods':[{'from':36000,'to':37#00,'rate':1#}]}
-{'cmd':'list','reg':'T0'}
-";
+const LATER_END: &str =
+    r#"{"cmd":"open","reg":"T0","loc":"N0","periods":[{"from":36000,"to":36600,"rate":1#}]}
+{"cmd":"list","reg":"T0"}
+{"cmd":"rates","reg":"T0","periods":[{"from":36000,"to":37#00,"rate":1#}]}
+{"cmd":"list","reg":"T0"}"#;
 
 /// A script as it is drawn up.
 #[derive(Drop)]
@@ -152,7 +149,7 @@ pub fn script(alloc: Global) -> Result<String, AllocError> {
     Ok(draft.text)
 }
 
-/// 80 steps in which a regulation ends later, with an empty line behind each half of a step.
+/// 80 steps of five lines in which a regulation ends later.
 pub fn later_ends(alloc: Global) -> Result<String, AllocError> {
     let mut draft = Draft {
         text: String::new(alloc),

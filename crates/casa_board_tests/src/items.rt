@@ -3,52 +3,49 @@
 use casa_flight::{Key, RegId};
 use casa_view::{Board, Catalogue, Change, Copies};
 use std::alloc::Global;
+use std::process::Abort;
 
-/// All open regulations.
-fn catalogue(alloc: Global, board: &Board<Copies>) -> Option<Catalogue> {
+/// Writes all open regulations again.
+fn set_catalogue(rt: &impl Abort, alloc: Global, board: &Board<Copies>, change: &mut Change) {
     let mut all = Catalogue::new(alloc);
     for regulation in board.catalogue() {
-        all = all.with(alloc, *regulation).ok()?;
+        all = all.with(alloc, *regulation).expect(rt, "memory");
     }
-    Some(all)
+    change.set_catalogue(all).expect(rt, "memory");
 }
 
-/// Writes the list of a regulation again; `None` where it is not open, or memory is refused.
-fn set_list(board: &Board<Copies>, change: &mut Change, id: &str) -> Option<()> {
-    let id = RegId::new(id.as_bytes())?;
-    let list = board.shared_list(&id)?.share().ok()?;
-    change.set_list(id, Some(list)).ok()
+/// Writes the list of a regulation again.
+fn set_list(rt: &impl Abort, board: &Board<Copies>, change: &mut Change, id: &str) {
+    let id = RegId::new(id.as_bytes()).expect(rt, "an identifier");
+    let list = board.shared_list(&id).expect(rt, "a list");
+    let list = list.share().expect(rt, "memory");
+    change.set_list(id, Some(list)).expect(rt, "memory");
 }
 
-/// Writes the row of a flight again; `None` where there is none, or memory is refused.
-fn set_row(board: &Board<Copies>, change: &mut Change, key: &str) -> Option<()> {
-    let key = Key::new(key.as_bytes())?;
-    let row = board.row(&key)?.clone().ok()?;
-    change.set_row(key, Some(row)).ok()
+/// Writes the row of a flight again, or, after a `-`, that there is none.
+fn set_row(rt: &impl Abort, board: &Board<Copies>, change: &mut Change, name: &str) {
+    let text = name.strip_prefix('-').unwrap_or(name);
+    let key = Key::new(text.as_bytes()).expect(rt, "a key");
+    let row = if text == name {
+        let row = board.row(&key).expect(rt, "a row");
+        Some(row.clone().expect(rt, "memory"))
+    } else {
+        None
+    };
+    change.set_row(key, row).expect(rt, "memory");
 }
 
-/// Writes what has this name again.
-fn set(alloc: Global, board: &Board<Copies>, change: &mut Change, name: &str) -> Option<()> {
-    if name == "clock" {
-        change.set_clock(board.clock());
-        return Some(());
-    }
-    if name == "catalogue" {
-        return change.set_catalogue(catalogue(alloc, board)?).ok();
-    }
-    match name.strip_prefix('-') {
-        Some(key) => change.set_row(Key::new(key.as_bytes())?, None).ok(),
-        None if name.starts_with('R') => set_list(board, change, name),
-        None => set_row(board, change, name),
-    }
-}
-
-/// A change that writes again what has these names, as it stands: `clock`, `catalogue`, a regulation's list or a flight's
-/// row; after a `-` the absence of that row. `None` where there is none, or memory is refused.
-pub fn change(alloc: Global, board: &Board<Copies>, names: &str) -> Option<Change> {
+/// A change that writes again what has these names, as it stands: `clock`, `catalogue`, the list of a regulation, whose
+/// name begins with `R`, or the row of a flight; after a `-` that there is none.
+pub fn change(rt: &impl Abort, alloc: Global, board: &Board<Copies>, names: &str) -> Change {
     let mut change = Change::new(alloc);
     for name in names.split_whitespace() {
-        set(alloc, board, &mut change, name)?;
+        match name {
+            "clock" => change.set_clock(board.clock()),
+            "catalogue" => set_catalogue(rt, alloc, board, &mut change),
+            _ if name.starts_with('R') => set_list(rt, board, &mut change, name),
+            _ => set_row(rt, board, &mut change, name),
+        }
     }
-    Some(change)
+    change
 }

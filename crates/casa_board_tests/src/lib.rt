@@ -12,19 +12,15 @@ mod catalogue;
 #[cfg(test)]
 mod chance;
 #[cfg(test)]
-mod desk;
-#[cfg(test)]
-mod examples;
-#[cfg(test)]
 mod interleavings;
 #[cfg(test)]
 mod items;
 #[cfg(test)]
 mod lines;
 #[cfg(test)]
-mod outdated;
+mod mornings;
 #[cfg(test)]
-mod plan_scripts;
+mod outdated;
 #[cfg(test)]
 mod played;
 #[cfg(test)]

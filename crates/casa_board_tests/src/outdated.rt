@@ -46,7 +46,7 @@ fn make<K: Store>(
     pass: &mut Pass<Call, Reply>,
     line: &str,
 ) {
-    let call = call_of(alloc, line).expect(rt, "a command");
+    let call = call_of(rt, alloc, line);
     room.locked(alloc, pass, &call, &Direct)
         .expect(rt, "a receipt");
 }
@@ -75,7 +75,7 @@ fn is_outdated<K: Store>(
     room: &mut Room<Board<K>>,
     pass: &mut Pass<Call, Reply>,
 ) {
-    let list = call_of(alloc, LIST).expect(rt, "a command");
+    let list = call_of(rt, alloc, LIST);
     let world = room.world();
     let view = world.view(&list).expect(rt, "memory");
     for _ in 0..TIMES {

@@ -17,9 +17,7 @@ use std::sync::{Arc, Wait};
 /// The event whose call a command line is.
 fn called(rt: &impl Abort, alloc: Global, event: &Event<&str>) -> Event<Call> {
     match event {
-        Event::Read(worker, line) => {
-            Event::Read(*worker, call_of(alloc, line).expect(rt, "a command"))
-        }
+        Event::Read(worker, line) => Event::Read(*worker, call_of(rt, alloc, line)),
         Event::Compute(worker) => Event::Compute(*worker),
         Event::Commit(worker) => Event::Commit(*worker),
         Event::Abandon(worker) => Event::Abandon(*worker),

@@ -289,6 +289,6 @@ fn views_are_the_same_and_show_what_they_hold(rt: HostRuntime) {
     for script in [
         ABSENT, VERSIONS, ROWS, FOUND, HELD, READERS, EVERYTHING, LAST,
     ] {
-        assert_eq!(rt; transcript(rt.alloc(), script).as_deref(), Some(script));
+        assert_eq!(&rt; transcript(&rt, rt.alloc(), script).as_str(), script);
     }
 }

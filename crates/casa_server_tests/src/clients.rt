@@ -18,36 +18,45 @@ pub struct Talk<'a> {
 /// The opening of a regulation with ten slots, as the first call.
 pub const OPENING: Talk = Talk {
     client: 0,
-    sent: "{\"cmd\":\"open\",\"reg\":\"R1\",\"loc\":\"LA\",\"periods\":[{\"from\":36000,\"to\":37200,\"rate\":30}]}\n",
-    reply: "{\"done\":true,\"msgs\":[],\"n\":1}\n",
+    sent: r#"{"cmd":"open","reg":"R1","loc":"LA","periods":[{"from":36000,"to":37200,"rate":30}]}
+"#,
+    reply: r#"{"done":true,"msgs":[],"n":1}
+"#,
 };
 
 /// The filing of a flight there, as the second call.
 pub const FILING: Talk = Talk {
     client: 1,
-    sent: "{\"cmd\":\"file\",\"key\":\"A\",\"eobt\":30000,\"taxi\":600,\"via\":[{\"loc\":\"LA\",\"eto\":36010}]}\n",
-    reply: "{\"flight\":{\"ctot\":30600,\"delay\":0,\"eobt\":30000,\"etot\":30600,\"exempt\":false,\"issued\":false,\"key\":\"A\",\"reg\":\"R1\"},\"msgs\":[],\"n\":2}\n",
+    sent: r#"{"cmd":"file","key":"A","eobt":30000,"taxi":600,"via":[{"loc":"LA","eto":36010}]}
+"#,
+    reply: r#"{"flight":{"ctot":30600,"delay":0,"eobt":30000,"etot":30600,"exempt":false,"issued":false,"key":"A","reg":"R1"},"msgs":[],"n":2}
+"#,
 };
 
 /// The list of the regulation with the flight that was filed there, issued by a tick, as the fourth call.
 pub const LISTING: Talk = Talk {
     client: 0,
-    sent: "{\"cmd\":\"list\",\"reg\":\"R1\"}\n",
-    reply: "{\"list\":{\"end\":37200,\"loc\":\"LA\",\"reg\":\"R1\",\"rows\":[{\"cto\":36010,\"eto\":36010,\"key\":\"A\",\"kind\":\"issued\",\"slot\":0}],\"slots\":10,\"start\":36000},\"msgs\":[],\"n\":4}\n",
+    sent: r#"{"cmd":"list","reg":"R1"}
+"#,
+    reply: r#"{"list":{"end":37200,"loc":"LA","reg":"R1","rows":[{"cto":36010,"eto":36010,"key":"A","kind":"issued","slot":0}],"slots":10,"start":36000},"msgs":[],"n":4}
+"#,
 };
 
 /// The flight that was filed there, as the fifth call.
 pub const SHOWING: Talk = Talk {
     client: 1,
-    sent: "{\"cmd\":\"show\",\"key\":\"A\"}\n",
-    reply: "{\"flight\":{\"ctot\":30600,\"delay\":0,\"eobt\":30000,\"etot\":30600,\"exempt\":false,\"issued\":true,\"key\":\"A\",\"reg\":\"R1\"},\"msgs\":[],\"n\":5}\n",
+    sent: r#"{"cmd":"show","key":"A"}
+"#,
+    reply: r#"{"flight":{"ctot":30600,"delay":0,"eobt":30000,"etot":30600,"exempt":false,"issued":true,"key":"A","reg":"R1"},"msgs":[],"n":5}
+"#,
 };
 
 /// A line that breaks off.
 pub const HALF_A_LINE: Talk = Talk {
     client: 0,
-    sent: "{\"cmd\":\"file\",\"ke",
-    reply: "{\"fault\":\"NotJson\"}\n",
+    sent: r#"{"cmd":"file","ke"#,
+    reply: r#"{"fault":"NotJson"}
+"#,
 };
 
 /// Nothing, by a client who is refused.

@@ -44,11 +44,13 @@ fn answers<D: Desk>(alloc: Global, desk: &mut D, line: &str, reply: &str) -> boo
     ended == Ok(1) && output.as_slice() == reply.as_bytes()
 }
 
-const ASKING: &str = "{\"cmd\":\"show\",\"key\":\"A\"}\n";
+const ASKING: &str = r#"{"cmd":"show","key":"A"}
+"#;
 
 /// The flight that was filed there, as the third call.
 const SHOWN: &str =
-    "{\"flight\":{\"ctot\":30600,\"delay\":0,\"eobt\":30000,\"etot\":30600,\"exempt\":false,\"issued\":false,\"key\":\"A\",\"reg\":\"R1\"},\"msgs\":[],\"n\":3}\n";
+    r#"{"flight":{"ctot":30600,"delay":0,"eobt":30000,"etot":30600,"exempt":false,"issued":false,"key":"A","reg":"R1"},"msgs":[],"n":3}
+"#;
 
 /// Desk 0 opens a regulation, desk 1 files a flight and loses its connection, and desk 0 sees the flight. Its pass.
 fn file_and_lose<'a, K: Store, L: Ledger, R: Wait + Abort>(

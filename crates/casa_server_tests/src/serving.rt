@@ -37,9 +37,9 @@ impl<'a> DayClock for Told<'a> {
     }
 }
 
-/// So many desks are opened; then so many connections are served: to visitors, who come and go, and to clients who talk. When they have done so, and are
-/// still connected, the timer ticks to these moments, and then they talk again. A listener that does not wait fails where
-/// no client is there.
+/// So many desks are opened; then so many connections are served: to visitors, who come and go, and to clients who talk.
+/// When they have done so, and are still connected, the timer ticks to these moments, and then they talk again. A listener
+/// that does not wait fails where no client is there.
 #[derive(Clone, Copy)]
 struct Scene<'a> {
     desks: u32,
@@ -160,7 +160,8 @@ fn a_line_that_is_too_long(rt: HostRuntime) -> Result<(), Fail> {
     let too_long = Talk {
         client: 0,
         sent: line.as_str(),
-        reply: "{\"fault\":\"LineTooLong\"}\n",
+        reply: r#"{"fault":"LineTooLong"}
+"#,
     };
     let opening = Talk {
         client: 1,
