@@ -2,7 +2,7 @@
 
 use crate::chance::{later_ends, script};
 use crate::lines::call_of;
-use crate::mornings::MORNINGS;
+use crate::mornings::{MORNINGS, openings};
 use casa_commit::{Room, World};
 use casa_flight::{Call, Reply};
 use casa_history::Pass;
@@ -124,6 +124,8 @@ fn planners_equal_plain(rt: HostRuntime) {
     for morning in MORNINGS {
         compare(&rt, alloc, morning, &mut counts);
     }
+    let openings = openings(alloc).expect(&rt, "memory");
+    compare(&rt, alloc, openings.as_str(), &mut counts);
     let script = script(alloc).expect(&rt, "memory");
     compare(&rt, alloc, script.as_str(), &mut counts);
     let later_ends = later_ends(alloc).expect(&rt, "memory");

@@ -1,5 +1,8 @@
 //! Worked mornings: command lines, to which tests/cases has the replies.
 
+use std::alloc::{AllocError, Global};
+use std::fmt::Write;
+
 /// The mornings, each from an empty board on.
 pub const MORNINGS: [&str; 24] = [
     // Two flights get slots two minutes apart.
@@ -189,3 +192,15 @@ pub const MORNINGS: [&str; 24] = [
 {"cmd":"rates","reg":"R1","periods":[{"from":36000,"to":36600,"rate":30}]}
 {"cmd":"list","reg":"R1"}"#,
 ];
+
+/// The openings of R1 to R257, and of R1 once more: the last two are refused.
+pub fn openings(alloc: Global) -> Result<String, AllocError> {
+    let mut lines = String::new(alloc);
+    for number in (1..258).chain(1..2) {
+        writeln!(
+            lines,
+            r#"{{"cmd":"open","reg":"R{number}","loc":"LA","periods":[{{"from":36000,"to":37200,"rate":30}}]}}"#
+        )?;
+    }
+    Ok(lines)
+}
