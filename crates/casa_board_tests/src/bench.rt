@@ -75,12 +75,20 @@ impl Bench {
         }
     }
 
+    /// The change that writes the items with these names.
+    fn change(&self, rt: &impl Abort, alloc: Global, names: &str) -> Change {
+        change(rt, alloc, &self.board, names)
+    }
+
     /// Does what a line tells to do.
     fn play(&mut self, rt: &impl Abort, alloc: Global, word: &str, rest: &str) {
         match word {
             "make" => self.make(rt, alloc, &call_of(rt, alloc, rest)),
             "view" => self.take(rt, call_of(rt, alloc, rest)),
-            "write" => self.apply(rt, change(rt, alloc, &self.board, rest)),
+            "write" => {
+                let change = self.change(rt, alloc, rest);
+                self.apply(rt, change);
+            }
             "drop" => drop(self.taken.pop()),
             _ => self.renew(rt),
         }
