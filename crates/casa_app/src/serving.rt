@@ -1,12 +1,13 @@
 //! Desks over connections, and a timer beside them.
 
 ghost use Rattle.std.specs.Prelude.{◌≡◌, IfOk};
+ghost use Rattle.std.specs.Arc.{arc_value};
 ghost use Rattle.casa_engine.specs.Ledgers.{IsBlankOf};
 
 use crate::fault::ProgramFault;
 use casa_engine::{Direct, Engine, blank};
 use casa_server::{DayClock, ServeFault, Served, moment_at, serve, timer};
-use casa_shelf::{Shelf, Shelving};
+use casa_shelf::{Seals, Shelf, Shelving};
 use casa_time::Moment;
 use casa_view::{Item, Store};
 use jiff::Timestamp;
@@ -65,11 +66,23 @@ pub fn serve_desks<
         return Err(ProgramFault::BindFailed);
     };
     let items = boxcar::Vec::new(alloc)?;
-    serve_on::<Brand, Brand, R>(rt, alloc, &listener, &items, blank(), connections, timing)
+    let Ok(seals) = Arc::new(alloc, boxcar::Vec::new(alloc)?) else {
+        return Err(ProgramFault::NoMemory);
+    };
+    serve_on::<Brand, Brand, R>(
+        rt,
+        alloc,
+        &listener,
+        &items,
+        seals,
+        blank(),
+        connections,
+        timing,
+    )
 }
 
-/// Serves the connections of this listener on a new engine, whose ledger is this one, and whose versions lie on the shelf
-/// that is this vector.
+/// Serves the connections of this listener on a new engine, whose ledger is this one, and whose versions lie on the shelf of
+/// these vectors.
 fn serve_on<
     V: Shelving + Send + Sync,
     L: Ledger + Send + Sync,
@@ -79,15 +92,17 @@ fn serve_on<
     alloc: Global,
     listener: &TcpListener,
     items: &boxcar::Vec<Arc<Item>>,
+    seals: Arc<Seals>,
     blank: Blank,
     connections: u32,
     timing: Option<Timing>,
 ) -> Result<Served, ProgramFault>
-    requires vector { items.now ≡ V.shelves }
+    requires items { items.now ≡ V.shelves }
+    requires seals { arc_value seals ≡ V.seals }
     requires ledger { IsBlankOf L.name L.parts blank.name blank.parts }
     ensures { IfOk result (λ served. served.sessions ≡ connections) }
 {
-    let shelf: Shelf<V, R> = Shelf::new(items, rt);
+    let shelf: Shelf<V, R> = Shelf::new(items, seals, rt);
     let engine = Engine::<Shelf<V, R>, L, Direct>::new(alloc, shelf, blank, ENGINE, Direct)?;
     Ok(serve_by(rt, alloc, listener, &engine, connections, timing)?)
 }

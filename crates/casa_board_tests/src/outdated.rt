@@ -1,6 +1,7 @@
 //! An answer that rests on what was written a thousand times since.
 
 ghost use Rattle.std.specs.Prelude.{◌≡◌};
+ghost use Rattle.std.specs.Arc.{arc_value};
 ghost use Rattle.casa_view.specs.View.{IsFor};
 
 use crate::lines::call_of;
@@ -8,7 +9,7 @@ use casa_commit::{CommitFault, Room, World, commit, prepare};
 use casa_flight::{Answer, Call, Reply};
 use casa_history::Pass;
 use casa_plan::{Direct, plan};
-use casa_shelf::{Shelf, Shelving};
+use casa_shelf::{Seals, Shelf, Shelving};
 use casa_view::{Board, Copies, Item, Store, Version, View};
 use std::alloc::Global;
 use std::marker::Brand;
@@ -98,11 +99,17 @@ fn outdated<K: Store>(rt: &impl Abort, alloc: Global, store: K) {
     assert_eq!(rt; room.history().len(), TIMES + 1);
 }
 
-/// The same over copies, and over the shelf that is this vector.
-fn outdated_on<V: Shelving, R: Abort + Wait>(rt: &R, alloc: Global, items: &boxcar::Vec<Arc<Item>>)
-    requires { items.now ≡ V.shelves }
+/// The same over copies, and over the shelf of these vectors.
+fn outdated_on<V: Shelving, R: Abort + Wait>(
+    rt: &R,
+    alloc: Global,
+    items: &boxcar::Vec<Arc<Item>>,
+    seals: Arc<Seals>,
+)
+    requires items { items.now ≡ V.shelves }
+    requires seals { arc_value seals ≡ V.seals }
 {
-    let shelf: Shelf<V, R> = Shelf::new(items, rt);
+    let shelf: Shelf<V, R> = Shelf::new(items, seals, rt);
     outdated(rt, alloc, Copies::new());
     outdated(rt, alloc, shelf);
 }
@@ -111,5 +118,7 @@ fn outdated_on<V: Shelving, R: Abort + Wait>(rt: &R, alloc: Global, items: &boxc
 fn an_outdated_answer_is_refused(rt: HostRuntime) {
     let alloc = rt.alloc();
     let items = boxcar::Vec::new(alloc).expect(&rt, "memory");
-    outdated_on::<Brand, _>(&rt, alloc, &items);
+    let none = boxcar::Vec::new(alloc).expect(&rt, "memory");
+    let seals = Arc::new(alloc, none).expect(&rt, "memory");
+    outdated_on::<Brand, _>(&rt, alloc, &items, seals);
 }

@@ -1,11 +1,12 @@
 //! Events whose calls are command lines, and what comes of them, in lines.
 
 ghost use Rattle.std.specs.Prelude.{◌≡◌};
+ghost use Rattle.std.specs.Arc.{arc_value};
 
 use crate::lines::call_of;
 use casa_flight::{Call, Reply};
 use casa_history::{Entry, History, Receipt, SharedEntry};
-use casa_shelf::{Shelf, Shelving};
+use casa_shelf::{Seals, Shelf, Shelving};
 use casa_view::{Copies, Item, Store};
 use casa_wire::reply_line;
 use casa_world::{Event, play};
@@ -78,28 +79,31 @@ fn push_end<K: Store>(
     push_history(rt, alloc, told, run.history());
 }
 
-/// What the events come to over copies, and over the shelf that is this vector: after each commit the worker's outcome, and
+/// What the events come to over copies, and over the shelf of these vectors: after each commit the worker's outcome, and
 /// at the end the clock and the history.
 fn told<V: Shelving, R: Abort + Wait>(
     rt: &R,
     alloc: Global,
     items: &boxcar::Vec<Arc<Item>>,
+    seals: Arc<Seals>,
     lines: &[Event<&str>],
 ) -> (String, String)
-    requires { items.now ≡ V.shelves }
+    requires items { items.now ≡ V.shelves }
+    requires seals { arc_value seals ≡ V.seals }
 {
     let (mut copied, mut shelved) = (String::new(alloc), String::new(alloc));
     let mut events = Vec::new(alloc);
     for line in lines {
         events.push(called(rt, alloc, line)).expect(rt, "memory");
         if let Event::Commit(worker) = line {
-            let shelf: Shelf<V, R> = Shelf::new(items, rt);
+            let again = Arc::try_clone(&seals).expect(rt, "memory");
+            let shelf: Shelf<V, R> = Shelf::new(items, again, rt);
             let events = events.as_slice();
             push_outcome(rt, alloc, &mut copied, Copies::new(), events, *worker);
             push_outcome(rt, alloc, &mut shelved, shelf, events, *worker);
         }
     }
-    let shelf: Shelf<V, R> = Shelf::new(items, rt);
+    let shelf: Shelf<V, R> = Shelf::new(items, seals, rt);
     push_end(rt, alloc, &mut copied, Copies::new(), events.as_slice());
     push_end(rt, alloc, &mut shelved, shelf, events.as_slice());
     (copied, shelved)
@@ -108,7 +112,9 @@ fn told<V: Shelving, R: Abort + Wait>(
 /// These events come to this over both stores.
 pub fn comes_to<R: Abort + Wait>(rt: &R, alloc: Global, lines: &[Event<&str>], wanted: &str) {
     let items = boxcar::Vec::new(alloc).expect(rt, "memory");
-    let (copied, shelved) = told::<Brand, R>(rt, alloc, &items, lines);
+    let none = boxcar::Vec::new(alloc).expect(rt, "memory");
+    let seals = Arc::new(alloc, none).expect(rt, "memory");
+    let (copied, shelved) = told::<Brand, R>(rt, alloc, &items, seals, lines);
     assert_eq!(rt; copied.as_str(), wanted);
     assert_eq!(rt; shelved.as_str(), wanted);
 }

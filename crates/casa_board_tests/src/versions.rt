@@ -1,8 +1,9 @@
 //! Versions of items.
 
 ghost use Rattle.std.specs.Prelude.{◌≡◌};
+ghost use Rattle.std.specs.Arc.{arc_value};
 
-use casa_shelf::{Shelf, Shelving};
+use casa_shelf::{Seals, Shelf, Shelving};
 use casa_time::Moment;
 use casa_view::{Copied, Copies, Item, Store, Version};
 use std::alloc::Global;
@@ -34,11 +35,13 @@ fn positions_tell<V: Shelving, R: Abort + Wait>(
     rt: &R,
     alloc: Global,
     items: &boxcar::Vec<Arc<Item>>,
+    seals: Arc<Seals>,
 )
-    requires { items.now ≡ V.shelves }
+    requires items { items.now ≡ V.shelves }
+    requires seals { arc_value seals ≡ V.seals }
 {
     let at = Moment::new(100).expect(rt, "a moment");
-    let mut shelf: Shelf<V, R> = Shelf::new(items, rt);
+    let mut shelf: Shelf<V, R> = Shelf::new(items, seals, rt);
     let clock = Arc::new(alloc, Item::Clock(at)).expect(rt, "memory");
     let again = Arc::try_clone(&clock).expect(rt, "memory");
     let one = shelf.put(5, clock).expect(rt, "memory");
@@ -52,5 +55,7 @@ fn positions_tell<V: Shelving, R: Abort + Wait>(
 fn versions_on_a_shelf_are_the_same_by_number_and_position(rt: HostRuntime) {
     let alloc = rt.alloc();
     let items = boxcar::Vec::new(alloc).expect(&rt, "memory");
-    positions_tell::<Brand, _>(&rt, alloc, &items);
+    let none = boxcar::Vec::new(alloc).expect(&rt, "memory");
+    let seals = Arc::new(alloc, none).expect(&rt, "memory");
+    positions_tell::<Brand, _>(&rt, alloc, &items, seals);
 }

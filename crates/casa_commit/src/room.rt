@@ -113,15 +113,15 @@ impl<W: World> Room<W> {
         Ok(Pass::new(alloc, self.number, desk as u32))
     }
 
-    /// Lets the world move in what it kept apart for views that are gone. `AllocError` where there is no memory for it; the
-    /// room says what it said at each end.
-    pub fn consolidate(&mut self) -> Result<(), AllocError>
+    /// Lets the world move in what it kept apart for views that are gone, and make ready for a view of this call.
+    /// `AllocError` where there is no memory for it; the room says what it said at each end.
+    pub fn consolidate(&mut self, call: &W::Call) -> Result<(), AllocError>
         ensures world { W.same_but_capacity (world_of self.old) (world_of self.new) }
         ensures history { history_of self.new ≡ history_of self.old }
         ensures number { room_number self.new ≡ room_number self.old }
         ensures desks { open_desks self.new ≡ open_desks self.old }
     {
-        self.world.consolidate()
+        self.world.consolidate(call)
     }
 
     /// Takes a view for the desk's call, works the answer out by the gate and accepts it, all in one section, and gives the

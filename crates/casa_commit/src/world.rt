@@ -73,9 +73,9 @@ pub trait World {
         ensures current { IsTrue result ↔ is_current self.now view.now }
         ensures shown { IsTrue result → good (state self.now) → shows (state self.now) view.now };
 
-    /// Moves in what was kept apart for views that are gone. `AllocError` where there is no memory for it; the world says
-    /// what it said at each end.
-    fn consolidate(&mut self) -> Result<(), AllocError>
+    /// Moves in what was kept apart for views that are gone, and makes ready for a view of this call. `AllocError` where
+    /// there is no memory for it; the world says what it said at each end.
+    fn consolidate(&mut self, call: &Self::Call) -> Result<(), AllocError>
         ensures { same_but_capacity self.old self.new };
 
     /// Makes all growths of a change, which the entry at this position will apply. `AllocError` where one is refused;

@@ -66,7 +66,7 @@ impl<W: World, L: Ledger> CountedRoom<W, L> {
     pub(crate) fn view(&mut self, call: &W::Call) -> Result<W::View, AllocError>
         ensures { IfOk result (λ view. W.is_for view call.now) }
     {
-        self.room.consolidate()?;
+        self.room.consolidate(call)?;
         self.room.world().view(call)
     }
 

@@ -1,6 +1,7 @@
 //! Scripts of calls that desks make in threads, and what the desks and the engine tell.
 
 ghost use Rattle.std.specs.Prelude.{◌≡◌};
+ghost use Rattle.std.specs.Arc.{arc_value};
 ghost use Rattle.casa_engine.specs.Ledgers.{IsBlankOf};
 
 use crate::watched::{Signals, Watched};
@@ -9,7 +10,7 @@ use casa_engine::{Audit, DeskPass, Engine, EngineDesk, blank};
 use casa_flight::{Call, Reply};
 use casa_history::{History, Holds};
 use casa_plain::Plain;
-use casa_shelf::{Shelf, Shelving};
+use casa_shelf::{Seals, Shelf, Shelving};
 use casa_view::{Copies, Item, Store};
 use casa_wire::{read_call, reply_line};
 use std::alloc::Global;
@@ -192,18 +193,20 @@ fn played_over<
     }
 }
 
-/// The same over the shelf that is this vector.
+/// The same over the shelf of these vectors.
 fn played_on<V: Shelving + Send + Sync, L: Ledger + Send + Sync, R: Threads + Wait + Sync + Abort>(
     rt: &R,
     alloc: Global,
     items: &boxcar::Vec<Arc<Item>>,
+    seals: Arc<Seals>,
     blank: Blank,
     script: &Script<'_>,
 ) -> Told
-    requires vector { items.now ≡ V.shelves }
+    requires items { items.now ≡ V.shelves }
+    requires seals { arc_value seals ≡ V.seals }
     requires ledger { IsBlankOf L.name L.parts blank.name blank.parts }
 {
-    let shelf: Shelf<V, R> = Shelf::new(items, rt);
+    let shelf: Shelf<V, R> = Shelf::new(items, seals, rt);
     played_over::<Shelf<V, R>, L, R>(rt, alloc, shelf, blank, script)
 }
 
@@ -214,8 +217,10 @@ pub fn played<R: Threads + Wait + Sync + Abort>(
     script: &Script<'_>,
 ) -> [Told; 2] {
     let items = boxcar::Vec::new(alloc).expect(rt, "memory");
+    let none = boxcar::Vec::new(alloc).expect(rt, "memory");
+    let seals = Arc::new(alloc, none).expect(rt, "memory");
     [
         played_over::<Copies, Brand, R>(rt, alloc, Copies::new(), blank(), script),
-        played_on::<Brand, Brand, R>(rt, alloc, &items, blank(), script),
+        played_on::<Brand, Brand, R>(rt, alloc, &items, seals, blank(), script),
     ]
 }

@@ -2,3 +2,4 @@ pub mod Gathered
 pub mod Crossed
 pub mod Copies
 pub mod Versions
+pub mod Numbers

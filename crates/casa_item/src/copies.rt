@@ -1,7 +1,9 @@
 ghost use Rattle.std.specs.Prelude.{◌≡◌, IfOk};
 
 use crate::item::{Item, same_item};
+use crate::seal::Seal;
 use crate::version::{Store, Version};
+use boxcar::tag::Tag;
 use std::alloc::AllocError;
 use std::marker::Model;
 use std::sync::Arc;
@@ -29,13 +31,21 @@ impl Drop for Copied {
 }
 
 impl Version for Copied {
-    ghost use Rattle.casa_item.specs.Copies.{is_same_copy, same_copy, same_copy_stamp};
+    ghost use Rattle.std.specs.Prelude.{[]};
+    ghost use Rattle.casa_item.specs.Copies.{is_same_copy, same_copy, same_copy_stamp, copy_code};
+    ghost use Rattle.casa_item.specs.Numbers.{numbers_by, told_by};
 
     ghost item_of = { λ c. c.1 };
 
     ghost stamp_of = { λ c. c.0 };
 
     ghost is_same = { is_same_copy };
+
+    ghost seals = { record { tag = []; buckets = [] } };
+
+    ghost numbers = { numbers_by copy_code };
+
+    ghost told_apart = { told_by copy_code };
 
     fn item(&self) -> &Item {
         &self.item
@@ -81,5 +91,9 @@ impl Store for Copies {
             stamp: position,
             item,
         })
+    }
+
+    fn seal(&mut self, _state: Tag) -> Result<Option<Seal<Copied>>, AllocError> {
+        Ok(None)
     }
 }

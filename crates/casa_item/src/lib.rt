@@ -4,11 +4,13 @@
 mod catalogue;
 mod copies;
 mod item;
+mod seal;
 mod spare;
 mod version;
 
 pub use catalogue::{Catalogue, Crossings};
 pub use copies::{Copied, Copies};
 pub use item::{Item, row_in};
+pub use seal::{Seal, Seals};
 pub use spare::Spare;
 pub use version::{Store, Version};

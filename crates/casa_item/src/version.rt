@@ -1,8 +1,11 @@
-ghost use Rattle.std.specs.Prelude.{◌≡◌, ℕ, Bool, true, IfOk, IfSome, IsTrue};
+ghost use Rattle.std.specs.Prelude.{◌≡◌, ℕ, List, Bool, true, IfOk, IfSome, IsTrue};
 ghost use Rattle.std.specs.Arc.{arc_value};
+ghost use Rattle.boxcar.specs.Table.{Shelves};
 ghost use Rattle.casa_item.specs.declared.item.Item.{Item};
 
 use crate::item::Item;
+use crate::seal::Seal;
+use boxcar::tag::Tag;
 use std::alloc::AllocError;
 use std::sync::Arc;
 
@@ -16,6 +19,15 @@ pub trait Version: Drop {
 
     /// The versions are equal.
     ghost is_same: { Self → Self → Bool };
+
+    /// The vector of the seals of what has such versions.
+    ghost seals: { Shelves };
+
+    /// Numbers that stand for the version.
+    ghost numbers: { Self → List ℕ };
+
+    /// They tell it from all others.
+    ghost told_apart: { (v w : Self) → numbers v ≡ numbers w → v ≡ w };
 
     /// The item as it stands in this version.
     fn item(&self) -> &Item
@@ -55,4 +67,9 @@ pub trait Store: Drop {
     fn put(&mut self, position: usize, item: Arc<Item>) -> Result<Self::Version, AllocError>
         ensures item { IfOk result (λ version. Self.Version.item_of version ≡ arc_value item) }
         ensures number { IfOk result (λ version. Self.Version.stamp_of version ≡ position) };
+
+    /// Seals what these numbers stand for; `None` where the store makes no seals. `AllocError` where there is no memory for
+    /// it.
+    fn seal(&mut self, state: Tag) -> Result<Option<Seal<Self::Version>>, AllocError>
+        ensures { IfOk result (λ made. IfSome made (λ seal. seal ≡ state.numbers)) };
 }

@@ -1,13 +1,14 @@
 //! A desk whose connection is lost, on an engine where another one goes on.
 
 ghost use Rattle.std.specs.Prelude.{◌≡◌};
+ghost use Rattle.std.specs.Arc.{arc_value};
 ghost use Rattle.casa_engine.specs.Ledgers.{IsBlankOf};
 
 use crate::clients::{FILING, OPENING};
 use casa_engine::{DeskPass, Direct, Engine, EngineDesk, blank};
 use casa_history::{Settled, Torn};
 use casa_session::{Desk, SessionFault, run};
-use casa_shelf::{Shelf, Shelving};
+use casa_shelf::{Seals, Shelf, Shelving};
 use casa_view::{Item, Store};
 use std::alloc::Global;
 use std::io;
@@ -83,24 +84,28 @@ fn settled_over<K: Store, L: Ledger, R: Wait + Abort>(
     (desks, settled)
 }
 
-/// The same over the shelf that is this vector.
+/// The same over the shelf of these vectors.
 fn settled_on<V: Shelving + Send + Sync, L: Ledger, R: Wait + Abort>(
     rt: &R,
     alloc: Global,
     items: &boxcar::Vec<Arc<Item>>,
+    seals: Arc<Seals>,
     blank: Blank,
 ) -> (u32, Result<Settled, Torn>)
-    requires vector { items.now ≡ V.shelves }
+    requires items { items.now ≡ V.shelves }
+    requires seals { arc_value seals ≡ V.seals }
     requires ledger { IsBlankOf L.name L.parts blank.name blank.parts }
 {
-    let shelf: Shelf<V, R> = Shelf::new(items, rt);
+    let shelf: Shelf<V, R> = Shelf::new(items, seals, rt);
     settled_over::<Shelf<V, R>, L, R>(rt, alloc, shelf, blank)
 }
 
 /// The same over a new shelf.
 fn settled<R: Wait + Abort>(rt: &R, alloc: Global) -> (u32, Result<Settled, Torn>) {
     let items = boxcar::Vec::new(alloc).expect(rt, "memory");
-    settled_on::<Brand, Brand, R>(rt, alloc, &items, blank())
+    let none = boxcar::Vec::new(alloc).expect(rt, "memory");
+    let seals = Arc::new(alloc, none).expect(rt, "memory");
+    settled_on::<Brand, Brand, R>(rt, alloc, &items, seals, blank())
 }
 
 /// What a desk called before its connection was lost stands, and others see it; and where its pass is lost too, the history

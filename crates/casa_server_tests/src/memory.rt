@@ -1,12 +1,13 @@
 //! A server whose connections are in memory.
 
 ghost use Rattle.std.specs.Prelude.{◌≡◌, None};
+ghost use Rattle.std.specs.Arc.{arc_value};
 ghost use Rattle.casa_engine.specs.Ledgers.{IsBlankOf};
 
 use crate::clients::OPENING;
 use casa_engine::{Audit, Direct, Engine, blank};
 use casa_server::{Connections, ServeFault, Served, serve};
-use casa_shelf::{Shelf, Shelving};
+use casa_shelf::{Seals, Shelf, Shelving};
 use casa_view::{Copies, Item, Store};
 use std::alloc::Global;
 use std::io;
@@ -55,19 +56,21 @@ fn seen_over<
     (served, engine.audit(rt).expect(rt, "memory"))
 }
 
-/// The same over the shelf that is this vector.
+/// The same over the shelf of these vectors.
 fn seen_on<V: Shelving + Send + Sync, L: Ledger + Send + Sync, R: Threads + Wait + Abort + Sync>(
     rt: &R,
     alloc: Global,
     items: &boxcar::Vec<Arc<Item>>,
+    seals: Arc<Seals>,
     blank: Blank,
     sent: Sent,
     connections: u32,
 ) -> Seen
-    requires vector { items.now ≡ V.shelves }
+    requires items { items.now ≡ V.shelves }
+    requires seals { arc_value seals ≡ V.seals }
     requires ledger { IsBlankOf L.name L.parts blank.name blank.parts }
 {
-    let shelf: Shelf<V, R> = Shelf::new(items, rt);
+    let shelf: Shelf<V, R> = Shelf::new(items, seals, rt);
     seen_over::<Shelf<V, R>, L, R>(rt, alloc, shelf, blank, sent, connections)
 }
 
@@ -79,9 +82,11 @@ fn seen<R: Threads + Wait + Abort + Sync>(
     connections: u32,
 ) -> [Seen; 2] {
     let items = boxcar::Vec::new(alloc).expect(rt, "memory");
+    let none = boxcar::Vec::new(alloc).expect(rt, "memory");
+    let seals = Arc::new(alloc, none).expect(rt, "memory");
     [
         seen_over::<Copies, Brand, R>(rt, alloc, Copies::new(), blank(), sent, connections),
-        seen_on::<Brand, Brand, R>(rt, alloc, &items, blank(), sent, connections),
+        seen_on::<Brand, Brand, R>(rt, alloc, &items, seals, blank(), sent, connections),
     ]
 }
 

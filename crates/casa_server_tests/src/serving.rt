@@ -1,6 +1,7 @@
 //! A server, its clients and a timer on one engine.
 
 ghost use Rattle.std.specs.Prelude.{◌≡◌, Some};
+ghost use Rattle.std.specs.Arc.{arc_value};
 ghost use Rattle.casa_engine.specs.Ledgers.{IsBlankOf};
 
 use crate::clients::{
@@ -8,7 +9,7 @@ use crate::clients::{
 };
 use casa_engine::{Direct, Engine, blank};
 use casa_server::{DayClock, ServeFault, Served, TimerFault, serve, timer};
-use casa_shelf::{Shelf, Shelving};
+use casa_shelf::{Seals, Shelf, Shelving};
 use casa_time::Moment;
 use casa_view::{Item, Store};
 use std::alloc::Global;
@@ -99,16 +100,24 @@ fn play_with<
     }
 }
 
-/// Plays a scene on a new engine with this ledger, over the shelf that is this vector.
+/// Plays a scene on a new engine with this ledger, over the shelf of these vectors.
 fn play_on<
     V: Shelving + Send + Sync,
     L: Ledger + Send + Sync,
     R: Net<Listener = TcpListener, Stream = TcpStream> + Threads + Wait + Abort + Sync,
->(rt: &R, alloc: Global, items: &boxcar::Vec<Arc<Item>>, blank: Blank, scene: Scene) -> Seen
-    requires vector { items.now ≡ V.shelves }
+>(
+    rt: &R,
+    alloc: Global,
+    items: &boxcar::Vec<Arc<Item>>,
+    seals: Arc<Seals>,
+    blank: Blank,
+    scene: Scene,
+) -> Seen
+    requires items { items.now ≡ V.shelves }
+    requires seals { arc_value seals ≡ V.seals }
     requires ledger { IsBlankOf L.name L.parts blank.name blank.parts }
 {
-    let shelf: Shelf<V, R> = Shelf::new(items, rt);
+    let shelf: Shelf<V, R> = Shelf::new(items, seals, rt);
     let engine = Engine::<Shelf<V, R>, L, Direct>::new(alloc, shelf, blank, 7, Direct).expect(
         rt, "memory",
     );
@@ -122,7 +131,9 @@ fn play<R: Net<Listener = TcpListener, Stream = TcpStream> + Threads + Wait + Ab
     scene: Scene,
 ) -> Seen {
     let items = boxcar::Vec::new(alloc).expect(rt, "memory");
-    play_on::<Brand, Brand, R>(rt, alloc, &items, blank(), scene)
+    let none = boxcar::Vec::new(alloc).expect(rt, "memory");
+    let seals = Arc::new(alloc, none).expect(rt, "memory");
+    play_on::<Brand, Brand, R>(rt, alloc, &items, seals, blank(), scene)
 }
 
 const SERVED: Served = Served {

@@ -4,6 +4,8 @@ use Rattle.std.specs.Cmp.Derive.{both_true}
 use Rattle.std.proofs.Common.{refl}
 use Rattle.std.proofs.lemmas.Bool.{eq-eqb, eqb-true, and_parts}
 use Rattle.casa_item.specs.declared.item.Item.{Item}
+use Rattle.casa_item.specs.contracts.item.Item.{the_row}
+use base.Stored.{Coded, coded×, coded_ℕ, coded_via}
 
 -- whether versions have the same stamp and the same position
 abbrev pub is_same_position : ℕ × ℕ × Item → ℕ × ℕ × Item → Bool
@@ -14,3 +16,9 @@ same_position m = both_true (eq-eqb m.0 m.0 refl) (eq-eqb m.1 m.1 refl)
 
 pub same_position_stamp : (a b : ℕ × ℕ × Item) → is_same_position a b ≡ true → a.0 ≡ b.0
 same_position_stamp a b h = eqb-true a.0 b.0 (and_parts _ _ h).0
+
+-- how the logic stores such a version
+abbrev pub shelved_code : Coded (ℕ × ℕ × Item)
+shelved_code =
+    coded_via (coded× coded_ℕ (coded× coded_ℕ the_row.coded)) (λ (m : ℕ × ℕ × Item). (m.0, (m.1, m.2)))
+    (λ x y e i. ((e i).0, (e i).1.0, (e i).1.1))

@@ -3,4 +3,5 @@
 
 mod shelf;
 
+pub use casa_item::Seals;
 pub use shelf::{Shelf, Shelved, Shelving};

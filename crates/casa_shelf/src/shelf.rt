@@ -1,21 +1,29 @@
 //! Versions in a vector that only grows.
 
 ghost use Rattle.std.specs.Prelude.{◌≡◌, [], IsTrue};
+ghost use Rattle.std.specs.Arc.{arc_value};
 ghost use Rattle.boxcar.specs.Table.{Shelves};
 
-use casa_item::{Item, Store, Version};
+use boxcar::tag::Tag;
+use casa_item::{Item, Seal, Seals, Store, Version};
 use std::alloc::AllocError;
 use std::marker::{Brand, Model, PhantomData};
 use std::sync::{Arc, Wait};
 
-/// Names a vector of items. Each program picks what it stands for once, at the call to which it lends its vector.
+/// Names a vector of items, and one of seals. Each program picks what they stand for once, at the call to which it lends its
+/// vectors.
 pub trait Shelving {
-    /// The vector, as contracts see it.
+    /// The vector of items, as contracts see it.
     ghost shelves: { Shelves };
+
+    /// The vector of seals.
+    ghost seals: { Shelves };
 }
 
 impl Shelving for Brand {
     ghost shelves = { record { tag = []; buckets = [] } };
+
+    ghost seals = { record { tag = []; buckets = [] } };
 }
 
 /// A version on a shelf: its stamp, and its position there. A copy takes no memory, and no count that threads share.
@@ -67,13 +75,20 @@ impl<'a, V: Shelving> Shelved<'a, V> {
 }
 
 impl<'a, V: Shelving> Version for Shelved<'a, V> {
-    ghost use Rattle.casa_shelf.specs.Positions.{is_same_position, same_position, same_position_stamp};
+    ghost use Rattle.casa_item.specs.Numbers.{numbers_by, told_by};
+    ghost use Rattle.casa_shelf.specs.Positions.{is_same_position, same_position, same_position_stamp, shelved_code};
 
     ghost item_of = { λ s. s.2 };
 
     ghost stamp_of = { λ s. s.0 };
 
     ghost is_same = { is_same_position };
+
+    ghost seals = { V.seals };
+
+    ghost numbers = { numbers_by shelved_code };
+
+    ghost told_apart = { told_by shelved_code };
 
     fn item(&self) -> &Item {
         self.item_there()
@@ -100,22 +115,26 @@ impl<'a, V: Shelving> Version for Shelved<'a, V> {
 /// The store that puts each version on a shelf: a vector that others read meanwhile, and where it stays as long as the
 /// vector does.
 ///
-/// The type V names the vector, so that versions of another one are of another type. To put one may wait for another
-/// thread that does the same, which is what the runtime R is for.
+/// Seals are positions in a vector of their own. The type V names the two vectors, so that versions of others are of another
+/// type. To put a version or a seal may wait for another thread that does the same, which is what the runtime R is for.
 pub struct Shelf<'a, V: Shelving, R> {
     items: &'a boxcar::Vec<Arc<Item>>,
+    seals: Arc<Seals>,
     rt: &'a R,
     name: PhantomData<V>,
     ghost named: { items.now ≡ V.shelves },
+    ghost seals_named: { arc_value seals ≡ V.seals },
 }
 
 impl<'a, V: Shelving, R> Shelf<'a, V, R> {
-    /// The store over this vector. It takes no memory.
-    pub fn new(items: &'a boxcar::Vec<Arc<Item>>, rt: &'a R) -> Shelf<'a, V, R>
-        requires { items.now ≡ V.shelves }
+    /// The store over these vectors. It takes no memory.
+    pub fn new(items: &'a boxcar::Vec<Arc<Item>>, seals: Arc<Seals>, rt: &'a R) -> Shelf<'a, V, R>
+        requires items { items.now ≡ V.shelves }
+        requires seals { arc_value seals ≡ V.seals }
     {
         Shelf {
             items,
+            seals,
             rt,
             name: PhantomData,
         }
@@ -126,6 +145,7 @@ impl<'a, V: Shelving, R> Drop for Shelf<'a, V, R> {
     fn drop(self) {
         let Shelf {
             items: _,
+            seals: _,
             rt: _,
             name: _,
         } = self;
@@ -145,5 +165,12 @@ impl<'a, V: Shelving, R: Wait> Store for Shelf<'a, V, R> {
             items: self.items,
             name: PhantomData,
         })
+    }
+
+    fn seal(&mut self, state: Tag) -> Result<Option<Seal<Shelved<'a, V>>>, AllocError> {
+        let Ok(token) = self.seals.push_shown(self.rt, state) else {
+            return Err(AllocError);
+        };
+        Ok(Some(Seal::of(token, Arc::try_clone(&self.seals)?)))
     }
 }

@@ -6,6 +6,7 @@ pub mod Over
 pub mod NotedFlights
 pub mod LaidFound
 pub mod Sequence
+pub mod Sealed
 pub mod Named
 pub mod Placed
 pub mod Answered

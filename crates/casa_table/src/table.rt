@@ -1,15 +1,17 @@
 //! Values under names, of which views share all.
 
-ghost use Rattle.std.specs.Prelude.{◌≡◌, ◌-◌, [], length, Some, None, IfOk, OnOk, OnErr, if◌then◌else◌};
+ghost use Rattle.std.specs.Prelude.{◌≡◌, ◌-◌, List, [], length, Some, None, IfOk, OnOk, OnErr, IsTrue, if◌then◌else◌};
 ghost use Rattle.std.specs.Arc.{arc_value};
 ghost use Rattle.std.specs.Option.{option_copied, option_or};
 ghost use Rattle.casa_filing.specs.Text.{Text, same_text, at_name, put, without};
 ghost use Rattle.casa_flight.specs.Good.{AreInOrder};
 ghost use Rattle.casa_table.specs.Laid.{with_value, with_changes};
+ghost use Rattle.casa_table.specs.Sealed.{numbers_of, IsSealOf};
 
 use crate::index::Index;
+use boxcar::tag::{Names, Tag};
 use casa_flight::Name;
-use casa_item::{Spare, Version};
+use casa_item::{Seal, Spare, Store, Version};
 use std::alloc::{AllocError, Global};
 use std::collections::BTreeMap;
 use std::collections::btree_map::Entry;
@@ -36,6 +38,15 @@ impl<Kind, V, I: Index<Kind, V>> Model for Base<Kind, V, I> {
     ghost view = { λ b. b.values.entries };
 
     ghost invariant = { λ b. AreInOrder b.values.entries × I.covers b.index (at_name b.values.entries) };
+}
+
+/// The numbers that stand for all that a base has.
+struct Contents;
+
+impl<Kind, V: Version, I: Index<Kind, V>> Names<Base<Kind, V, I>> for Contents {
+    ghost use Rattle.casa_table.specs.Sealed.{numbers_of};
+
+    ghost numbers = { λ b. numbers_of V.numbers b };
 }
 
 impl<Kind, V, I: Index<Kind, V>> Base<Kind, V, I> {
@@ -191,19 +202,22 @@ const MOST_BESIDE: usize = 4096;
 /// no memory.
 ///
 /// A view may share all values, and what is shared does not change. So while a view has them, changes lie beside them;
-/// they are moved in when no view has them any more.
+/// they are moved in when no view has them any more. A seal tells the values of the base from all others; it comes off
+/// when changes are moved in.
 ///
 /// Contracts see the entries, and those that it will have once it adopts the changes.
-pub struct Table<Kind, V, I: Index<Kind, V>> {
+pub struct Table<Kind, V: Version, I: Index<Kind, V>> {
     alloc: Global,
     base: Arc<Base<Kind, V, I>>,
+    seal: Option<Seal<V>>,
     recent: Arc<Changes<Kind, V>>,
     coming: Arc<Changes<Kind, V>>,
 }
 
-impl<Kind, V, I: Index<Kind, V>> Model for Table<Kind, V, I> {
+impl<Kind, V: Version, I: Index<Kind, V>> Model for Table<Kind, V, I> {
     ghost use Rattle.std.specs.Arc.{arc_value};
     ghost use Rattle.casa_table.specs.Laid.{with_changes, TableEntries};
+    ghost use Rattle.casa_table.specs.Sealed.{IsSealOf};
     ghost use Rattle.casa_flight.specs.Good.{AreInOrder};
 
     ghost Value = { TableEntries V };
@@ -214,14 +228,16 @@ impl<Kind, V, I: Index<Kind, V>> Model for Table<Kind, V, I> {
     } };
 
     ghost invariant = { λ t.
-        AreInOrder (arc_value t.base) × AreInOrder (arc_value t.recent).entries × AreInOrder (arc_value t.coming).entries };
+        AreInOrder (arc_value t.base) × AreInOrder (arc_value t.recent).entries × AreInOrder (arc_value t.coming).entries
+        × IsSealOf V.numbers (arc_value t.base) t.seal };
 }
 
-impl<Kind, V: Drop, I: Index<Kind, V>> Drop for Table<Kind, V, I> {
+impl<Kind, V: Version, I: Index<Kind, V>> Drop for Table<Kind, V, I> {
     fn drop(self) {
         let Table {
             alloc: _,
             base: _,
+            seal: _,
             recent: _,
             coming: _,
         } = self;
@@ -236,6 +252,7 @@ impl<Kind: Copy, V: Version, I: Index<Kind, V>> Table<Kind, V, I> {
         Ok(Table {
             alloc,
             base: Arc::new(alloc, Base::new(alloc))?,
+            seal: None,
             recent: Arc::new(alloc, BTreeMap::new(alloc))?,
             coming: Arc::new(alloc, BTreeMap::new(alloc))?,
         })
@@ -252,22 +269,48 @@ impl<Kind: Copy, V: Version, I: Index<Kind, V>> Table<Kind, V, I> {
         }
     }
 
-    /// The values of the base, and the changes that lie beside it.
-    pub(crate) fn layers(&self) -> (&Values<Kind, V>, &Changes<Kind, V>)
-        ensures laid { with_changes result.1.now.entries result.0.now.entries ≡ self.now.entries }
-        ensures ordered { AreInOrder result.0.now.entries × AreInOrder result.1.now.entries }
-    {
-        (self.base.values(), &self.recent)
-    }
-
     /// All values, shared: this takes two counts, whatever their number.
     pub fn share(&self) -> Result<Shared<Kind, V, I>, AllocError>
         ensures { IfOk result (λ shared. shared ≡ self.now.entries) }
     {
         Ok(Shared {
             base: Arc::try_clone(&self.base)?,
+            seal: seal_again(&self.seal)?,
             recent: Arc::try_clone(&self.recent)?,
         })
+    }
+
+    /// Seals the values of the base, unless they are sealed, so that those that are shared now need not be compared with
+    /// those that will be here then. `AllocError` where there is no memory for it.
+    pub fn seal<K: Store<Version = V>>(&mut self, store: &mut K) -> Result<(), AllocError>
+        ensures { self.new.entries ≡ self.old.entries }
+    {
+        if self.seal.is_none() {
+            self.seal = store.seal(Tag::of::<Base<Kind, V, I>, Contents>(&self.base))?;
+        }
+        Ok(())
+    }
+
+    /// The values of the base and the changes beside it, here and where they were shared, and whether seals tell that the
+    /// values of the two bases are the same.
+    pub(crate) fn sides<'a>(&'a self, shared: &'a Shared<Kind, V, I>) -> Sides<'a, Kind, V>
+        ensures ours { with_changes result.our_changes.now.entries result.ours.now.entries
+            ≡ self.now.entries }
+        ensures theirs { with_changes result.their_changes.now.entries result.theirs.now.entries
+            ≡ shared.now }
+        ensures our_order { AreInOrder result.ours.now.entries
+            × AreInOrder result.our_changes.now.entries }
+        ensures their_order { AreInOrder result.theirs.now.entries
+            × AreInOrder result.their_changes.now.entries }
+        ensures alike { IsTrue result.alike → result.ours.now.entries ≡ result.theirs.now.entries }
+    {
+        Sides {
+            ours: self.base.values(),
+            our_changes: &self.recent,
+            theirs: shared.base.values(),
+            their_changes: &shared.recent,
+            alike: same_seal(&self.seal, &shared.seal),
+        }
     }
 
     /// Moves the changes that lie beside the base into it, if no view has it, or into a new one, if they are too many.
@@ -275,10 +318,11 @@ impl<Kind: Copy, V: Version, I: Index<Kind, V>> Table<Kind, V, I> {
     pub fn consolidate(&mut self, spare: &mut Spare) -> Result<(), AllocError>
         ensures { self.new.entries ≡ self.old.entries }
     {
-        absorb_alone(&mut self.base, &mut self.recent, spare)?;
+        absorb_alone(&mut self.base, &mut self.seal, &mut self.recent, spare)?;
         if MOST_BESIDE < self.recent.len() {
             let base = Arc::new(self.alloc, self.base.merged(self.alloc, &self.recent)?)?;
             self.recent = Arc::new(self.alloc, BTreeMap::new(self.alloc))?;
+            self.seal = None;
             self.base = base;
         }
         Ok(())
@@ -333,9 +377,42 @@ fn put_shared<T: Drop>(alloc: Global, shared: &mut Arc<T>, value: T) -> Result<(
     Ok(())
 }
 
-/// Moves all changes over to the values, if no view has either.
+/// What a table and what it shared have: the values of each base, the changes beside it, and whether it is known already
+/// that the values of the two bases are the same.
+#[derive(Drop)]
+pub(crate) struct Sides<'a, Kind, V> {
+    pub ours: &'a Values<Kind, V>,
+    pub our_changes: &'a Changes<Kind, V>,
+    pub theirs: &'a Values<Kind, V>,
+    pub their_changes: &'a Changes<Kind, V>,
+    pub alike: bool,
+}
+
+/// The seal once more, if there is one.
+fn seal_again<V: Version>(seal: &Option<Seal<V>>) -> Result<Option<Seal<V>>, AllocError>
+    ensures { IfOk result (λ copy. copy ≡ seal.now) }
+{
+    match seal {
+        Some(seal) => Ok(Some(seal.try_clone()?)),
+        None => Ok(None),
+    }
+}
+
+/// Whether there are seals, and they are the same. Then they are of the same entries.
+fn same_seal<V: Version>(one: &Option<Seal<V>>, other: &Option<Seal<V>>) -> bool
+    ensures { IsTrue result → (es fs : List (Text × V)) → IsSealOf V.numbers es one.now
+        → IsSealOf V.numbers fs other.now → es ≡ fs }
+{
+    match (one, other) {
+        (Some(one), Some(other)) => one.same(other),
+        _ => false,
+    }
+}
+
+/// Moves all changes over to the values, if no view has either. Then the seal comes off.
 fn absorb_alone<Kind: Copy, V: Version, I: Index<Kind, V>>(
     base: &mut Arc<Base<Kind, V, I>>,
+    seal: &mut Option<Seal<V>>,
     changes: &mut Arc<Changes<Kind, V>>,
     spare: &mut Spare,
 ) -> Result<(), AllocError>
@@ -344,9 +421,15 @@ fn absorb_alone<Kind: Copy, V: Version, I: Index<Kind, V>>(
     ensures ordered { AreInOrder (arc_value base.old) → AreInOrder (arc_value base.new) }
     ensures changes_ordered { AreInOrder (arc_value changes.old).entries
         → AreInOrder (arc_value changes.new).entries }
+    ensures sealed { IsSealOf V.numbers (arc_value base.old) seal.old
+        → IsSealOf V.numbers (arc_value base.new) seal.new }
 {
+    if changes.is_empty() {
+        return Ok(());
+    }
     if let Some(base) = Arc::get_mut(base) {
         if let Some(changes) = Arc::get_mut(changes) {
+            *seal = None;
             base.absorb(changes, spare)?;
         }
     }
@@ -398,32 +481,39 @@ fn keep_others<Kind: Copy, V: Version>(
 /// All values of a table, as they stood when they were shared.
 ///
 /// Contracts see the entries.
-pub struct Shared<Kind, V, I: Index<Kind, V>> {
+pub struct Shared<Kind, V: Version, I: Index<Kind, V>> {
     pub(crate) base: Arc<Base<Kind, V, I>>,
+    seal: Option<Seal<V>>,
     pub(crate) recent: Arc<Changes<Kind, V>>,
 }
 
-impl<Kind, V, I: Index<Kind, V>> Model for Shared<Kind, V, I> {
+impl<Kind, V: Version, I: Index<Kind, V>> Model for Shared<Kind, V, I> {
     ghost use Rattle.std.specs.Prelude.{List};
     ghost use Rattle.std.specs.Arc.{arc_value};
     ghost use Rattle.casa_filing.specs.Text.{Text};
     ghost use Rattle.casa_flight.specs.Good.{AreInOrder};
     ghost use Rattle.casa_table.specs.Laid.{with_changes};
+    ghost use Rattle.casa_table.specs.Sealed.{IsSealOf};
 
     ghost Value = { List (Text × V) };
 
     ghost view = { λ s. with_changes (arc_value s.recent).entries (arc_value s.base) };
 
-    ghost invariant = { λ s. AreInOrder (arc_value s.base) × AreInOrder (arc_value s.recent).entries };
+    ghost invariant = { λ s. AreInOrder (arc_value s.base) × AreInOrder (arc_value s.recent).entries
+        × IsSealOf V.numbers (arc_value s.base) s.seal };
 }
 
-impl<Kind, V: Drop, I: Index<Kind, V>> Drop for Shared<Kind, V, I> {
+impl<Kind, V: Version, I: Index<Kind, V>> Drop for Shared<Kind, V, I> {
     fn drop(self) {
-        let Shared { base: _, recent: _ } = self;
+        let Shared {
+            base: _,
+            seal: _,
+            recent: _,
+        } = self;
     }
 }
 
-impl<Kind, V, I: Index<Kind, V>> Shared<Kind, V, I> {
+impl<Kind, V: Version, I: Index<Kind, V>> Shared<Kind, V, I> {
     /// The value under a name.
     pub fn get(&self, name: &Name<Kind>) -> Option<&V>
         ensures value { option_copied result ≡ at_name self.now name.now }

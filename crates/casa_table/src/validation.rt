@@ -6,7 +6,7 @@ ghost use Rattle.casa_filing.specs.Text.{Text, at_name};
 ghost use Rattle.casa_table.specs.Same.{same_version};
 
 use crate::index::Index;
-use crate::table::{Shared, Table, Values};
+use crate::table::{Shared, Sides, Table, Values};
 use casa_flight::Name;
 use casa_item::Version;
 use casa_named::Few;
@@ -85,10 +85,23 @@ fn same_values<Kind, V: Version>(ours: &Values<Kind, V>, theirs: &Values<Kind, V
     others.next().is_none()
 }
 
+/// Whether both bases have the same versions under the same names, which is known already where they are alike.
+fn same_base<Kind, V: Version>(sides: &Sides<'_, Kind, V>) -> bool
+    requires { IsTrue sides.now.alike → sides.now.ours.now.entries ≡ sides.now.theirs.now.entries }
+    ensures same { IsTrue result → (q : Text) →
+        same_version V.is_same (at_name sides.now.ours.now.entries q)
+        (at_name sides.now.theirs.now.entries q) ≡ true }
+    ensures shows { IsTrue result → (q : Text) →
+        option_map V.item_of (at_name sides.now.ours.now.entries q)
+        ≡ option_map V.item_of (at_name sides.now.theirs.now.entries q) }
+{
+    sides.alike || same_values(sides.ours, sides.theirs)
+}
+
 /// Whether all shared versions are the present ones, and no other name has one.
 ///
-/// Mostly both have the same base, or the same versions in two: then these are compared side by side, and only the names
-/// that have changed are looked up.
+/// Mostly both have the same base, which seals tell at once, or the same versions in two: then these are compared side by
+/// side, and only the names that have changed are looked up.
 pub fn same_all<Kind: Copy, V: Version, I: Index<Kind, V>>(
     table: &Table<Kind, V, I>,
     shared: &Shared<Kind, V, I>,
@@ -99,15 +112,16 @@ pub fn same_all<Kind: Copy, V: Version, I: Index<Kind, V>>(
         option_map V.item_of (at_name table.now.entries q)
         ≡ option_map V.item_of (at_name shared.now q) }
 {
-    let (ours, our_changes) = table.layers();
-    let (theirs, their_changes) = shared.layers();
-    if !same_under(table, shared, our_changes) || !same_under(table, shared, their_changes) {
+    let sides = table.sides(shared);
+    if !same_under(table, shared, sides.our_changes)
+        || !same_under(table, shared, sides.their_changes)
+    {
         return false;
     }
-    if same_values(ours, theirs) {
+    if same_base(&sides) {
         return true;
     }
-    same_under(table, shared, ours) && same_under(table, shared, theirs)
+    same_under(table, shared, sides.ours) && same_under(table, shared, sides.theirs)
 }
 
 /// Whether the versions under these names are the present ones, where none stands for a name that has none.

@@ -7,6 +7,7 @@ use crate::change::Change;
 use crate::contents::{clock_in, list_in, regulations_in, shared_list_in};
 use crate::current::same_items;
 use crate::items::Items;
+use crate::read_set::may_read_all;
 use crate::staging::fit;
 use crate::view::View;
 use casa_commit::World;
@@ -179,8 +180,12 @@ impl<K: Store> World for Board<K> {
         same_items(&self.items, view)
     }
 
-    fn consolidate(&mut self) -> Result<(), AllocError> {
-        self.items.consolidate()
+    fn consolidate(&mut self, call: &Call) -> Result<(), AllocError> {
+        self.items.consolidate()?;
+        if may_read_all(call) {
+            self.items.seal(&mut self.store)?;
+        }
+        Ok(())
     }
 
     fn fits(&mut self, position: usize, change: &Change) -> Result<(), AllocError> {

@@ -27,6 +27,14 @@ use std::alloc::{AllocError, Global};
 /// Versions of some names that a view reads, or that there is none.
 type Noted<Kind, V> = Few<Kind, Option<V>>;
 
+/// Whether a view for the call may be one of all items.
+pub(crate) fn may_read_all(call: &Call) -> bool {
+    matches!(
+        call,
+        Call::OpenReg(_, _, _) | Call::CloseReg(_) | Call::Tick(_) | Call::Rates(_, _)
+    )
+}
+
 /// The version once more, if it is wanted.
 fn version_if<V: Version>(version: &V, wanted: bool) -> Result<Option<V>, AllocError>
     ensures { IfOk result (λ copy. copy ≡ (if wanted then Some version.now else None)) }

@@ -173,6 +173,15 @@ impl<V: Version> Items<V> {
         self.lists.consolidate(&mut self.spare)
     }
 
+    /// Seals the rows and the lists, so that views of all items that are taken now are told by their seals, and no item is
+    /// compared. `AllocError` where there is no memory for it.
+    pub(crate) fn seal<K: Store<Version = V>>(&mut self, store: &mut K) -> Result<(), AllocError>
+        ensures { versions self.new ≡ versions self.old }
+    {
+        self.rows.seal(store)?;
+        self.lists.seal(store)
+    }
+
     /// Adopts the versions that were made ready. It takes no memory, and no longer for many items than for one.
     pub(crate) fn adopt(&mut self)
         ensures { versions self.new ≡ next_versions self.old }

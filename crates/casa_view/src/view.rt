@@ -7,7 +7,7 @@ use casa_time::Moment;
 
 /// Versions of all names, or of some.
 #[derive(Drop)]
-pub enum Part<Kind, V, I: Index<Kind, V>> {
+pub enum Part<Kind, V: Version, I: Index<Kind, V>> {
     /// The versions of all names that have one: any other name has none.
     All(Shared<Kind, V, I>),
     /// The versions of some names, and which of these have none.
@@ -33,7 +33,7 @@ impl<V: Version> Drop for View<V> {
     }
 }
 
-impl<Kind, V, I: Index<Kind, V>> Part<Kind, V, I> {
+impl<Kind, V: Version, I: Index<Kind, V>> Part<Kind, V, I> {
     ghost use Rattle.std.specs.Prelude.{◌≡◌};
     ghost use Rattle.std.specs.Option.{option_copied, option_flatten};
     ghost use Rattle.casa_view.specs.View.{seen_in};

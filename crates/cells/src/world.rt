@@ -90,7 +90,7 @@ impl World for Cells {
         self.cells[view.from] == view.cell
     }
 
-    fn consolidate(&mut self) -> Result<(), AllocError> {
+    fn consolidate(&mut self, _call: &Copying) -> Result<(), AllocError> {
         Ok(())
     }
 

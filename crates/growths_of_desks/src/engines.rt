@@ -1,6 +1,7 @@
 //! What desks do at an engine.
 
 ghost use Rattle.std.specs.Prelude.{◌≡◌};
+ghost use Rattle.std.specs.Arc.{arc_value};
 ghost use Rattle.casa_engine.specs.Ledgers.{IsBlankOf};
 
 use crate::answers::{Seen, call, made};
@@ -10,7 +11,7 @@ use casa_desk::Desk;
 use casa_engine::{Audit, DeskPass, Engine, EngineDesk, blank};
 use casa_flight::{Call, Reply};
 use casa_history::{History, Holds, Settled, Torn};
-use casa_shelf::{Shelf, Shelving};
+use casa_shelf::{Seals, Shelf, Shelving};
 use casa_view::{Copies, Item, Store};
 use growths_of_sessions::try_session;
 use std::alloc::Global;
@@ -251,19 +252,21 @@ fn on_store<K: Store, L: Ledger, R: Threads + Wait + Sync, I: Read>(
     told_end(seen, &history, desks, settled, again.get())
 }
 
-/// The same over the shelf that is this vector.
+/// The same over the shelf of these vectors.
 fn on_shelf<V: Shelving, L: Ledger, R: Threads + Wait + Sync, I: Read>(
     rt: &R,
     alloc: Global,
     items: &boxcar::Vec<Arc<Item>>,
+    seals: Arc<Seals>,
     blank: Blank,
     reader: &mut I,
     plan: Plan<'_>,
 ) -> Result<Seen, Fault>
-    requires vector { items.now ≡ V.shelves }
+    requires items { items.now ≡ V.shelves }
+    requires seals { arc_value seals ≡ V.seals }
     requires ledger { IsBlankOf L.name L.parts blank.name blank.parts }
 {
-    let shelf: Shelf<V, R> = Shelf::new(items, rt);
+    let shelf: Shelf<V, R> = Shelf::new(items, seals, rt);
     on_store::<Shelf<V, R>, L, R, I>(rt, alloc, shelf, blank, reader, plan)
 }
 
@@ -287,7 +290,13 @@ fn over_shelf<R: Threads + Wait + Sync, I: Read>(
     let Ok(items) = boxcar::Vec::new(alloc) else {
         return Err(Fault::NoSetUp);
     };
-    on_shelf::<Brand, Brand, R, I>(rt, alloc, &items, blank(), reader, plan)
+    let Ok(none) = boxcar::Vec::new(alloc) else {
+        return Err(Fault::NoSetUp);
+    };
+    let Ok(seals) = Arc::new(alloc, none) else {
+        return Err(Fault::NoSetUp);
+    };
+    on_shelf::<Brand, Brand, R, I>(rt, alloc, &items, seals, blank(), reader, plan)
 }
 
 /// What comes of a deed on a new engine.

@@ -1,4 +1,5 @@
+use Rattle.std.specs.Arc.{arc_value}
 use Rattle.casa_board_tests.proofs.played.comes_to.Given as goal
 
 abbrev pub ghosts-told : goal.ghosts-told
-ghosts-told g a = record { shelves = a.items.now }
+ghosts-told g a = record { shelves = a.items.now; seals = arc_value a.seals }

@@ -1,7 +1,8 @@
+use Rattle.std.specs.Arc.{arc_value}
 use Rattle.growths_of_desks.proofs.engines.over_shelf.Given as goal
 
 abbrev pub ghosts-on_shelf-V-Shelving : goal.ghosts-on_shelf-V-Shelving
-ghosts-on_shelf-V-Shelving g a = record { shelves = a.items.now }
+ghosts-on_shelf-V-Shelving g a = record { shelves = a.items.now; seals = arc_value a.seals }
 
 abbrev pub ghosts-on_shelf-L-Ledger : goal.ghosts-on_shelf-L-Ledger
 ghosts-on_shelf-L-Ledger g a = record { name = a.blank.name; parts = a.blank.parts }
