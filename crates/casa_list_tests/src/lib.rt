@@ -14,6 +14,4 @@ mod named;
 #[cfg(test)]
 mod parts;
 #[cfg(test)]
-mod shared;
-#[cfg(test)]
 mod swaps;

@@ -144,7 +144,7 @@ pub fn ten_slots(rt: &impl Abort, alloc: Global, steps: &[Step]) -> SlotList {
 }
 
 /// Ten slots with three flights.
-pub fn three_flights(rt: &impl Abort, alloc: Global) -> SlotList {
+fn three_flights(rt: &impl Abort, alloc: Global) -> SlotList {
     ten_slots(rt, alloc, THREE_FLIGHTS)
 }
 

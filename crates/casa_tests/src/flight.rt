@@ -1,9 +1,8 @@
-//! Names, plans, subjects, refusals and copies.
+//! Names, plans, subjects and refusals.
 
-use crate::parts::{equal, equal_at, key, loc, moment, over, period, profile, reg};
+use crate::parts::{equal, equal_at, key, loc, moment, over, reg};
 use casa_flight::{
-    Answer, Call, Crossing, Key, Kind, ListReply, ListRow, Loc, Measure, Message, Messages, Plan,
-    PlanFault, Refusal, RegId, Regulation, Reply, Row, Rows, Sts, subject,
+    Crossing, Key, Loc, Plan, PlanFault, Refusal, RegId, Regulation, Row, Sts, subject,
 };
 use std::alloc::Global;
 use std::process::Abort;
@@ -146,76 +145,4 @@ fn refusals_have_a_code_and_a_name(rt: HostRuntime) {
     ] {
         equal(&rt, &(refusal.code(), refusal.name()), &(code, name));
     }
-}
-
-#[test]
-fn a_copied_call_is_the_same(rt: HostRuntime) {
-    let via = [over(&rt, b"LA", 36010)];
-    let eobt = moment(&rt, 30000);
-    let plan = Plan::new(rt.alloc(), b"A", eobt, 600, &via, Sts::Plain).expect(&rt, "a plan");
-    let call = Call::File(plan);
-    let copy = call.try_clone().expect(&rt, "memory");
-    assert!(&rt; copy == call && copy != Call::Tick(eobt));
-}
-
-#[test]
-fn a_copied_measure_has_the_same_profile(rt: HostRuntime) {
-    let measure = Measure {
-        loc: loc(&rt, b"LA"),
-        profile: profile(&rt, rt.alloc(), &[period(&rt, 36000, 37200, 30)]),
-    };
-    assert!(&rt; measure.clone().expect(&rt, "memory").profile == measure.profile);
-}
-
-/// A list with one flight.
-fn list_reply(rt: &impl Abort, alloc: Global) -> ListReply {
-    let row = ListRow {
-        key: key(rt, b"A"),
-        eto: moment(rt, 36000),
-        cto: 36000,
-        kind: Kind::Pre,
-        slot: Some(0),
-    };
-    ListReply {
-        reg: reg(rt, b"R1"),
-        loc: loc(rt, b"LA"),
-        start: moment(rt, 36000),
-        end: moment(rt, 37200),
-        slots: 10,
-        rows: Rows::from_vec(vec![in alloc; row].expect(rt, "memory")).expect(rt, "memory"),
-    }
-}
-
-/// One message.
-fn messages(rt: &impl Abort, alloc: Global) -> Messages {
-    let all = vec![in alloc; Message::Slc(key(rt, b"A"))].expect(rt, "memory");
-    Messages::from_vec(all).expect(rt, "memory")
-}
-
-/// The reply with that list and that message.
-fn listed(rt: &impl Abort, alloc: Global) -> Reply {
-    Reply::Answered(Answer::List(list_reply(rt, alloc)), messages(rt, alloc))
-}
-
-/// A copy of a reply equals it.
-fn check_copy_of_reply(rt: &impl Abort, reply: &Reply) {
-    assert!(rt; reply.try_clone().expect(rt, "memory") == *reply);
-}
-
-/// How many rows and messages a reply has, which tells a list.
-fn counts(reply: &Reply) -> Option<(usize, usize)> {
-    match reply {
-        Reply::Answered(Answer::List(list), messages) => {
-            Some((list.rows.as_slice().len(), messages.as_slice().len()))
-        }
-        _ => None,
-    }
-}
-
-#[test]
-fn a_copied_reply_equals_its_source(rt: HostRuntime) {
-    let reply = listed(&rt, rt.alloc());
-    assert!(&rt; counts(&reply) == Some((1, 1)));
-    check_copy_of_reply(&rt, &reply);
-    assert!(&rt; reply != Reply::Refused(Refusal::Late));
 }

@@ -118,12 +118,3 @@ fn each_fault_has_its_name(rt: HostRuntime) {
         "BadRate: a rate is above 600 flights per hour",
     );
 }
-
-#[test]
-fn copies_have_the_same_profile(rt: HostRuntime) {
-    let periods = [period(&rt, 0, 60, 600), period(&rt, 60, 120, 0)];
-    let profile = profile(&rt, rt.alloc(), &periods);
-    let grid = Grid::of(rt.alloc(), &profile).expect(&rt, "memory");
-    assert!(&rt; grid.len() == 10 && *grid.profile() == profile);
-    assert!(&rt; profile.clone().expect(&rt, "memory") == profile);
-}
