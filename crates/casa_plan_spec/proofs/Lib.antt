@@ -25,3 +25,4 @@ pub mod Freed
 pub mod Closes
 pub mod Newcomers
 pub mod ListOver
+pub mod Decided

@@ -8,7 +8,7 @@ mod opening_laws;
 mod regulation_laws;
 
 pub use flight_laws::{best_offer_is_the_choice, flight_calls_are_answered};
-pub use laws::nothing_is_said;
+pub use laws::{nothing_is_said, reads_decide_replies};
 pub use opening_laws::{
     close_is_planned, list_has_each_flight_over, newcomers_are_among_all, open_is_planned,
 };
