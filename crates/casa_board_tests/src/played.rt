@@ -7,7 +7,7 @@ use crate::lines::call_of;
 use casa_flight::{Call, Reply};
 use casa_history::{Entry, History, Receipt, SharedEntry};
 use casa_shelf::{Seals, Shelf, Shelving};
-use casa_view::{Copies, Item, Store};
+use casa_view::{Copies, Store};
 use casa_wire::reply_line;
 use casa_world::{Event, play};
 use std::alloc::Global;
@@ -16,7 +16,7 @@ use std::process::Abort;
 use std::sync::{Arc, Wait};
 
 /// The event whose call a command line is.
-fn called(rt: &impl Abort, alloc: Global, event: &Event<&str>) -> Event<Call> {
+pub fn called(rt: &impl Abort, alloc: Global, event: &Event<&str>) -> Event<Call> {
     match event {
         Event::Read(worker, line) => Event::Read(*worker, call_of(rt, alloc, line)),
         Event::Compute(worker) => Event::Compute(*worker),
@@ -79,31 +79,28 @@ fn push_end<K: Store>(
     push_history(rt, alloc, told, run.history());
 }
 
-/// What the events come to over copies, and over the shelf of these vectors: after each commit the worker's outcome, and
+/// What the events come to over copies, and over this shelf: after each commit the worker's outcome, and
 /// at the end the clock and the history.
 fn told<V: Shelving, R: Abort + Wait>(
     rt: &R,
     alloc: Global,
-    items: &boxcar::Vec<Arc<Item>>,
-    seals: Arc<Seals>,
+    shelf: &Arc<Seals>,
     lines: &[Event<&str>],
 ) -> (String, String)
-    requires items { items.now ≡ V.shelves }
-    requires seals { arc_value seals ≡ V.seals }
+    requires shelf { arc_value shelf.now ≡ V.shelves }
 {
     let (mut copied, mut shelved) = (String::new(alloc), String::new(alloc));
     let mut events = Vec::new(alloc);
     for line in lines {
         events.push(called(rt, alloc, line)).expect(rt, "memory");
         if let Event::Commit(worker) = line {
-            let again = Arc::try_clone(&seals).expect(rt, "memory");
-            let shelf: Shelf<V, R> = Shelf::new(items, again, rt);
+            let store: Shelf<V, R> = Shelf::new(shelf, rt);
             let events = events.as_slice();
             push_outcome(rt, alloc, &mut copied, Copies::new(), events, *worker);
-            push_outcome(rt, alloc, &mut shelved, shelf, events, *worker);
+            push_outcome(rt, alloc, &mut shelved, store, events, *worker);
         }
     }
-    let shelf: Shelf<V, R> = Shelf::new(items, seals, rt);
+    let shelf: Shelf<V, R> = Shelf::new(shelf, rt);
     push_end(rt, alloc, &mut copied, Copies::new(), events.as_slice());
     push_end(rt, alloc, &mut shelved, shelf, events.as_slice());
     (copied, shelved)
@@ -111,10 +108,9 @@ fn told<V: Shelving, R: Abort + Wait>(
 
 /// These events come to this over both stores.
 pub fn comes_to<R: Abort + Wait>(rt: &R, alloc: Global, lines: &[Event<&str>], wanted: &str) {
-    let items = boxcar::Vec::new(alloc).expect(rt, "memory");
     let none = boxcar::Vec::new(alloc).expect(rt, "memory");
-    let seals = Arc::new(alloc, none).expect(rt, "memory");
-    let (copied, shelved) = told::<Brand, R>(rt, alloc, &items, seals, lines);
+    let shelf = Arc::new(alloc, none).expect(rt, "memory");
+    let (copied, shelved) = told::<Brand, R>(rt, alloc, &shelf, lines);
     assert_eq!(rt; copied.as_str(), wanted);
     assert_eq!(rt; shelved.as_str(), wanted);
 }

@@ -19,7 +19,7 @@ use crate::member::Member;
 use crate::order::{forced_entry, free_flight, index_of, put_forced, take_forced};
 use crate::stances::Stances;
 use crate::standing::Times;
-use casa_flight::{Comp, Key, Stance};
+use casa_flight::{Assigned, Comp, Key, Stance};
 use casa_grid::{Grid, Place};
 use casa_slots::{
     Blocked, SharedGrid, Standing, block, copied, counted, cto_at, place_behind, place_from,
@@ -481,6 +481,17 @@ impl SlotList {
             return self.governed.nth(n);
         }
         forced_entry(self.forced.as_slice(), n - governed)
+    }
+
+    /// Competitor number `n`, in their order, with its place; `None` from the number of competitors on.
+    pub fn competitor(&self, n: usize) -> Option<Assigned>
+        ensures { result ≡ slice_get (places self.now) n }
+    {
+        let seat = self.governed.competitors().get(n)?;
+        Some(Assigned {
+            comp: *seat.comp(),
+            place: seat.place(),
+        })
     }
 
     /// Gives the list the slots of this grid. Competitors are placed anew; issued flights keep their times.

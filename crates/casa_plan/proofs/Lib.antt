@@ -6,3 +6,4 @@ pub mod Closed
 pub mod Answered
 pub mod Members
 pub mod Rows
+pub mod Served

@@ -5,10 +5,8 @@ use Rattle.casa_flight.specs.declared.reply.Reply.{Reply}
 use Rattle.casa_flight.specs.declared.state.State.{State}
 use Rattle.casa_flight.specs.State.{empty}
 use Rattle.casa_flight.specs.Good.{IsGood}
-use Rattle.casa_flight.specs.Listing.{competitors, occupancy}
 use Rattle.casa_flight.specs.Replies.{reply}
 use Rattle.casa_flight.specs.Steps.{next}
-use Rattle.casa_laws.proofs.Assignment.{assignment_right, comps-assignment}
 use Rattle.casa_laws.proofs.Good.{empty_good}
 use Rattle.casa_laws.proofs.GoodRegs.{next-good}
 use Rattle.casa_history.specs.declared.entry.Entry.{Entry}
@@ -91,6 +89,5 @@ stands es s is well = record {
   good = well.good;
   catalogue_is = sym well.catalogue_is;
   lists = λ id. sym (well.list_is id);
-  served = λ id l found. (assignment_right (occupancy l) (competitors l), comps-assignment (occupancy l) (competitors l));
   stamps = λ i. ap (λ (x : BoardState). x.stamp i) is ∙ stamp_replayed es i;
 }

@@ -12,6 +12,7 @@ mod one_flight;
 mod opening;
 mod planning;
 mod rates;
+mod recalling;
 mod replies;
 mod rooms;
 mod shown;
@@ -22,4 +23,5 @@ mod write;
 
 pub use laws::views_show_what_is_read;
 pub use planning::{Direct, plan};
-pub use rooms::board_of;
+pub use recalling::Recalling;
+pub use rooms::{board_of, competitor_of};

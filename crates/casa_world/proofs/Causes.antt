@@ -13,7 +13,7 @@ use Rattle.casa_world.specs.declared.event.Event.TheVariants.{Read, Compute, Com
 use Rattle.casa_world.specs.declared.event.Outcome.{Outcome}
 use Rattle.casa_world.specs.declared.event.Outcome.TheVariants.{Accepted, Refused}
 use Rattle.casa_world.specs.Scenes.{Hand, nothing, view, answer, Worker, Scene, most_workers, opening_scene, with_worker, with_hand, read, compute, worker_after, accepted_scene, refused_scene, Commits, Happens, Leads}
-use Rattle.casa_world.specs.Causes.{CommitsIn, AreCommitted, AreAtTheirPositions, HaveCauses}
+use Rattle.casa_world.specs.Causes.{CommitsIn, AreCommitted, AreAtTheirPositions, IsRefusedIn, AreOfRefusals}
 use Rattle.casa_world.proofs.Workers.{worker_same, worker_other}
 use Rattle.casa_world.proofs.Happening.{leads_push}
 use Rattle.casa_world.proofs.Seats.{at_push}
@@ -134,44 +134,70 @@ module _ {C R : Type 0} (reply : List (Entry C R) → C → R) (IsUnmoved : List
     holds = holds;
   }
 
-  -- the cause of a worker's refusal
-  abbrev Cause : List (Event C) → ℕ → Type 0
-  Cause es w =
-      (c : C) × (before : List (Entry C R)) × (m : Scene C R) × CommitsIn reply IsUnmoved es w c before m
-      × (¬ (IsUnmoved before c m.history))
+  -- a commit of a worker that was refused
+  abbrev Refusal : List (Event C) → ℕ → Type 0
+  Refusal es w = (c : C) × (before : List (Entry C R)) × (m : Scene C R) × IsRefusedIn reply IsUnmoved es w c before m
 
-  abbrev Caused : List (Event C) → Scene C R → Type 0
-  Caused es n = HaveCauses reply IsUnmoved es (outcome_in n)
+  abbrev OfRefusals : List (Event C) → Scene C R → Type 0
+  OfRefusals es n = AreOfRefusals reply IsUnmoved es (outcome_in n)
 
-  cause_kept : (es : List (Event C)) (e : Event C) (w : ℕ) → Cause es w → Cause (es ++ e ∷ []) w
-  cause_kept es e w h = (h.0, h.1, h.2, commit_kept es e w h.0 h.1 h.2 h.3, h.4)
+  refusal_kept : (es : List (Event C)) (e : Event C) (w : ℕ) → Refusal es w → Refusal (es ++ e ∷ []) w
+  refusal_kept es e w (c, before, m, is) =
+      (c, before, m, record { commit = commit_kept es e w c before m is.commit; next = is.next; happens = is.happens; told = is.told })
 
-  caused_step : (es : List (Event C)) (e : Event C) (m n : Scene C R) → LeadsTo es m → Caused es m → Happens reply IsUnmoved e m n
-      → Caused (es ++ e ∷ []) n
-  caused_step es e m n leads all happens v was =
+  refusal_step : (es : List (Event C)) (e : Event C) (m n : Scene C R) → LeadsTo es m → OfRefusals es m → Happens reply IsUnmoved e m n
+      → OfRefusals (es ++ e ∷ []) n
+  refusal_step es e m n leads all happens v was =
       elim (decides e m n happens) [
-        | inl quiet ↦ cause_kept es e v (all v (sym (quiet.1 v) ∙ was))
+        | inl quiet ↦ refusal_kept es e v (all v (sym (quiet.1 v) ∙ was))
         | inr (w, c, before, is, holds, inl stays) ↦
             let longer : Scene C R = record m { history = m.history ++ entry w c (reply before c) ∷ [] } in
             let here : outcome_in n v ≡ outcome_in (accepted_scene reply w c before m) v =
             ap (λ (x : Scene C R). outcome_in x v) stays.1 in
             elim (told_or_kept w v (Accepted (length m.history + 1)) longer) [
               | inl now ↦ let bad : Some (Accepted (length m.history + 1)) ≡ Some Refused = sym now.1 ∙ sym here ∙ was in absurd (cc)
-              | inr kept ↦ cause_kept es e v (all v (sym kept.1 ∙ sym here ∙ was))
+              | inr kept ↦ refusal_kept es e v (all v (sym kept.1 ∙ sym here ∙ was))
             ]
         | inr (w, c, before, is, holds, inr moved) ↦
             let here : outcome_in n v ≡ outcome_in (refused_scene w m) v = ap (λ (x : Scene C R). outcome_in x v) moved.1 in
             elim (told_or_kept w v Refused m) [
               | inl now ↦
-                  subst (λ (k : ℕ). Cause (es ++ e ∷ []) k) (sym now.0)
-                  (c, before, m, commit_last es e w c before m leads is holds, moved.0)
-              | inr kept ↦ cause_kept es e v (all v (sym kept.1 ∙ sym here ∙ was))
+                  subst (λ (k : ℕ). Refusal (es ++ e ∷ []) k) (sym now.0) (
+                    c,
+                    before,
+                    m,
+                    record {
+                      commit = commit_last es e w c before m leads is holds;
+                      next = n;
+                      happens = subst (λ (x : Event C). Happens reply IsUnmoved x m n) is happens;
+                      told = subst (λ (k : ℕ). outcome_in n k ≡ Some Refused) now.0 was;
+                    },
+                  )
+              | inr kept ↦ refusal_kept es e v (all v (sym kept.1 ∙ sym here ∙ was))
             ]
       ]
 
-  pub have_causes : (es : List (Event C)) (n : Scene C R) → LeadsTo es n → HaveCauses reply IsUnmoved es (outcome_in n)
-  have_causes es n leads =
-      leads_all Caused caused_step [] es opening_scene n refl (λ w was. absurd (cc)) leads
+  pub are_of_refusals : (es : List (Event C)) (n : Scene C R) → LeadsTo es n → AreOfRefusals reply IsUnmoved es (outcome_in n)
+  are_of_refusals es n leads =
+      leads_all OfRefusals refusal_step [] es opening_scene n refl (λ w was. absurd (cc)) leads
+
+  -- what is told Refused was not unmoved
+  refused_moved : (w : ℕ) (c : C) (before : List (Entry C R)) (m n : Scene C R)
+      → Commits reply IsUnmoved w (answer c before) m n → outcome_in n w ≡ Some Refused → ¬ (IsUnmoved before c m.history)
+  refused_moved w c before m n (inl stays) told =
+      let longer : Scene C R = record m { history = m.history ++ entry w c (reply before c) ∷ [] } in
+      let here : outcome_in n w ≡ Some (Accepted (length m.history + 1)) =
+      ap (λ (x : Scene C R). outcome_in x w) stays.1
+      ∙ ap (λ (y : Worker C R). y.outcome) (worker_same w (worker_after (Accepted (length m.history + 1))) longer) in
+      let bad : Some (Accepted (length m.history + 1)) ≡ Some Refused = sym here ∙ told in
+      absurd (cc)
+  refused_moved w c before m n (inr moved) told = moved.0
+
+  pub refusal_moved : (es : List (Event C)) (w : ℕ) (c : C) (before : List (Entry C R)) (m : Scene C R)
+      → IsRefusedIn reply IsUnmoved es w c before m → ¬ (IsUnmoved before c m.history)
+  refusal_moved es w c before m is =
+      refused_moved w c before m is.next
+      (subst (λ (h : Hand C R). Commits reply IsUnmoved w h m is.next) is.commit.holds is.happens) is.told
 
   abbrev Committed : List (Event C) → Scene C R → Type 0
   Committed es n = AreCommitted reply IsUnmoved es n.history

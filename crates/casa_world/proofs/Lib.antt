@@ -6,3 +6,4 @@ pub mod Seats
 pub mod Past
 pub mod One
 pub mod Causes
+pub mod OneThread

@@ -11,7 +11,8 @@ use Rattle.casa_world.specs.declared.desk.Held.{Held}
 use Rattle.casa_world.specs.declared.desk.Held.TheVariants.{Nothing, View, Answer}
 use Rattle.casa_world.specs.declared.desk.Desk.{Desk}
 use Rattle.casa_world.specs.Scenes.{Hand, nothing, view, answer, Worker, Scene, opening_scene}
-use Rattle.casa_world.specs.Desks.{Holds, IsWorker, IsScene, AreSeated, IsForHeld, IsOfHeld, AreFresh, outcome_of, outcome_at}
+use Rattle.casa_world.specs.Desks.{Holds, IsWorker, IsScene, AreSeated, IsForHeld, IsOfHeld, AreFresh}
+use Rattle.casa_world.specs.Runs.{outcome_of, outcome_at}
 
 -- what stands in a list of which one element was changed
 pub at_set : {X : Type 0} → (xs : List X) (i : ℕ) (y : X) (k : ℕ) (x : X) → slice_get (set xs i y) k ≡ Some x

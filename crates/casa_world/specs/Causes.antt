@@ -1,11 +1,11 @@
--- to believe: by which commits the entries of a history stand there
+-- to believe: by which commits the entries of a history stand there, and which commits were refused
 use Rattle.std.specs.Prelude.{◌≡◌, ℕ, ◌+◌, Option, Some, List, take, slice_get}
 use Rattle.casa_history.specs.declared.entry.Entry.{Entry}
 use Rattle.casa_world.specs.declared.event.Event.{Event}
 use Rattle.casa_world.specs.declared.event.Event.TheVariants.{Commit}
 use Rattle.casa_world.specs.declared.event.Outcome.{Outcome}
 use Rattle.casa_world.specs.declared.event.Outcome.TheVariants.{Accepted, Refused}
-use Rattle.casa_world.specs.Scenes.{Scene, answer, opening_scene, Leads}
+use Rattle.casa_world.specs.Scenes.{Scene, answer, opening_scene, Happens, Leads}
 
 -- where a worker's last commit was accepted at a position, the entry there is this worker's
 abbrev pub AreAtTheirPositions : {C R : Type 0} → List (Entry C R) → (ℕ → Option Outcome) → Type 0
@@ -30,9 +30,15 @@ module _ {C R : Type 0} (reply : List (Entry C R) → C → R) (IsUnmoved : List
       (before : List (Entry C R)) × (m : Scene C R) × CommitsIn events e.desk e.call before m × (m.history ≡ take k history)
       × IsUnmoved before e.call m.history × (e.reply ≡ reply before e.call)
 
-  -- where a worker's last commit was refused, not all that it had read had the same stamps then
-  abbrev pub HaveCauses : List (Event C) → (ℕ → Option Outcome) → Type 0
-  HaveCauses events outcomes =
+  -- one of the events is such a commit, and its worker is told that it is refused
+  pub record IsRefusedIn (events : List (Event C)) (w : ℕ) (call : C) (before : List (Entry C R)) (m : Scene C R) : Type 0 where
+    pub commit : CommitsIn events w call before m
+    pub next : Scene C R
+    pub happens : Happens reply IsUnmoved (Commit w) m next
+    pub told : (next.workers w).outcome ≡ Some Refused
+
+  -- where a worker's last commit was refused, one of the events is a commit of this worker that is refused
+  abbrev pub AreOfRefusals : List (Event C) → (ℕ → Option Outcome) → Type 0
+  AreOfRefusals events outcomes =
       (w : ℕ) → outcomes w ≡ Some Refused →
-      (call : C) × (before : List (Entry C R)) × (m : Scene C R) × CommitsIn events w call before m
-      × (¬ (IsUnmoved before call m.history))
+      (call : C) × (before : List (Entry C R)) × (m : Scene C R) × IsRefusedIn events w call before m

@@ -1,5 +1,5 @@
--- to believe, in part (outcome_of, outcome_at): what a desk holds, and the worker for which it stands
-use Rattle.std.specs.Prelude.{◌≡◌, ◌⊎◌, ℕ, ◌+◌, ◌≤◌, Option, Some, None, List, [], ◌∷◌, ◌++◌, length, slice_get}
+-- inner contracts: what a desk holds, and the worker for which it stands
+use Rattle.std.specs.Prelude.{◌≡◌, ◌⊎◌, ℕ, ◌+◌, ◌≤◌, Some, None, List, [], ◌∷◌, ◌++◌, length, slice_get}
 use Rattle.casa_world.specs.declared.event.Outcome.{Outcome}
 use Rattle.casa_world.specs.declared.event.Outcome.TheVariants.{Accepted, Refused}
 use Rattle.casa_history.specs.declared.entry.Entry.{Entry}
@@ -78,15 +78,6 @@ abbrev pub AreSeated : {C R V P : Type 0} → (Pass C R → Type 0) → (V → C
 AreSeated {C} {R} {V} {P} IsAdmitted IsFor IsOf ds =
     (w : ℕ) (d : Desk C R V P) → slice_get ds w ≡ Some d →
     (desk_of d.pass ≡ w) × IsAdmitted d.pass × IsForHeld IsFor d.held × IsOfHeld IsOf d.held
-
--- the outcome of the last commit at this desk, if there is a desk
-abbrev pub outcome_of : {C R V P : Type 0} → Option (Desk C R V P) → Option Outcome
-outcome_of None = None
-outcome_of (Some d) = d.outcome
-
--- the outcome of the last commit at a desk, if there is one
-abbrev pub outcome_at : {C R V P : Type 0} → List (Desk C R V P) → ℕ → Option Outcome
-outcome_at {C} {R} {V} {P} ds w = outcome_of (slice_get ds w)
 
 -- the desks are as they are opened
 abbrev pub AreFresh : {C R V P : Type 0} → ℕ → List (Desk C R V P) → Type 0

@@ -1,11 +1,20 @@
 -- to believe: what a run leaves: history, world, outcomes
-use Rattle.std.specs.Prelude.{ℕ, List, Option}
+use Rattle.std.specs.Prelude.{ℕ, List, Option, None, Some, slice_get}
 use Rattle.casa_history.specs.declared.entry.Entry.{Entry}
 use Rattle.casa_commit.specs.declared.world.World.{Ghosts as WorldOf}
 use Rattle.casa_commit.specs.Rooms.{world_of, entries_of}
+use Rattle.casa_world.specs.declared.desk.Desk.{Desk}
 use Rattle.casa_world.specs.declared.event.Outcome.{Outcome}
 use Rattle.casa_world.specs.declared.run.Run.{Run}
-use Rattle.casa_world.specs.Desks.{outcome_at}
+
+-- the outcome of the last commit at this desk, if there is a desk
+abbrev pub outcome_of : {C R V P : Type 0} → Option (Desk C R V P) → Option Outcome
+outcome_of None = None
+outcome_of (Some d) = d.outcome
+
+-- the outcome of the last commit at a desk, if there is one
+abbrev pub outcome_at : {C R V P : Type 0} → List (Desk C R V P) → ℕ → Option Outcome
+outcome_at {C} {R} {V} {P} ds w = outcome_of (slice_get ds w)
 
 module _ {W C V D R : Type 0} {world : WorldOf W C V D R} where
   -- the history of a run

@@ -26,7 +26,20 @@ use Rattle.casa_view.specs.BoardState.{BoardState, IsGoodBoard, board_state, ope
 use Rattle.casa_view.specs.GoodBoard.{opening_is_good, after_is_good}
 use Rattle.casa_view.specs.Applied.{contains}
 use Rattle.casa_plan.proofs.Replayed.{state_replayed, stamp_replayed}
-use Rattle.casa_world.specs.Board.{HasSameStamps, IsViewAfter, IsTied}
+use Rattle.casa_world.specs.Board.{HasSameStamps}
+
+-- a view shows what a call reads after a history, with the stamps, and has a version of a row only if that is there
+pub record IsViewAfter {V : Type 0} (item_of : V → Item) (stamp_of : V → ℕ) (history : List (Entry Call Reply)) (call : Call)
+    (v : View V) : Type 0 where
+  pub shows : IsViewOf item_of (state_after history) call v
+  pub stamped : (i : ItemName) (w : Option V) → seen v i ≡ Some w → option_map_or stamp_of w 0 ≡ stamp history i
+  pub rows_are_there : (key : Text) (w : V) → seen v (a_row key) ≡ Some (Some w) → IsSome (row_of (item_of w))
+
+-- where a stamp of a view is the present one, the version is too
+abbrev pub IsTied : {V : Type 0} → (V → V → Bool) → (V → ℕ) → Versions V → View V → Type 0
+IsTied {V} is_same stamp_of vs v =
+    (i : ItemName) (w : Option V) → seen v i ≡ Some w → option_map_or stamp_of w 0 ≡ stamp_at stamp_of vs i →
+    same_version is_same (version_at vs i) w ≡ true
 
 abbrev Entries : Type 0
 Entries = List (Entry Call Reply)

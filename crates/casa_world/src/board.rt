@@ -3,8 +3,8 @@
 ghost use Rattle.std.proofs.Common.{subst, sym};
 ghost use Rattle.casa_view.specs.Board.{versions};
 ghost use Rattle.casa_item.specs.Versions.{Versions};
-ghost use Rattle.casa_world.specs.Board.{HasSameStamps, IsViewAfter, IsTied};
-ghost use Rattle.casa_world.specs.Tied.{present_view, current_unmoved, applied_tied};
+ghost use Rattle.casa_world.specs.Board.{HasSameStamps};
+ghost use Rattle.casa_world.specs.Tied.{IsViewAfter, IsTied, present_view, current_unmoved, applied_tied};
 
 use crate::stamped::Stamped;
 use casa_view::{Board, Store};

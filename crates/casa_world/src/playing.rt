@@ -2,18 +2,18 @@
 
 ghost use Rattle.std.specs.Prelude.{◌≡◌, IfOk};
 ghost use Rattle.casa_history.specs.Entries.{entries};
-ghost use Rattle.casa_plan.specs.Rooms.{IsSequential, IsBoardAfter};
+ghost use Rattle.casa_footprint.specs.Stamps.{state_after};
+ghost use Rattle.casa_plan.specs.Rooms.{IsSequential, IsBoardAfter, IsServedAs};
 ghost use Rattle.casa_world.specs.Scenes.{IsRun};
-ghost use Rattle.casa_world.specs.Board.{sequential_reply, HasSameStamps, RefusalsHaveCauses};
-ghost use Rattle.casa_world.specs.Causes.{AreCommitted, AreAtTheirPositions};
+ghost use Rattle.casa_world.specs.Board.{sequential_reply, HasSameStamps};
 ghost use Rattle.casa_world.specs.Runs.{run_history, run_world, run_outcomes};
 
 use crate::event::{Event, Outcome};
 use crate::run::{Run, play_on};
 use casa_commit::World;
-use casa_flight::{Call, Reply};
+use casa_flight::{Assigned, Call, RegId, Reply};
 use casa_history::History;
-use casa_plan::board_of;
+use casa_plan::{board_of, competitor_of};
 use casa_view::{Board, Store};
 use std::alloc::{AllocError, Global};
 
@@ -36,6 +36,15 @@ impl<K: Store> Run<Board<K>> {
         board_of(&self.room)
     }
 
+    /// Number `n` of the flights that compete for the slots of a regulation after the history, in their order, with its
+    /// place: the slot that first planned, first served gives it around the issued flights, or that it is over. `None` from
+    /// the number of competitors on, and where the regulation is not open.
+    pub fn competitor(&self, id: &RegId, n: usize) -> Option<Assigned>
+        ensures { IsServedAs (state_after (run_history self.now)) id.now n result }
+    {
+        competitor_of(&self.room, id, n)
+    }
+
     /// The outcome of the worker's last commit; `None` where it made none.
     pub fn done_of(&self, worker: u32) -> Option<Outcome>
         ensures { result ≡ run_outcomes self.now worker }
@@ -49,6 +58,8 @@ impl<K: Store> Run<Board<K>> {
 
 /// Plays the events, one after the other, from the empty board over this store. Workers are numbered from 0 to 1,023; an
 /// event of another worker, or out of its place, changes nothing. `AllocError` where there is no memory for an event.
+///
+/// What every run is, the law `runs_are_of_one_thread` says, and why a commit is refused, `refused_commits_have_causes`.
 pub fn play<K: Store>(
     alloc: Global,
     store: K,
@@ -56,14 +67,8 @@ pub fn play<K: Store>(
 ) -> Result<Run<Board<K>>, AllocError>
     ensures run { IfOk result (λ run. IsRun sequential_reply HasSameStamps events.now
         (run_history run) (run_outcomes run)) }
-    ensures sequential { IfOk result (λ run. IsSequential (run_history run)) }
     ensures stands { IfOk result (λ run. IsBoardAfter (run_history run)
         (⟦<Board<K> as World>⟧.state (run_world run))) }
-    ensures committed { IfOk result (λ run. AreCommitted sequential_reply HasSameStamps events.now
-        (run_history run)) }
-    ensures accepted { IfOk result (λ run. AreAtTheirPositions (run_history run)
-        (run_outcomes run)) }
-    ensures refused { IfOk result (λ run. RefusalsHaveCauses events.now (run_outcomes run)) }
 {
     let board = Board::new(alloc, store)?;
     let played = play_on(alloc, board, events)?;

@@ -2,7 +2,7 @@ use Rattle.std.proofs.Common.{◌≡◌, List, length, sym, ap, subst, ◌∙◌
 use Rattle.casa_commit.specs.Rooms.{Admits, entries_of}
 use Rattle.casa_world.specs.declared.desk.Desk.{Desk}
 use Rattle.casa_world.specs.Scenes.{opening_scene}
-use Rattle.casa_world.specs.Desks.{outcome_at}
+use Rattle.casa_world.specs.Runs.{outcome_at}
 use Rattle.casa_world.specs.Rooms.{IsRoomView, IsRoomAnswer, IsRoomScene}
 use Rattle.casa_world.proofs.Seats.{scene_outcome, written_back}
 use Rattle.casa_world.proofs.run.play_on.Goals as goal

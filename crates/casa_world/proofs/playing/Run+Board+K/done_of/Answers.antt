@@ -1,7 +1,7 @@
 use Rattle.std.proofs.Common.{length, refl, sym, ap, ◌∙◌}
 use Rattle.std.specs.List.{slice_get}
 use Rattle.std.proofs.lemmas.Option.{slice_get_read, slice_get_past}
-use Rattle.casa_world.specs.Desks.{outcome_of}
+use Rattle.casa_world.specs.Runs.{outcome_of}
 use Rattle.casa_world.proofs.playing.Run+Board+K.done_of.Goals as goal
 
 pub returns-in-Some : goal.returns-in-Some
