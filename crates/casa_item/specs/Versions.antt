@@ -45,13 +45,14 @@ content_as the_catalogue v = regulations (option_map_or regulations_of v [])
 content_as (a_row key) v = row_or_none (option_and_then row_of v)
 content_as (a_list id) v = list_or_none (option_and_then list_of v)
 
--- an item's name, and what the item contains
+-- inner: an item's name, and what the item contains
 abbrev pub name_of : Item → ItemName
 name_of (Clock at) = the_clock
 name_of (Catalogue all) = the_catalogue
 name_of (RowOf key row) = a_row key
 name_of (ListOf id list) = a_list id
 
+-- inner: what the item contains, as under its name
 abbrev pub content_of : Item → Content
 content_of item = content_as (name_of item) (Some item)
 
@@ -74,7 +75,7 @@ pub record IsInOrder {V : Type 0} (vs : Versions V) : Type 0 where
   pub rows : AreInOrder vs.rows
   pub lists : AreInOrder vs.lists
 
--- rows and lists are in order, and a row has a version only while it is there
+-- inner: rows and lists are in order, and a row has a version only while it is there
 pub record IsOrderly {V : Type 0} (item_of : V → Item) (vs : Versions V) : Type 0 where
   pub in_order : IsInOrder vs
   pub rows_are_there : (key : Text) (v : V) → at_name vs.rows key ≡ Some v → IsSome (row_of (item_of v))

@@ -84,7 +84,11 @@ impl Copies {
 }
 
 impl Store for Copies {
+    ghost use Rattle.std.specs.Prelude.{false};
+
     type Version = Copied;
+
+    ghost makes_seals = { false };
 
     fn put(&mut self, position: usize, item: Arc<Item>) -> Result<Copied, AllocError> {
         Ok(Copied {

@@ -1,4 +1,4 @@
-ghost use Rattle.std.specs.Prelude.{◌≡◌, IfOk, IsTrue};
+ghost use Rattle.std.specs.Prelude.{◌≡◌, ◌↔◌, IfOk, IsTrue};
 ghost use Rattle.std.specs.Arc.{arc_value};
 ghost use Rattle.boxcar.specs.Table.{Shows};
 
@@ -15,7 +15,7 @@ pub type Seals = boxcar::Vec<Tag>;
 /// Tells what was sealed from all else that was: a position in the vector of seals that its versions name. Equal seals are
 /// of the same, so that what is sealed need not be compared.
 ///
-/// Contracts see the numbers that stand for what was sealed.
+/// Contracts see the position, and the numbers that stand for what was sealed.
 #[derive(Drop)]
 pub struct Seal<V: Version> {
     token: Pushed<Tag>,
@@ -28,9 +28,9 @@ impl<V: Version> Model for Seal<V> {
     ghost use Rattle.std.specs.Arc.{arc_value};
     ghost use Rattle.boxcar.specs.Table.{Shows};
 
-    ghost Value = { List ℕ };
+    ghost Value = { ℕ × List ℕ };
 
-    ghost view = { λ s. s.token.value.numbers };
+    ghost view = { λ s. (s.token.index, s.token.value.numbers) };
 
     ghost invariant = { λ s. Shows V.seals s.token × (arc_value s.seals ≡ V.seals) };
 }
@@ -40,7 +40,7 @@ impl<V: Version> Seal<V> {
     pub fn of(token: Pushed<Tag>, seals: Arc<Seals>) -> Seal<V>
         requires there { Shows V.seals token }
         requires named { arc_value seals ≡ V.seals }
-        ensures { result ≡ token.value.numbers }
+        ensures { result ≡ (token.index, token.value.numbers) }
     {
         Seal {
             token,
@@ -60,9 +60,9 @@ impl<V: Version> Seal<V> {
         })
     }
 
-    /// Whether the seals are the same. Then they are of the same.
+    /// Whether the seals are the same: of one position, and so of the same.
     pub fn same(&self, other: &Seal<V>) -> bool
-        ensures { IsTrue result → self.now ≡ other.now }
+        ensures { IsTrue result ↔ (self.now ≡ other.now) }
     {
         if self.token.index() != other.token.index() {
             return false;

@@ -1,4 +1,4 @@
-ghost use Rattle.std.specs.Prelude.{◌≡◌, ℕ, List, Bool, true, IfOk, IfSome, IsTrue};
+ghost use Rattle.std.specs.Prelude.{◌≡◌, ℕ, List, Bool, true, IfOk, IfSome, IsTrue, is_some};
 ghost use Rattle.std.specs.Arc.{arc_value};
 ghost use Rattle.boxcar.specs.Table.{Shelves};
 ghost use Rattle.casa_item.specs.declared.item.Item.{Item};
@@ -68,8 +68,12 @@ pub trait Store: Drop {
         ensures item { IfOk result (λ version. Self.Version.item_of version ≡ arc_value item) }
         ensures number { IfOk result (λ version. Self.Version.stamp_of version ≡ position) };
 
+    /// Whether the store makes seals.
+    ghost makes_seals: { Bool };
+
     /// Seals what these numbers stand for; `None` where the store makes no seals. `AllocError` where there is no memory for
     /// it.
     fn seal(&mut self, state: Tag) -> Result<Option<Seal<Self::Version>>, AllocError>
-        ensures { IfOk result (λ made. IfSome made (λ seal. seal ≡ state.numbers)) };
+        ensures made { IfOk result (λ made. is_some made ≡ makes_seals) }
+        ensures numbers { IfOk result (λ made. IfSome made (λ seal. seal.1 ≡ state.numbers)) };
 }

@@ -33,7 +33,7 @@ abbrev pub AreOf : {V : Type 0} → (V → Item) → List (Text × Row) → List
 AreOf {V} item_of rows found =
     AllByRecursion (λ (e : Text × (ℕ × V)). at_name rows e.0 ≡ row_of (item_of e.1.1)) found
 
--- each of these flights has a version of its row
+-- to believe: each of these flights has a version of its row
 abbrev pub HaveRows : {V : Type 0} → (V → Item) → List (Text × Row) → List (Comp × V) → Type 0
 HaveRows {V} item_of rows flights =
     AllByRecursion (λ (e : Comp × V). at_name rows e.0.key ≡ row_of (item_of e.1)) flights

@@ -12,14 +12,15 @@ use Rattle.casa_table.specs.Laid.{where_put}
 use Rattle.casa_table.specs.Waiting.{HaveWaiting}
 use Rattle.casa_table.specs.Passing.{HavePassings}
 
--- the rows of which these are the versions
+-- to believe: the rows of which these are the versions
 abbrev pub rows_of : {V : Type 0} → (V → Item) → List (Text × V) → List (Text × Row)
 rows_of {V} item_of entries = filter_map_values (λ (v : V). row_of (item_of v)) entries
 
--- the same, where an entry may also say that a row is absent
+-- to believe: the same, where an entry may also say that a row is absent
 abbrev pub row_named : {V : Type 0} → (V → Item) → Option V → Option Row
 row_named {V} item_of w = option_and_then (λ (v : V). row_of (item_of v)) w
 
+-- to believe: the same of several
 abbrev pub rows_named : {V : Type 0} → (V → Item) → List (Text × Option V) → List (Text × Row)
 rows_named item_of entries = filter_map_values (row_named item_of) entries
 

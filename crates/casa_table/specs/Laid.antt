@@ -1,5 +1,5 @@
 -- inner contracts: entries with changes laid over them
-use Rattle.std.specs.Prelude.{List, [], ◌∷◌, Option, None, Some, if◌then◌else◌}
+use Rattle.std.specs.Prelude.{List, [], ◌∷◌, Bool, Option, None, Some, if◌then◌else◌}
 use Rattle.casa_filing.specs.Text.{Text, same_text, put, without}
 
 -- what stands under each name, with this value in place of that under one name, or with none there
@@ -16,7 +16,8 @@ abbrev pub with_changes : {X : Type 0} → List (Text × Option X) → List (Tex
 with_changes [] es = es
 with_changes (w ∷ ws) es = with_changes ws (with_value es w.0 w.1)
 
--- a table has entries, and those that it will have once it adopts the changes
+-- a table has entries, and those that it will have once it adopts the changes; its base may be sealed
 pub record TableEntries (X : Type 0) : Type 0 where
   pub entries : List (Text × X)
   pub next : List (Text × X)
+  pub sealed : Bool

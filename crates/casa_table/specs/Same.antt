@@ -1,4 +1,4 @@
--- inner contracts: when versions that may be absent are the same
+-- to believe: when versions that may be absent are the same
 use Rattle.std.specs.Prelude.{Option, None, Some, Bool, true, false}
 
 -- whether versions are the same, or there is none on either side

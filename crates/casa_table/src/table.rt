@@ -1,12 +1,12 @@
 //! Values under names, of which views share all.
 
-ghost use Rattle.std.specs.Prelude.{◌≡◌, ◌-◌, List, [], length, Some, None, IfOk, OnOk, OnErr, IsTrue, if◌then◌else◌};
+ghost use Rattle.std.specs.Prelude.{◌≡◌, ◌↔◌, ◌-◌, ◌||◌, List, [], length, Some, None, IfOk, OnOk, OnErr, IsTrue, if◌then◌else◌};
 ghost use Rattle.std.specs.Arc.{arc_value};
 ghost use Rattle.std.specs.Option.{option_copied, option_or};
 ghost use Rattle.casa_filing.specs.Text.{Text, same_text, at_name, put, without};
 ghost use Rattle.casa_flight.specs.Good.{AreInOrder};
 ghost use Rattle.casa_table.specs.Laid.{with_value, with_changes};
-ghost use Rattle.casa_table.specs.Sealed.{numbers_of, IsSealOf};
+ghost use Rattle.casa_table.specs.Sealed.{numbers_of, IsSealOf, IsSameSeal};
 
 use crate::index::Index;
 use boxcar::tag::{Names, Tag};
@@ -205,7 +205,7 @@ const MOST_BESIDE: usize = 4096;
 /// they are moved in when no view has them any more. A seal tells the values of the base from all others; it comes off
 /// when changes are moved in.
 ///
-/// Contracts see the entries, and those that it will have once it adopts the changes.
+/// Contracts see the entries, those that it will have once it adopts the changes, and whether the base is sealed.
 pub struct Table<Kind, V: Version, I: Index<Kind, V>> {
     alloc: Global,
     base: Arc<Base<Kind, V, I>>,
@@ -215,6 +215,7 @@ pub struct Table<Kind, V: Version, I: Index<Kind, V>> {
 }
 
 impl<Kind, V: Version, I: Index<Kind, V>> Model for Table<Kind, V, I> {
+    ghost use Rattle.std.specs.Prelude.{is_some};
     ghost use Rattle.std.specs.Arc.{arc_value};
     ghost use Rattle.casa_table.specs.Laid.{with_changes, TableEntries};
     ghost use Rattle.casa_table.specs.Sealed.{IsSealOf};
@@ -225,6 +226,7 @@ impl<Kind, V: Version, I: Index<Kind, V>> Model for Table<Kind, V, I> {
     ghost view = { λ t. record {
       entries = with_changes (arc_value t.recent).entries (arc_value t.base);
       next = with_changes (arc_value t.coming).entries (arc_value t.base);
+      sealed = is_some t.seal;
     } };
 
     ghost invariant = { λ t.
@@ -280,10 +282,11 @@ impl<Kind: Copy, V: Version, I: Index<Kind, V>> Table<Kind, V, I> {
         })
     }
 
-    /// Seals the values of the base, unless they are sealed, so that those that are shared now need not be compared with
-    /// those that will be here then. `AllocError` where there is no memory for it.
+    /// Seals the values of the base, unless they are sealed or the store makes no seals, so that those that are shared now
+    /// need not be compared with those that will be here then. `AllocError` where there is no memory for it.
     pub fn seal<K: Store<Version = V>>(&mut self, store: &mut K) -> Result<(), AllocError>
-        ensures { self.new.entries ≡ self.old.entries }
+        ensures same { self.new.entries ≡ self.old.entries }
+        ensures sealed { OnOk result (self.new.sealed ≡ (self.old.sealed || K.makes_seals)) }
     {
         if self.seal.is_none() {
             self.seal = store.seal(Tag::of::<Base<Kind, V, I>, Contents>(&self.base))?;
@@ -398,10 +401,9 @@ fn seal_again<V: Version>(seal: &Option<Seal<V>>) -> Result<Option<Seal<V>>, All
     }
 }
 
-/// Whether there are seals, and they are the same. Then they are of the same entries.
+/// Whether there are seals, and they are the same: of the same entries, then.
 fn same_seal<V: Version>(one: &Option<Seal<V>>, other: &Option<Seal<V>>) -> bool
-    ensures { IsTrue result → (es fs : List (Text × V)) → IsSealOf V.numbers es one.now
-        → IsSealOf V.numbers fs other.now → es ≡ fs }
+    ensures { IsTrue result ↔ IsSameSeal one.now other.now }
 {
     match (one, other) {
         (Some(one), Some(other)) => one.same(other),

@@ -9,7 +9,7 @@ use Rattle.casa_item.specs.declared.item.Item.{Item}
 use Rattle.casa_view.specs.declared.view.View.{View}
 use Rattle.casa_item.specs.Versions.{Versions, version_at, content_as, shown_state}
 use Rattle.casa_view.specs.BoardState.{IsGoodBoard, board_state}
-use Rattle.casa_view.specs.View.{content_shown, IsTaken, IsFor, IsCurrent, Shows}
+use Rattle.casa_view.specs.View.{content_shown, IsTaken, IsViewOf, IsCurrent}
 use Rattle.casa_view.specs.Taking.{IsRead}
 use Rattle.casa_table.specs.Same.{same_version}
 use Rattle.casa_view.specs.Applied.{contains}
@@ -36,22 +36,15 @@ module _ {V : Type 0} (item_of : V → Item) (stamp_of : V → ℕ) (vs : Versio
       ∙ shown_if (λ (w : Option V). content_as i (option_map item_of w)) (version_at vs i)
       (contents (shown_state item_of vs) i) (contains item_of stamp_of vs order well i) (test i)
 
-  pub read_for : (call : Call) (v : View V) → IsRead item_of stamp_of vs call v → IsGoodBoard (board_state item_of stamp_of vs)
-      → IsFor item_of v call
-  read_for call v read well = (
-    shown_state item_of vs,
-    well.good,
-    λ i. shown_taken well read.0 v read.1 i
-        ∙ ap (λ (b : Bool). if b then Some (contents (shown_state item_of vs) i) else None) (read.2 well i),
-  )
+  -- a view holds what the call reads on a board that stands well
+  pub read_view : (call : Call) (v : View V) → IsRead item_of stamp_of vs call v → IsGoodBoard (board_state item_of stamp_of vs)
+      → IsViewOf item_of (shown_state item_of vs) call v
+  read_view call v read well i =
+      shown_taken well read.0 v read.1 i
+      ∙ ap (λ (b : Bool). if b then Some (contents (shown_state item_of vs) i) else None) (read.2 well i)
 
   pub read_current : (is_same : V → V → Bool) → ((m : V) → is_same m m ≡ true) → (call : Call) (v : View V)
       → IsRead item_of stamp_of vs call v → IsCurrent is_same vs v
   read_current is_same itself call v read i w e =
       subst (λ (o : Option V). same_version is_same (version_at vs i) o ≡ true)
       (from_some (version_at vs i) w (read.0 i) (sym (read.1 i) ∙ e)) (same_itself is_same itself (version_at vs i))
-
-  pub read_shows : (call : Call) (v : View V) → IsRead item_of stamp_of vs call v
-      → IsGoodBoard (board_state item_of stamp_of vs) → Shows item_of (shown_state item_of vs) v
-  read_shows call v read well i x e =
-      from_some (contents (shown_state item_of vs) i) x (read.0 i) (sym (shown_taken well read.0 v read.1 i) ∙ e)

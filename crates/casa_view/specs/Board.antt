@@ -1,4 +1,4 @@
--- to believe, in part (versions): the versions that a board has, and those that come next
+-- to believe: the versions that a board has, and those that come next
 use Rattle.std.specs.Prelude.{List, Option, unwrap_or}
 use Rattle.std.specs.Option.{option_map}
 use Rattle.std.specs.Global.{Global}
@@ -21,6 +21,6 @@ next_versions b = record {
   lists = b.lists.next;
 }
 
--- the catalogue that a change writes, if it writes one
+-- inner: the catalogue that a change writes, if it writes one
 abbrev pub catalogue_written : Option (Arc Item Global) → Option (List Regulation)
 catalogue_written written = option_map (λ (item : Arc Item Global). regulations_of (arc_value item)) written

@@ -1,4 +1,4 @@
--- to believe, in part (BoardState, board_state): how a board stands, and how it stands after a call
+-- to believe: how a board stands, and how it stands after a call
 use Rattle.std.specs.Prelude.{◌≡◌, ℕ, List, Option, None, if◌then◌else◌}
 use Rattle.casa_flight.specs.declared.call.Call.{Call}
 use Rattle.casa_filing.specs.declared.regulation.Regulation.{Regulation}

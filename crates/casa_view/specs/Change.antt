@@ -1,4 +1,4 @@
--- inner contracts: the versions after a change
+-- to believe: the versions after a change
 use Rattle.std.specs.Prelude.{◌≡◌, ℕ, Bool, true, false, not, is_some, Option, None, Some, if◌then◌else◌}
 use Rattle.casa_footprint.specs.Items.{ItemName, Content, moment, regulations, row_or_none, list_or_none}
 use Rattle.casa_item.specs.declared.item.Item.{Item}

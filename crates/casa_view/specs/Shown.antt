@@ -1,4 +1,4 @@
--- inner contracts: what a view shows
+-- to believe: what a view shows
 use Rattle.std.specs.Prelude.{ℕ, List, map, Option, None, Some}
 use Rattle.std.specs.Option.{option_map, option_and_then}
 use Rattle.casa_filing.specs.declared.regulation.Regulation.{Regulation}
@@ -59,14 +59,15 @@ module _ {V : Type 0} (item_of : V → Item) where
   abbrev pub rows_shown : View V → List (Text × Row)
   rows_shown v = rows_in v.rows
 
-  -- the lists that a part of a view has, and which it has not, as its entries come
+  -- inner: the lists that a part of a view has, and which it has not, as its entries come
   abbrev pub list_named : Option V → Option Listing
   list_named w = option_and_then (λ (v : V). list_of (item_of v)) w
 
+  -- inner: the same of all its entries
   abbrev pub lists_in : {K I : Type 0} → Part K V I → List (Text × Option Listing)
   lists_in (All entries) = map (λ (e : Text × V). (e.0, list_of (item_of e.1))) entries
   lists_in (Named noted) = map (λ (e : Text × Option V). (e.0, list_named e.1)) noted
 
-  -- the lists that a view shows
+  -- inner: the lists that a view shows
   abbrev pub lists_shown : View V → List (Text × Option Listing)
   lists_shown v = lists_in v.lists

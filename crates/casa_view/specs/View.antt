@@ -1,4 +1,4 @@
--- inner contracts: what a view holds and shows, and when it is current
+-- to believe: what a view holds and shows, and when it is current
 use Rattle.std.specs.Prelude.{◌≡◌, List, Bool, true, Option, None, Some, if◌then◌else◌}
 use Rattle.std.specs.Option.{option_map}
 use Rattle.casa_flight.specs.declared.call.Call.{Call}
@@ -25,7 +25,7 @@ seen v the_catalogue = option_map Some v.catalogue
 seen v (a_row key) = seen_in v.rows key
 seen v (a_list id) = seen_in v.lists id
 
--- the view holds the items that pass the test, with their versions, and no others
+-- inner: the view holds the items that pass the test, with their versions, and no others
 abbrev pub IsTaken : {V : Type 0} → Versions V → (ItemName → Bool) → View V → Type 0
 IsTaken vs test v = (i : ItemName) → seen v i ≡ (if test i then Some (version_at vs i) else None)
 
@@ -46,7 +46,7 @@ IsViewOf item_of at call v =
 abbrev pub IsFor : {V : Type 0} → (V → Item) → View V → Call → Type 0
 IsFor item_of v call = (at : State) × IsGood at × IsViewOf item_of at call v
 
--- whether a version is the one that a view holds; so too where it holds none
+-- inner: whether a version is the one that a view holds; so too where it holds none
 abbrev pub same_held : {V : Type 0} → (V → V → Bool) → V → Option V → Bool
 same_held is_same m None = true
 same_held is_same m (Some n) = is_same m n
@@ -56,16 +56,17 @@ abbrev pub IsCurrent : {V : Type 0} → (V → V → Bool) → Versions V → Vi
 IsCurrent {V} is_same vs v =
     (i : ItemName) (w : Option V) → seen v i ≡ Some w → same_version is_same (version_at vs i) w ≡ true
 
--- the versions of a view show the items as they now stand
+-- inner: the versions of a view show the items as they now stand
 abbrev pub ShowsSame : {V W : Type 0} → (V → W) → Versions V → View V → Type 0
 ShowsSame {V} item_of vs v =
     (i : ItemName) (w : Option V) → seen v i ≡ Some w → option_map item_of (version_at vs i) ≡ option_map item_of w
 
--- the versions that a part holds are those of these entries; and, below, they show the same items
+-- inner: the versions that a part holds are those of these entries; and, below, they show the same items
 abbrev pub IsSamePart : {K V I : Type 0} → (V → V → Bool) → List (Text × V) → Part K V I → Type 0
 IsSamePart {K} {V} is_same es part =
     (q : Text) (w : Option V) → seen_in part q ≡ Some w → same_version is_same (at_name es q) w ≡ true
 
+-- inner: the versions that a part holds show the items of these entries
 abbrev pub ShowsPart : {K V I W : Type 0} → (V → W) → List (Text × V) → Part K V I → Type 0
 ShowsPart {K} {V} item_of es part =
     (q : Text) (w : Option V) → seen_in part q ≡ Some w → option_map item_of (at_name es q) ≡ option_map item_of w

@@ -128,7 +128,7 @@ impl<K: Store> World for Board<K> {
     ghost use Rattle.casa_view.specs.Change.{IsApplied};
     ghost use Rattle.casa_view.specs.Sets.{board_state_set};
     ghost use Rattle.casa_view.specs.BoardState.{BoardState, IsGoodBoard, board_state, opening, after, reply};
-    ghost use Rattle.casa_view.specs.View.{IsFor, IsCurrent, Shows};
+    ghost use Rattle.casa_view.specs.View.{IsFor, IsViewOf, IsCurrent, Shows};
     ghost use Rattle.casa_view.specs.Applied.{applied};
     ghost use Rattle.casa_view.specs.Alike.{like_applied, like_state, like_views};
     ghost use Rattle.casa_view.specs.GoodBoard.{opening_is_good, after_is_good};
@@ -171,7 +171,14 @@ impl<K: Store> World for Board<K> {
 
     ghost applied = { λ w n d x. IsApplied K.Version.item_of K.Version.stamp_of (says d) n (versions w.items) (versions x.items) };
 
-    fn view(&self, call: &Call) -> Result<View<K::Version>, AllocError> {
+    /// What the call reads, with the present versions: on a board that stands well these items, and no others.
+    /// `AllocError` where there is no memory for it.
+    fn view(&self, call: &Call) -> Result<View<K::Version>, AllocError>
+        ensures reads { IfOk result (λ v. IsGoodBoard (⟦<Board<K> as World>⟧.state self.now) →
+            IsViewOf K.Version.item_of (⟦<Board<K> as World>⟧.state self.now).state call.now v) }
+        ensures current { IfOk result (λ v.
+            IsCurrent K.Version.is_same (versions self.now.items) v) }
+    {
         let view = self.items.view(self.alloc, call)?;
         Ok(view)
     }
