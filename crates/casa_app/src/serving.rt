@@ -5,11 +5,12 @@ ghost use Rattle.std.specs.Arc.{arc_value};
 ghost use Rattle.casa_engine.specs.Ledgers.{IsBlankOf};
 
 use crate::fault::ProgramFault;
-use casa_engine::{Direct, Engine, blank};
+use casa_engine::{Engine, blank};
+use casa_plan::Recalling;
 use casa_server::{DayClock, ServeFault, Served, moment_at, serve, timer};
 use casa_shelf::{Seals, Shelf, Shelving};
 use casa_time::Moment;
-use casa_view::{Item, Store};
+use casa_view::Store;
 use jiff::Timestamp;
 use jiff::civil::Date;
 use std::alloc::Global;
@@ -39,7 +40,17 @@ struct EachSecond<'a, R> {
 }
 
 impl<'a, R: Clock> DayClock for EachSecond<'a, R> {
-    fn next(&mut self) -> Option<Moment> {
+    ghost use Rattle.std.specs.Prelude.{IfSome, None};
+    ghost use Rattle.jiff_core.specs.declared.timestamp.Timestamp.{Timestamp as Instant};
+    ghost use Rattle.casa_server.specs.Moments.{IsInSecond};
+    ghost use Rattle.casa_server.specs.Ticks.{ClockGives};
+
+    /// The moment on the day of the instant that the system's clock tells a second later; `None` where that is none.
+    fn next(&mut self) -> Option<Moment>
+        ensures gives { ClockGives None None result }
+        ensures day { self.new.day ≡ self.old.day }
+        ensures told { IfSome result (λ at. (now : Instant) × IsInSecond at self.old.day now) }
+    {
         thread::sleep(self.rt, Duration::from_secs(1));
         let now = Timestamp::now(self.rt).ok()?;
         moment_at(self.day, now)
@@ -65,24 +76,14 @@ pub fn serve_desks<
     let Ok(listener) = TcpListener::bind(rt, (Ipv4Addr::LOCALHOST, port)) else {
         return Err(ProgramFault::BindFailed);
     };
-    let items = boxcar::Vec::new(alloc)?;
-    let Ok(seals) = Arc::new(alloc, boxcar::Vec::new(alloc)?) else {
+    let Ok(shelf) = Arc::new(alloc, boxcar::Vec::new(alloc)?) else {
         return Err(ProgramFault::NoMemory);
     };
-    serve_on::<Brand, Brand, R>(
-        rt,
-        alloc,
-        &listener,
-        &items,
-        seals,
-        blank(),
-        connections,
-        timing,
-    )
+    serve_on::<Brand, Brand, R>(rt, alloc, &listener, &shelf, blank(), connections, timing)
 }
 
-/// Serves the connections of this listener on a new engine, whose ledger is this one, and whose versions lie on the shelf of
-/// these vectors.
+/// Serves the connections of this listener on a new engine, whose ledger is this one, and whose versions have their
+/// positions on this shelf.
 fn serve_on<
     V: Shelving + Send + Sync,
     L: Ledger + Send + Sync,
@@ -91,19 +92,18 @@ fn serve_on<
     rt: &R,
     alloc: Global,
     listener: &TcpListener,
-    items: &boxcar::Vec<Arc<Item>>,
-    seals: Arc<Seals>,
+    shelf: &Arc<Seals>,
     blank: Blank,
     connections: u32,
     timing: Option<Timing>,
 ) -> Result<Served, ProgramFault>
-    requires items { items.now ≡ V.shelves }
-    requires seals { arc_value seals ≡ V.seals }
+    requires shelf { arc_value shelf.now ≡ V.shelves }
     requires ledger { IsBlankOf L.name L.parts blank.name blank.parts }
     ensures { IfOk result (λ served. served.sessions ≡ connections) }
 {
-    let shelf: Shelf<V, R> = Shelf::new(items, seals, rt);
-    let engine = Engine::<Shelf<V, R>, L, Direct>::new(alloc, shelf, blank, ENGINE, Direct)?;
+    let shelf: Shelf<V, R> = Shelf::new(shelf, rt);
+    let gate = Recalling::new(alloc);
+    let engine = Engine::<Shelf<V, R>, L, Recalling>::new(alloc, shelf, blank, ENGINE, gate)?;
     Ok(serve_by(rt, alloc, listener, &engine, connections, timing)?)
 }
 
@@ -116,7 +116,7 @@ fn serve_by<
     rt: &R,
     alloc: Global,
     listener: &TcpListener,
-    engine: &Engine<K, L, Direct>,
+    engine: &Engine<K, L, Recalling>,
     connections: u32,
     timing: Option<Timing>,
 ) -> Result<Served, ServeFault>
@@ -134,7 +134,7 @@ fn serve_by<
 fn keep_time<K: Store, L: Ledger + Send + Sync, R: Threads + Wait + Clock + Sync>(
     rt: &R,
     alloc: Global,
-    engine: &Engine<K, L, Direct>,
+    engine: &Engine<K, L, Recalling>,
     timing: Option<Timing>,
 ) {
     let Some(Timing { day, turns }) = timing else {

@@ -10,7 +10,7 @@ use casa_flight::{Answer, Call, Reply};
 use casa_history::Pass;
 use casa_plan::{Direct, plan};
 use casa_shelf::{Seals, Shelf, Shelving};
-use casa_view::{Board, Copies, Item, Store, Version, View};
+use casa_view::{Board, Copies, Store, Version, View};
 use std::alloc::Global;
 use std::marker::Brand;
 use std::process::Abort;
@@ -99,17 +99,11 @@ fn outdated<K: Store>(rt: &impl Abort, alloc: Global, store: K) {
     assert_eq!(rt; room.history().len(), TIMES + 1);
 }
 
-/// The same over copies, and over the shelf of these vectors.
-fn outdated_on<V: Shelving, R: Abort + Wait>(
-    rt: &R,
-    alloc: Global,
-    items: &boxcar::Vec<Arc<Item>>,
-    seals: Arc<Seals>,
-)
-    requires items { items.now ≡ V.shelves }
-    requires seals { arc_value seals ≡ V.seals }
+/// The same over copies, and over this shelf.
+fn outdated_on<V: Shelving, R: Abort + Wait>(rt: &R, alloc: Global, shelf: &Arc<Seals>)
+    requires shelf { arc_value shelf.now ≡ V.shelves }
 {
-    let shelf: Shelf<V, R> = Shelf::new(items, seals, rt);
+    let shelf: Shelf<V, R> = Shelf::new(shelf, rt);
     outdated(rt, alloc, Copies::new());
     outdated(rt, alloc, shelf);
 }
@@ -117,8 +111,7 @@ fn outdated_on<V: Shelving, R: Abort + Wait>(
 #[test]
 fn an_outdated_answer_is_refused(rt: HostRuntime) {
     let alloc = rt.alloc();
-    let items = boxcar::Vec::new(alloc).expect(&rt, "memory");
     let none = boxcar::Vec::new(alloc).expect(&rt, "memory");
-    let seals = Arc::new(alloc, none).expect(&rt, "memory");
-    outdated_on::<Brand, _>(&rt, alloc, &items, seals);
+    let shelf = Arc::new(alloc, none).expect(&rt, "memory");
+    outdated_on::<Brand, _>(&rt, alloc, &shelf);
 }

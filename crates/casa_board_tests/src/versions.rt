@@ -31,17 +31,11 @@ fn versions_are_the_same_by_number_and_contents(rt: HostRuntime) -> Result<(), F
 }
 
 /// On a shelf a version is the same as its copies alone: another of the same item has another position.
-fn positions_tell<V: Shelving, R: Abort + Wait>(
-    rt: &R,
-    alloc: Global,
-    items: &boxcar::Vec<Arc<Item>>,
-    seals: Arc<Seals>,
-)
-    requires items { items.now ≡ V.shelves }
-    requires seals { arc_value seals ≡ V.seals }
+fn positions_tell<V: Shelving, R: Abort + Wait>(rt: &R, alloc: Global, shelf: &Arc<Seals>)
+    requires shelf { arc_value shelf.now ≡ V.shelves }
 {
     let at = Moment::new(100).expect(rt, "a moment");
-    let mut shelf: Shelf<V, R> = Shelf::new(items, seals, rt);
+    let mut shelf: Shelf<V, R> = Shelf::new(shelf, rt);
     let clock = Arc::new(alloc, Item::Clock(at)).expect(rt, "memory");
     let again = Arc::try_clone(&clock).expect(rt, "memory");
     let one = shelf.put(5, clock).expect(rt, "memory");
@@ -54,8 +48,7 @@ fn positions_tell<V: Shelving, R: Abort + Wait>(
 #[test]
 fn versions_on_a_shelf_are_the_same_by_number_and_position(rt: HostRuntime) {
     let alloc = rt.alloc();
-    let items = boxcar::Vec::new(alloc).expect(&rt, "memory");
     let none = boxcar::Vec::new(alloc).expect(&rt, "memory");
-    let seals = Arc::new(alloc, none).expect(&rt, "memory");
-    positions_tell::<Brand, _>(&rt, alloc, &items, seals);
+    let shelf = Arc::new(alloc, none).expect(&rt, "memory");
+    positions_tell::<Brand, _>(&rt, alloc, &shelf);
 }

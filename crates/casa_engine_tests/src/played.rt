@@ -11,7 +11,7 @@ use casa_flight::{Call, Reply};
 use casa_history::{History, Holds};
 use casa_plain::Plain;
 use casa_shelf::{Seals, Shelf, Shelving};
-use casa_view::{Copies, Item, Store};
+use casa_view::{Copies, Store};
 use casa_wire::{read_call, reply_line};
 use std::alloc::Global;
 use std::marker::Brand;
@@ -193,20 +193,18 @@ fn played_over<
     }
 }
 
-/// The same over the shelf of these vectors.
+/// The same over this shelf.
 fn played_on<V: Shelving + Send + Sync, L: Ledger + Send + Sync, R: Threads + Wait + Sync + Abort>(
     rt: &R,
     alloc: Global,
-    items: &boxcar::Vec<Arc<Item>>,
-    seals: Arc<Seals>,
+    shelf: &Arc<Seals>,
     blank: Blank,
     script: &Script<'_>,
 ) -> Told
-    requires items { items.now ≡ V.shelves }
-    requires seals { arc_value seals ≡ V.seals }
+    requires shelf { arc_value shelf.now ≡ V.shelves }
     requires ledger { IsBlankOf L.name L.parts blank.name blank.parts }
 {
-    let shelf: Shelf<V, R> = Shelf::new(items, seals, rt);
+    let shelf: Shelf<V, R> = Shelf::new(shelf, rt);
     played_over::<Shelf<V, R>, L, R>(rt, alloc, shelf, blank, script)
 }
 
@@ -216,11 +214,10 @@ pub fn played<R: Threads + Wait + Sync + Abort>(
     alloc: Global,
     script: &Script<'_>,
 ) -> [Told; 2] {
-    let items = boxcar::Vec::new(alloc).expect(rt, "memory");
     let none = boxcar::Vec::new(alloc).expect(rt, "memory");
-    let seals = Arc::new(alloc, none).expect(rt, "memory");
+    let shelf = Arc::new(alloc, none).expect(rt, "memory");
     [
         played_over::<Copies, Brand, R>(rt, alloc, Copies::new(), blank(), script),
-        played_on::<Brand, Brand, R>(rt, alloc, &items, seals, blank(), script),
+        played_on::<Brand, Brand, R>(rt, alloc, &shelf, blank(), script),
     ]
 }

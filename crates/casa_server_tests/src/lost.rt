@@ -9,7 +9,7 @@ use casa_engine::{DeskPass, Direct, Engine, EngineDesk, blank};
 use casa_history::{Settled, Torn};
 use casa_session::{Desk, SessionFault, run};
 use casa_shelf::{Seals, Shelf, Shelving};
-use casa_view::{Item, Store};
+use casa_view::Store;
 use std::alloc::Global;
 use std::io;
 use std::io::{ErrorKind, Write};
@@ -84,28 +84,25 @@ fn settled_over<K: Store, L: Ledger, R: Wait + Abort>(
     (desks, settled)
 }
 
-/// The same over the shelf of these vectors.
+/// The same over this shelf.
 fn settled_on<V: Shelving + Send + Sync, L: Ledger, R: Wait + Abort>(
     rt: &R,
     alloc: Global,
-    items: &boxcar::Vec<Arc<Item>>,
-    seals: Arc<Seals>,
+    shelf: &Arc<Seals>,
     blank: Blank,
 ) -> (u32, Result<Settled, Torn>)
-    requires items { items.now ≡ V.shelves }
-    requires seals { arc_value seals ≡ V.seals }
+    requires shelf { arc_value shelf.now ≡ V.shelves }
     requires ledger { IsBlankOf L.name L.parts blank.name blank.parts }
 {
-    let shelf: Shelf<V, R> = Shelf::new(items, seals, rt);
+    let shelf: Shelf<V, R> = Shelf::new(shelf, rt);
     settled_over::<Shelf<V, R>, L, R>(rt, alloc, shelf, blank)
 }
 
 /// The same over a new shelf.
 fn settled<R: Wait + Abort>(rt: &R, alloc: Global) -> (u32, Result<Settled, Torn>) {
-    let items = boxcar::Vec::new(alloc).expect(rt, "memory");
     let none = boxcar::Vec::new(alloc).expect(rt, "memory");
-    let seals = Arc::new(alloc, none).expect(rt, "memory");
-    settled_on::<Brand, Brand, R>(rt, alloc, &items, seals, blank())
+    let shelf = Arc::new(alloc, none).expect(rt, "memory");
+    settled_on::<Brand, Brand, R>(rt, alloc, &shelf, blank())
 }
 
 /// What a desk called before its connection was lost stands, and others see it; and where its pass is lost too, the history

@@ -8,7 +8,7 @@ use crate::clients::OPENING;
 use casa_engine::{Audit, Direct, Engine, blank};
 use casa_server::{Connections, ServeFault, Served, serve};
 use casa_shelf::{Seals, Shelf, Shelving};
-use casa_view::{Copies, Item, Store};
+use casa_view::{Copies, Store};
 use std::alloc::Global;
 use std::io;
 use std::io::Sink;
@@ -56,21 +56,19 @@ fn seen_over<
     (served, engine.audit(rt).expect(rt, "memory"))
 }
 
-/// The same over the shelf of these vectors.
+/// The same over this shelf.
 fn seen_on<V: Shelving + Send + Sync, L: Ledger + Send + Sync, R: Threads + Wait + Abort + Sync>(
     rt: &R,
     alloc: Global,
-    items: &boxcar::Vec<Arc<Item>>,
-    seals: Arc<Seals>,
+    shelf: &Arc<Seals>,
     blank: Blank,
     sent: Sent,
     connections: u32,
 ) -> Seen
-    requires items { items.now ≡ V.shelves }
-    requires seals { arc_value seals ≡ V.seals }
+    requires shelf { arc_value shelf.now ≡ V.shelves }
     requires ledger { IsBlankOf L.name L.parts blank.name blank.parts }
 {
-    let shelf: Shelf<V, R> = Shelf::new(items, seals, rt);
+    let shelf: Shelf<V, R> = Shelf::new(shelf, rt);
     seen_over::<Shelf<V, R>, L, R>(rt, alloc, shelf, blank, sent, connections)
 }
 
@@ -81,12 +79,11 @@ fn seen<R: Threads + Wait + Abort + Sync>(
     sent: Sent,
     connections: u32,
 ) -> [Seen; 2] {
-    let items = boxcar::Vec::new(alloc).expect(rt, "memory");
     let none = boxcar::Vec::new(alloc).expect(rt, "memory");
-    let seals = Arc::new(alloc, none).expect(rt, "memory");
+    let shelf = Arc::new(alloc, none).expect(rt, "memory");
     [
         seen_over::<Copies, Brand, R>(rt, alloc, Copies::new(), blank(), sent, connections),
-        seen_on::<Brand, Brand, R>(rt, alloc, &items, seals, blank(), sent, connections),
+        seen_on::<Brand, Brand, R>(rt, alloc, &shelf, blank(), sent, connections),
     ]
 }
 

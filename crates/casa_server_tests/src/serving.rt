@@ -11,7 +11,7 @@ use casa_engine::{Direct, Engine, blank};
 use casa_server::{DayClock, ServeFault, Served, TimerFault, serve, timer};
 use casa_shelf::{Seals, Shelf, Shelving};
 use casa_time::Moment;
-use casa_view::{Item, Store};
+use casa_view::Store;
 use std::alloc::Global;
 use std::marker::Brand;
 use std::net::{Net, TcpListener, TcpStream};
@@ -100,24 +100,16 @@ fn play_with<
     }
 }
 
-/// Plays a scene on a new engine with this ledger, over the shelf of these vectors.
+/// Plays a scene on a new engine with this ledger, over this shelf.
 fn play_on<
     V: Shelving + Send + Sync,
     L: Ledger + Send + Sync,
     R: Net<Listener = TcpListener, Stream = TcpStream> + Threads + Wait + Abort + Sync,
->(
-    rt: &R,
-    alloc: Global,
-    items: &boxcar::Vec<Arc<Item>>,
-    seals: Arc<Seals>,
-    blank: Blank,
-    scene: Scene,
-) -> Seen
-    requires items { items.now ≡ V.shelves }
-    requires seals { arc_value seals ≡ V.seals }
+>(rt: &R, alloc: Global, shelf: &Arc<Seals>, blank: Blank, scene: Scene) -> Seen
+    requires shelf { arc_value shelf.now ≡ V.shelves }
     requires ledger { IsBlankOf L.name L.parts blank.name blank.parts }
 {
-    let shelf: Shelf<V, R> = Shelf::new(items, seals, rt);
+    let shelf: Shelf<V, R> = Shelf::new(shelf, rt);
     let engine = Engine::<Shelf<V, R>, L, Direct>::new(alloc, shelf, blank, 7, Direct).expect(
         rt, "memory",
     );
@@ -130,10 +122,9 @@ fn play<R: Net<Listener = TcpListener, Stream = TcpStream> + Threads + Wait + Ab
     alloc: Global,
     scene: Scene,
 ) -> Seen {
-    let items = boxcar::Vec::new(alloc).expect(rt, "memory");
     let none = boxcar::Vec::new(alloc).expect(rt, "memory");
-    let seals = Arc::new(alloc, none).expect(rt, "memory");
-    play_on::<Brand, Brand, R>(rt, alloc, &items, seals, blank(), scene)
+    let shelf = Arc::new(alloc, none).expect(rt, "memory");
+    play_on::<Brand, Brand, R>(rt, alloc, &shelf, blank(), scene)
 }
 
 const SERVED: Served = Served {

@@ -1,10 +1,11 @@
 -- inner contracts: when versions on a shelf are the same
-use Rattle.std.specs.Prelude.{◌≡◌, ℕ, Bool, true, ◌==◌, ◌&&◌}
+use Rattle.std.specs.Prelude.{◌≡◌, ℕ, List, Bool, true, ◌==◌, ◌&&◌}
 use Rattle.std.specs.Cmp.Derive.{both_true}
 use Rattle.std.proofs.Common.{refl}
 use Rattle.std.proofs.lemmas.Bool.{eq-eqb, eqb-true, and_parts}
 use Rattle.casa_item.specs.declared.item.Item.{Item}
 use Rattle.casa_item.specs.contracts.item.Item.{the_row}
+use Rattle.casa_item.specs.Numbers.{numbers_by, told_by}
 use base.Stored.{Coded, coded×, coded_ℕ, coded_via}
 
 -- whether versions have the same stamp and the same position
@@ -22,3 +23,10 @@ abbrev pub shelved_code : Coded (ℕ × ℕ × Item)
 shelved_code =
     coded_via (coded× coded_ℕ (coded× coded_ℕ the_row.coded)) (λ (m : ℕ × ℕ × Item). (m.0, (m.1, m.2)))
     (λ x y e i. ((e i).0, (e i).1.0, (e i).1.1))
+
+-- the numbers that stand for an item
+abbrev pub item_numbers : Item → List ℕ
+item_numbers = numbers_by the_row.coded
+
+pub same_numbers : (a b : Item) → item_numbers a ≡ item_numbers b → a ≡ b
+same_numbers = told_by the_row.coded

@@ -1,39 +1,45 @@
-//! Versions in a vector that only grows.
+//! Versions that are told by positions in a vector that only grows.
 
 ghost use Rattle.std.specs.Prelude.{◌≡◌, [], IsTrue};
 ghost use Rattle.std.specs.Arc.{arc_value};
 ghost use Rattle.boxcar.specs.Table.{Shelves};
 
-use boxcar::tag::Tag;
+use boxcar::Pushed;
+use boxcar::tag::{Names, Tag};
 use casa_item::{Item, Seal, Seals, Store, Version};
 use std::alloc::AllocError;
 use std::marker::{Brand, Model, PhantomData};
 use std::sync::{Arc, Wait};
 
-/// Names a vector of items, and one of seals. Each program picks what they stand for once, at the call to which it lends its
-/// vectors.
+/// Names a vector of positions. Each program picks what it stands for once, at the call to which it lends its vector.
 pub trait Shelving {
-    /// The vector of items, as contracts see it.
+    /// The vector, as contracts see it.
     ghost shelves: { Shelves };
-
-    /// The vector of seals.
-    ghost seals: { Shelves };
 }
 
 impl Shelving for Brand {
     ghost shelves = { record { tag = []; buckets = [] } };
-
-    ghost seals = { record { tag = []; buckets = [] } };
 }
 
-/// A version on a shelf: its stamp, and its position there. A copy takes no memory, and no count that threads share.
+/// The numbers that stand for an item.
+struct Contents;
+
+impl Names<Item> for Contents {
+    ghost use Rattle.casa_shelf.specs.Positions.{item_numbers};
+
+    ghost numbers = { item_numbers };
+}
+
+/// A version on a shelf: its stamp, and its position there, beside the item, which copies of the version share. Nothing of
+/// the item lies on the shelf, so that it goes with the last copy.
 ///
-/// Contracts see the stamp, the position and the item, which stays where it was put.
+/// Contracts see the stamp, the position and the item.
 #[derive(Drop)]
 pub struct Shelved<'a, V: Shelving> {
     stamp: usize,
-    token: boxcar::Pushed<Arc<Item>>,
-    items: &'a boxcar::Vec<Arc<Item>>,
+    token: Pushed<Tag>,
+    shelf: &'a Seals,
+    item: Arc<Item>,
     name: PhantomData<V>,
 }
 
@@ -42,31 +48,25 @@ impl<'a, V: Shelving> Model for Shelved<'a, V> {
     ghost use Rattle.std.specs.Arc.{arc_value};
     ghost use Rattle.boxcar.specs.Table.{Shows};
     ghost use Rattle.casa_item.specs.declared.item.Item.{Item};
+    ghost use Rattle.casa_shelf.specs.Positions.{item_numbers};
 
     ghost Value = { ℕ × ℕ × Item };
 
-    ghost view = { λ s. (s.stamp, s.token.index, arc_value s.token.value) };
+    ghost view = { λ s. (s.stamp, s.token.index, arc_value s.item) };
 
-    ghost invariant = { λ s. Shows V.shelves s.token × (s.items.now ≡ V.shelves) };
+    ghost invariant = { λ s. Shows V.shelves s.token × (s.shelf.now ≡ V.shelves) × (s.token.value.numbers ≡ item_numbers (arc_value s.item)) };
 }
 
 impl<'a, V: Shelving> Shelved<'a, V> {
     ghost use Rattle.casa_shelf.specs.Positions.{is_same_position};
 
-    /// The item, which stays where it was put.
-    fn item_there(&self) -> &Item
-        ensures { result.now ≡ self.now.2 }
-    {
-        self.items.value(&self.token)
-    }
-
-    /// Whether stamp and position are the same. A position has one item.
+    /// Whether stamp and position are the same. A position was given for one item.
     fn same_position(&self, other: &Shelved<'a, V>) -> bool
         ensures same { result ≡ is_same_position self.now other.now }
         ensures shows { IsTrue result → self.now.2 ≡ other.now.2 }
     {
         if self.stamp == other.stamp && self.token.index() == other.token.index() {
-            self.items.agrees(&self.token, &other.token);
+            self.shelf.agrees(&self.token, &other.token);
             true
         } else {
             false
@@ -84,14 +84,14 @@ impl<'a, V: Shelving> Version for Shelved<'a, V> {
 
     ghost is_same = { is_same_position };
 
-    ghost seals = { V.seals };
+    ghost seals = { V.shelves };
 
     ghost numbers = { numbers_by shelved_code };
 
     ghost told_apart = { told_by shelved_code };
 
     fn item(&self) -> &Item {
-        self.item_there()
+        &self.item
     }
 
     fn same(&self, other: &Shelved<'a, V>) -> bool {
@@ -102,9 +102,21 @@ impl<'a, V: Shelving> Version for Shelved<'a, V> {
         Ok(Shelved {
             stamp: self.stamp,
             token: self.token.again(),
-            items: self.items,
+            shelf: self.shelf,
+            item: Arc::try_clone(&self.item)?,
             name: PhantomData,
         })
+    }
+
+    fn into_item(self) -> Option<Arc<Item>> {
+        let Shelved {
+            stamp: _,
+            token: _,
+            shelf: _,
+            item,
+            name: _,
+        } = self;
+        Some(item)
     }
 
     ghost same_itself = { same_position };
@@ -112,29 +124,25 @@ impl<'a, V: Shelving> Version for Shelved<'a, V> {
     ghost same_stamp = { same_position_stamp };
 }
 
-/// The store that puts each version on a shelf: a vector that others read meanwhile, and where it stays as long as the
-/// vector does.
+/// The store that gives each version and each seal a position on a shelf: a vector that only grows, and that says of each
+/// position, in proofs alone, what it was given for.
 ///
-/// Seals are positions in a vector of their own. The type V names the two vectors, so that versions of others are of another
-/// type. To put a version or a seal may wait for another thread that does the same, which is what the runtime R is for.
+/// The type V names the vector, so that versions of others are of another type. To put a version or a seal may wait for
+/// another thread that does the same, which is what the runtime R is for.
 pub struct Shelf<'a, V: Shelving, R> {
-    items: &'a boxcar::Vec<Arc<Item>>,
-    seals: Arc<Seals>,
+    shelf: &'a Arc<Seals>,
     rt: &'a R,
     name: PhantomData<V>,
-    ghost named: { items.now ≡ V.shelves },
-    ghost seals_named: { arc_value seals ≡ V.seals },
+    ghost named: { arc_value shelf.now ≡ V.shelves },
 }
 
 impl<'a, V: Shelving, R> Shelf<'a, V, R> {
-    /// The store over these vectors. It takes no memory.
-    pub fn new(items: &'a boxcar::Vec<Arc<Item>>, seals: Arc<Seals>, rt: &'a R) -> Shelf<'a, V, R>
-        requires items { items.now ≡ V.shelves }
-        requires seals { arc_value seals ≡ V.seals }
+    /// The store over this vector. It takes no memory.
+    pub fn new(shelf: &'a Arc<Seals>, rt: &'a R) -> Shelf<'a, V, R>
+        requires { arc_value shelf.now ≡ V.shelves }
     {
         Shelf {
-            items,
-            seals,
+            shelf,
             rt,
             name: PhantomData,
         }
@@ -144,8 +152,7 @@ impl<'a, V: Shelving, R> Shelf<'a, V, R> {
 impl<'a, V: Shelving, R> Drop for Shelf<'a, V, R> {
     fn drop(self) {
         let Shelf {
-            items: _,
-            seals: _,
+            shelf: _,
             rt: _,
             name: _,
         } = self;
@@ -153,24 +160,30 @@ impl<'a, V: Shelving, R> Drop for Shelf<'a, V, R> {
 }
 
 impl<'a, V: Shelving, R: Wait> Store for Shelf<'a, V, R> {
+    ghost use Rattle.std.specs.Prelude.{true};
+
     type Version = Shelved<'a, V>;
 
+    ghost makes_seals = { true };
+
     fn put(&mut self, position: usize, item: Arc<Item>) -> Result<Shelved<'a, V>, AllocError> {
-        let Ok(token) = self.items.push_shown(self.rt, item) else {
+        let tag = Tag::of::<Item, Contents>(&item);
+        let Ok(token) = self.shelf.push_shown(self.rt, tag) else {
             return Err(AllocError);
         };
         Ok(Shelved {
             stamp: position,
             token,
-            items: self.items,
+            shelf: self.shelf,
+            item,
             name: PhantomData,
         })
     }
 
     fn seal(&mut self, state: Tag) -> Result<Option<Seal<Shelved<'a, V>>>, AllocError> {
-        let Ok(token) = self.seals.push_shown(self.rt, state) else {
+        let Ok(token) = self.shelf.push_shown(self.rt, state) else {
             return Err(AllocError);
         };
-        Ok(Some(Seal::of(token, Arc::try_clone(&self.seals)?)))
+        Ok(Some(Seal::of(token, Arc::try_clone(self.shelf)?)))
     }
 }

@@ -12,7 +12,7 @@ use casa_engine::{Audit, DeskPass, Engine, EngineDesk, blank};
 use casa_flight::{Call, Reply};
 use casa_history::{History, Holds, Settled, Torn};
 use casa_shelf::{Seals, Shelf, Shelving};
-use casa_view::{Copies, Item, Store};
+use casa_view::{Copies, Store};
 use growths_of_sessions::try_session;
 use std::alloc::Global;
 use std::cell::Cell;
@@ -252,21 +252,19 @@ fn on_store<K: Store, L: Ledger, R: Threads + Wait + Sync, I: Read>(
     told_end(seen, &history, desks, settled, again.get())
 }
 
-/// The same over the shelf of these vectors.
+/// The same over this shelf.
 fn on_shelf<V: Shelving, L: Ledger, R: Threads + Wait + Sync, I: Read>(
     rt: &R,
     alloc: Global,
-    items: &boxcar::Vec<Arc<Item>>,
-    seals: Arc<Seals>,
+    shelf: &Arc<Seals>,
     blank: Blank,
     reader: &mut I,
     plan: Plan<'_>,
 ) -> Result<Seen, Fault>
-    requires items { items.now ≡ V.shelves }
-    requires seals { arc_value seals ≡ V.seals }
+    requires shelf { arc_value shelf.now ≡ V.shelves }
     requires ledger { IsBlankOf L.name L.parts blank.name blank.parts }
 {
-    let shelf: Shelf<V, R> = Shelf::new(items, seals, rt);
+    let shelf: Shelf<V, R> = Shelf::new(shelf, rt);
     on_store::<Shelf<V, R>, L, R, I>(rt, alloc, shelf, blank, reader, plan)
 }
 
@@ -287,16 +285,13 @@ fn over_shelf<R: Threads + Wait + Sync, I: Read>(
     reader: &mut I,
     plan: Plan<'_>,
 ) -> Result<Seen, Fault> {
-    let Ok(items) = boxcar::Vec::new(alloc) else {
-        return Err(Fault::NoSetUp);
-    };
     let Ok(none) = boxcar::Vec::new(alloc) else {
         return Err(Fault::NoSetUp);
     };
-    let Ok(seals) = Arc::new(alloc, none) else {
+    let Ok(shelf) = Arc::new(alloc, none) else {
         return Err(Fault::NoSetUp);
     };
-    on_shelf::<Brand, Brand, R, I>(rt, alloc, &items, seals, blank(), reader, plan)
+    on_shelf::<Brand, Brand, R, I>(rt, alloc, &shelf, blank(), reader, plan)
 }
 
 /// What comes of a deed on a new engine.

@@ -2,7 +2,7 @@ use Rattle.std.specs.Arc.{arc_value}
 use Rattle.casa_app.proofs.serving.serve_desks.Given as goal
 
 abbrev pub ghosts-serve_on-V-Shelving : goal.ghosts-serve_on-V-Shelving
-ghosts-serve_on-V-Shelving g a = record { shelves = a.items.now; seals = arc_value a.seals }
+ghosts-serve_on-V-Shelving g a = record { shelves = arc_value a.shelf.now }
 
 abbrev pub ghosts-serve_on-L-Ledger : goal.ghosts-serve_on-L-Ledger
 ghosts-serve_on-L-Ledger g a = record { name = a.blank.name; parts = a.blank.parts }

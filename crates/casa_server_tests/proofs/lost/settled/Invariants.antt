@@ -2,7 +2,7 @@ use Rattle.std.specs.Arc.{arc_value}
 use Rattle.casa_server_tests.proofs.lost.settled.Given as goal
 
 abbrev pub ghosts-settled_on-V-Shelving : goal.ghosts-settled_on-V-Shelving
-ghosts-settled_on-V-Shelving g a = record { shelves = a.items.now; seals = arc_value a.seals }
+ghosts-settled_on-V-Shelving g a = record { shelves = arc_value a.shelf.now }
 
 abbrev pub ghosts-settled_on-L-Ledger : goal.ghosts-settled_on-L-Ledger
 ghosts-settled_on-L-Ledger g a = record { name = a.blank.name; parts = a.blank.parts }

@@ -2,7 +2,7 @@ use Rattle.std.specs.Arc.{arc_value}
 use Rattle.casa_server_tests.proofs.serving.play.Given as goal
 
 abbrev pub ghosts-play_on-V-Shelving : goal.ghosts-play_on-V-Shelving
-ghosts-play_on-V-Shelving g a = record { shelves = a.items.now; seals = arc_value a.seals }
+ghosts-play_on-V-Shelving g a = record { shelves = arc_value a.shelf.now }
 
 abbrev pub ghosts-play_on-L-Ledger : goal.ghosts-play_on-L-Ledger
 ghosts-play_on-L-Ledger g a = record { name = a.blank.name; parts = a.blank.parts }

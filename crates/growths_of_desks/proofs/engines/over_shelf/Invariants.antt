@@ -2,7 +2,7 @@ use Rattle.std.specs.Arc.{arc_value}
 use Rattle.growths_of_desks.proofs.engines.over_shelf.Given as goal
 
 abbrev pub ghosts-on_shelf-V-Shelving : goal.ghosts-on_shelf-V-Shelving
-ghosts-on_shelf-V-Shelving g a = record { shelves = a.items.now; seals = arc_value a.seals }
+ghosts-on_shelf-V-Shelving g a = record { shelves = arc_value a.shelf.now }
 
 abbrev pub ghosts-on_shelf-L-Ledger : goal.ghosts-on_shelf-L-Ledger
 ghosts-on_shelf-L-Ledger g a = record { name = a.blank.name; parts = a.blank.parts }
