@@ -14,7 +14,7 @@ use casa_desk::Desk;
 use casa_flight::{Call, Key, RegId, Regulation, Reply, Row};
 use casa_history::Receipt;
 use casa_list::{SharedList, SlotList};
-use casa_plan::Direct;
+use casa_plan::Recalling;
 use casa_time::Moment;
 use casa_view::{Board, Copies};
 use std::alloc::{AllocError, Global};
@@ -46,6 +46,7 @@ const DESK: u32 = 0;
 /// Contracts see it as the calls that it has answered.
 pub struct Lone {
     room: Room<Board<Copies>>,
+    gate: Recalling,
 }
 
 impl Model for Lone {
@@ -64,7 +65,7 @@ impl Model for Lone {
 
 impl Drop for Lone {
     fn drop(self) {
-        let Lone { room: _ } = self;
+        let Lone { room: _, gate: _ } = self;
     }
 }
 
@@ -75,7 +76,10 @@ impl Lone {
     {
         let mut room = Room::new(alloc, Board::new(alloc, Copies::new())?, ROOM);
         match room.open_desk() {
-            Ok(_) => Ok(Lone { room }),
+            Ok(_) => {
+                let gate = Recalling::new(alloc);
+                Ok(Lone { room, gate })
+            }
             Err(_) => Err(AllocError),
         }
     }
@@ -140,7 +144,7 @@ impl Lone {
         ensures err { OnErr result (self.new ≡ self.old) }
         ensures foreign { result ≢ Err CallFault.ForeignPass }
     {
-        let Ok(receipt) = self.room.answer(alloc, DESK, call, &Direct) else {
+        let Ok(receipt) = self.room.answer(alloc, DESK, call, &self.gate) else {
             return Err(CallFault::NoMemory);
         };
         Ok(receipt)
