@@ -1,4 +1,4 @@
--- to believe, in part (request, Asks, AreRefused): what a task and a refusal of the words say
+-- inner contracts: what a task and a refusal of the words say
 use Rattle.std.specs.Prelude.{◌≡◌, ℕ, pos, List, Option, Some, Result, Ok, Err, IfSome, IsSome, [], true, codes, is_some, option_map}
 use Rattle.clap.specs.Kinds.{HasKind}
 use Rattle.clap.specs.Words.{IsSignedIn, Row, fault_of, one_of, without_minus, subcommand_of, subcommand_rows_of}
@@ -11,6 +11,7 @@ use Rattle.casa_cli.specs.declared.tasks.Task.TheVariants.{Run, Report, Load, Su
 use Rattle.casa_cli.specs.declared.tasks.TaskFault.{TaskFault}
 use Rattle.casa_cli.specs.declared.tasks.TaskFault.TheVariants.{Words, BadReg, BadKey, BadDay}
 
+-- to believe: the request that a task is, as the words tell it
 abbrev pub request : Task → Request
 request Run = run
 request (Report reg day) = report reg (date_parts day)
@@ -19,11 +20,11 @@ request (Summary day) = summary (date_parts day)
 request (Why key day) = why key (date_parts day)
 request (Serve port connections turns day) = serve port connections turns (option_map date_parts day)
 
--- the words ask for this task
+-- to believe: the words ask for this task
 abbrev pub Asks : List Text → Task → Type 0
 Asks words task = request_of words ≡ Some (Ok (request task))
 
--- they are refused by this fault: by clap for what is wrong with them, or since it has no memory; or for a value
+-- to believe: they are refused by this fault: by clap for what is wrong with them, or since it has no memory; or for a value
 abbrev pub AreRefused : List Text → TaskFault → Type 0
 AreRefused words (Words error) = HasKind (fault_of whole_app words) error
 AreRefused words BadReg = request_of words ≡ Some (Err wrong_reg)

@@ -34,13 +34,14 @@ pub record IsAuditOf (ls : List Listing) (audit : Audit) : Type 0 where
   pub lists : audit.lists ≡ length ls
   pub delay : audit.delay ≡ sum_by delays ls
 
--- the delay of flight number n of a list, in the order in which it tells them; 0 where there is none
+-- inner: the delay of flight number n of a list, in the order in which it tells them; 0 where there is none
 abbrev pub delay_at : Listing → ℕ → ℕ
 delay_at l n = option_map_or (λ (f : Comp × Standing). delay_in l f.0.key) (slice_get (standings l) n) 0
 
--- the same of a flight by its list and its number there; and of several, added up
+-- inner: the same of a flight by its list and its number there; and of several, added up
 abbrev pub numbered_delay : Bor SlotList × ℕ → ℕ
 numbered_delay f = delay_at f.0.now f.1
 
+-- inner: the same of several, added up
 abbrev pub numbered_delays : List (Bor SlotList × ℕ) → ℕ
 numbered_delays fs = sum_by numbered_delay fs

@@ -62,10 +62,11 @@ impl<K: Store, L: Ledger, G: Gate<Board<K>> + Drop> SharedRoom<Board<K>, L, G> {
         Ok(SharedRoom::over(alloc, board, blank, number, gate))
     }
 
-    /// How many regulations are open, and the sum of the delays of the flights that they govern. `AllocError` where there
-    /// is no memory for it.
+    /// How many regulations are open, and the sum of the delays of the flights that they govern, after some history of a
+    /// single thread. `AllocError` where there is no memory for it.
     ///
-    /// The lists are shared under the lock and their delays added without it, by several threads.
+    /// The lists are shared under the lock and their delays added without it, by several threads. That the history is the
+    /// engine's present one, no contract says.
     pub fn audit<R: Threads + Wait + Sync>(&self, rt: &R) -> Result<Audit, AllocError>
         ensures { IfOk result (λ audit. (history : List (Entry Call Reply)) × IsSequential history
             × IsAuditOf (lists_in (state_after history)) audit) }

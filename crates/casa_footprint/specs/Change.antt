@@ -1,4 +1,4 @@
--- inner contracts: when a change says what a call writes
+-- to believe: when a change says what a call writes
 use Rattle.std.specs.Prelude.{◌≡◌, Option, None, Some, if◌then◌else◌}
 use Rattle.casa_flight.specs.declared.call.Call.{Call}
 use Rattle.casa_flight.specs.declared.state.State.{State}

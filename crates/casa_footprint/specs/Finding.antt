@@ -13,7 +13,7 @@ use Rattle.casa_flight.specs.Entry.{is_to_issue}
 abbrev pub crossed : FlightPlan → List Regulation → List (Text × ℕ)
 crossed plan rs = filter_map (λ (r : Regulation). option_map (λ (eto : ℕ). (r.id, eto)) (subject plan r)) rs
 
--- the keys of the flights that are governed, due and not issued, in the order of the rows
+-- to believe: the keys of the flights that are governed, due and not issued, in the order of the rows
 abbrev pub due_keys : ℕ → List (Text × Row) → List Text
 due_keys at rows = filter_map (λ (e : Text × Row). if is_to_issue at e.1 then Some e.0 else None) rows
 

@@ -1,4 +1,4 @@
--- to believe, in part (ItemName): the items of a state, and what each contains
+-- to believe: the items of a state, and what each contains
 use Rattle.std.specs.Prelude.{◌≡◌, ℕ, List, Bool, true, false, Option}
 use Rattle.casa_filing.specs.declared.regulation.Regulation.{Regulation}
 use Rattle.casa_flight.specs.declared.row.Row.{Row}
@@ -22,7 +22,7 @@ pub data Content : Type 0 where
   row_or_none : Option Row → Content
   list_or_none : Option Listing → Content
 
--- whether items have the same name
+-- inner: whether items have the same name
 abbrev pub is_item : ItemName → ItemName → Bool
 is_item the_clock the_clock = true
 is_item the_catalogue the_catalogue = true
@@ -37,6 +37,6 @@ contents m the_catalogue = regulations (catalogue m)
 contents m (a_row key) = row_or_none (row_of m key)
 contents m (a_list id) = list_or_none (list_of m id)
 
--- two states have the same contents of each item that passes the test
+-- inner: two states have the same contents of each item that passes the test
 abbrev pub AgreeOn : (ItemName → Bool) → State → State → Type 0
 AgreeOn test m n = (i : ItemName) → test i ≡ true → contents m i ≡ contents n i

@@ -17,7 +17,7 @@ IsWritten history later i =
     (k : ℕ) × (e : Entry Call Reply) × (slice_get later k ≡ Some e)
     × (writes (state_after (history ++ take k later)) e.call i ≡ true)
 
--- the item is an absent row before and after these entries
+-- inner: the item is an absent row before and after these entries
 abbrev pub IsAbsentStill : List (Entry Call Reply) → List (Entry Call Reply) → ItemName → Type 0
 IsAbsentStill history later i =
     (is_absent_row (state_after history) i ≡ true) × (is_absent_row (state_after (history ++ later)) i ≡ true)

@@ -18,7 +18,7 @@ abbrev pub IsSettled : {C R : Type 0} → ℕ → List (Entry C R) → List (Pas
 IsSettled d es ps =
     (passes_of d ps ≡ receipts_of d es ∷ []) ⊎ ((passes_of d ps ≡ []) × (receipts_of d es ≡ []))
 
--- a desk comes before the torn one, or there is no torn one
+-- inner: a desk comes before the torn one, or there is no torn one
 abbrev pub Precedes : ℕ → Option ℕ → Type 0
 Precedes d None = Unit {0}
 Precedes d (Some torn) = d < torn

@@ -80,7 +80,7 @@ total_delay lists = sum_by delay (filter is_governed (rows_of lists))
 abbrev pub lists_told : State → List ListReply
 lists_told m = map (λ (e : Text × Measure). list_reply m (regulation e.0 e.1) (listing m.rows e.0 e.1)) m.regs
 
--- the delays that the flights have that a list's regulation governs, added up
+-- inner: the delays that the flights have that a list's regulation governs, added up
 abbrev pub delays_in : Listing → ℕ
 delays_in l = sum_by (λ (e : Text × Stance). delay_in l e.0) (filter (λ (e : Text × Stance). governs (kind_of e.1)) l.flights)
 
@@ -95,7 +95,7 @@ cost_of_all lists = cost (sum_by (λ (list : ListReply). list.slots) lists) (row
 abbrev pub mean_delay : Cost → Option ℕ
 mean_delay cost = if cost.governed == 0 then None else Some (cost.delay / cost.governed)
 
--- each number of slots and flights is at most this
+-- inner: each number of slots and flights is at most this
 pub record AreAtMost (most : ℕ) (cost : Cost) : Type 0 where
   pub slots : cost.slots ≤ most
   pub governed : cost.governed ≤ most

@@ -51,17 +51,18 @@ regulations_in v = unwrap_or v.catalogue []
 abbrev pub situation_in : Sight → Situation
 situation_in v = record { clock = clock_in v; regulations = regulations_in v; lists = list_in v }
 
--- what a change writes: the clock, the catalogue, and rows and lists by their names, or that there is none
+-- to believe: what a change writes: the clock, the catalogue, and rows and lists by their names, or that there is none
 pub record Written : Type 0 where
   pub clock : Option ℕ
   pub catalogue : Option (List Regulation)
   pub rows : List (Text × Option Row)
   pub lists : List (Text × Option Listing)
 
+-- to believe: nothing
 abbrev pub nothing_written : Written
 nothing_written = record { clock = None; catalogue = None; rows = []; lists = [] }
 
--- what a change says of an item, if it says anything
+-- to believe: what a change says of an item, if it says anything
 abbrev pub says : Written → ItemName → Option Content
 says w the_clock = option_map moment w.clock
 says w the_catalogue = option_map regulations w.catalogue

@@ -29,7 +29,7 @@ greatest steps = fold (λ n (s : Step). max n (max s.planned (max s.slots s.calc
 abbrev pub each_of : List Step → ℕ
 each_of steps = max 1 (div_ceil (greatest steps) longest_bar)
 
--- whether no bar of a step is longer, where a character stands for so many flights
+-- inner: whether no bar of a step is longer, where a character stands for so many flights
 abbrev pub IsShort : ℕ → Step → Type 0
 IsShort each s =
     (s.planned ≤ longest_bar * each) × (s.slots ≤ longest_bar * each) × (s.calculated ≤ longest_bar * each)

@@ -79,7 +79,7 @@ holding_columns =
     record { title = codes "ETO"; place = left 4; shown = λ holding. eto_in holding.holder } ∷
     record { title = codes "HELD"; place = left 0; shown = λ holding. stance_in holding.holder } ∷ []
 
--- what a line says of who has a slot, behind its number and its begin
+-- inner: what a line says of who has a slot, behind its number and its begin
 abbrev pub holder_text : Option (Text × Stance) → Text
 holder_text holder = left 10 (key_in holder) ++ 32 ∷ (left 4 (eto_in holder) ++ 32 ∷ (left 0 (stance_in holder) ++ 10 ∷ []))
 

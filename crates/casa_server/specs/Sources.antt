@@ -1,4 +1,4 @@
--- inner contracts: sources of connections
+-- to believe: sources of connections
 use Rattle.std.specs.Prelude.{◌≡◌, List, ◌++◌, Option, None, Some, ⊤}
 
 -- of the connections that are known to come these are the first, and the others are left

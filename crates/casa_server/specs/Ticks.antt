@@ -24,7 +24,7 @@ abbrev pub is_answered : Reply → Bool
 is_answered (Refused r) = false
 is_answered (Answered a ms) = true
 
--- a desk that had the receipts a has b: one more, that of the tick to a moment, which was accepted or not
+-- inner: a desk that had the receipts a has b: one more, that of the tick to a moment, which was accepted or not
 pub record TicksTo (at : ℕ) (a b : Receipts) (is_accepted : Bool) : Type 0 where
   pub receipt : Receipt Call Reply
   pub grows : b ≡ a ++ receipt ∷ []

@@ -14,7 +14,7 @@ use Rattle.casa_session.specs.Lines.{ended_lines, lines_of, has_too_long}
 use Rattle.casa_session.specs.Played.{calls_in, only_desk, sequential_history, receipts_after}
 use Rattle.casa_session.specs.Transcript.{calls, transcript}
 
--- a room is that of one desk: this is open, and the history is the one of its calls
+-- inner: a room is that of one desk: this is open, and the history is the one of its calls
 pub record IsAlone {W V D : Type 0} {world : WorldOf W Call V D Reply} (room : Room W Call V D Reply world) : Type 0 where
   pub is_open : only_desk < open_desks room
   pub history : entries_of room ≡ sequential_history empty (calls_in (entries_of room))
