@@ -1,11 +1,8 @@
 //! What comes of workers whose events are interleaved.
 
-use crate::played::{called, comes_to};
-use casa_flight::{Key, RegId};
-use casa_grid::Place;
-use casa_view::Copies;
+use crate::played::comes_to;
+use casa_world::Event;
 use casa_world::Event::{Abandon, Commit, Compute, Read};
-use casa_world::{Event, play};
 
 /// The opening of a regulation at LA with ten slots, and of one at LB with four.
 const OPEN_R1: &str =
@@ -330,24 +327,4 @@ clock 0
 1 {"done":true,"msgs":[],"n":4}
 "#;
     comes_to(&rt, rt.alloc(), &EXTENDED, told);
-}
-
-/// B is filed later, and planned earlier.
-#[test]
-fn competitors_of_a_run_have_their_places(rt: HostRuntime) {
-    let mut events = Vec::new(rt.alloc());
-    for line in [OPEN_R1, FILE_A, FILE_B] {
-        for event in [Read(0, line), Compute(0), Commit(0)] {
-            let event = called(&rt, rt.alloc(), &event);
-            events.push(event).expect(&rt, "memory");
-        }
-    }
-    let run = play(rt.alloc(), Copies::new(), events.as_slice()).expect(&rt, "memory");
-    let reg = RegId::new(b"R1").expect(&rt, "an identifier");
-    for (n, text, slot) in [(0, b"B", 0), (1, b"A", 1)] {
-        let one = run.competitor(&reg, n).expect(&rt, "a competitor");
-        assert!(&rt; Some(one.comp.key) == Key::new(text) && one.place == Place::Slot(slot));
-    }
-    let other = RegId::new(b"R2").expect(&rt, "an identifier");
-    assert!(&rt; run.competitor(&reg, 2).is_none() && run.competitor(&other, 0).is_none());
 }

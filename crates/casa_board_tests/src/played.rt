@@ -16,7 +16,7 @@ use std::process::Abort;
 use std::sync::{Arc, Wait};
 
 /// The event whose call a command line is.
-pub fn called(rt: &impl Abort, alloc: Global, event: &Event<&str>) -> Event<Call> {
+fn called(rt: &impl Abort, alloc: Global, event: &Event<&str>) -> Event<Call> {
     match event {
         Event::Read(worker, line) => Event::Read(*worker, call_of(rt, alloc, line)),
         Event::Compute(worker) => Event::Compute(*worker),
