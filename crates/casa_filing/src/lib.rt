@@ -9,4 +9,4 @@ mod shared;
 pub use name::{Key, Loc, Name, OfFlight, OfLocation, OfRegulation, RegId};
 pub use plan::{Crossing, Plan, PlanFault, Sts};
 pub use regulation::{MAX_REGULATIONS, Measure, Regulation};
-pub use shared::SharedSlice;
+pub use shared::{Shared, SharedSlice};

@@ -9,10 +9,10 @@ ghost use Rattle.casa_filing.specs.Subject.{covered};
 
 use crate::name::{Key, Loc, is_name};
 use crate::regulation::Regulation;
+use crate::shared::Shared;
 use casa_time::{Moment, due};
 use std::alloc::{AllocError, Global};
 use std::marker::Model;
-use std::sync::ArcSlice;
 use thiserror::Error;
 
 /// The special status of a flight, by its plan's STS indicator. Every one but `Plain` exempts it.
@@ -47,36 +47,35 @@ pub struct Crossing {
 
 /// A flight plan: its key, off-block time, taxi time in seconds, crossings and status.
 ///
-/// Contracts see a plan as the record of these, with the crossings as a list, which copies share.
+/// Contracts see a plan as the record of these, with the crossings as a list. Copies share all of it.
 #[derive(Debug)]
 pub struct Plan {
+    parts: Shared<PlanParts>,
+}
+
+/// What a plan and its copies have in common.
+#[derive(Debug, Drop)]
+struct PlanParts {
     key: Key,
+    sts: Sts,
     eobt: Moment,
     taxi: u32,
-    via: ArcSlice<Crossing>,
-    sts: Sts,
+    via: Vec<Crossing>,
 }
 
 impl Model for Plan {
-    ghost use Rattle.std.specs.Arc.{arc_slice_items};
     ghost use Rattle.casa_filing.specs.FlightPlan.{FlightPlan, IsValid};
 
     ghost Value = { FlightPlan };
 
-    ghost view = { λ p. record { key = p.key; eobt = p.eobt; taxi = p.taxi; via = arc_slice_items p.via; sts = p.sts } };
+    ghost view = { λ p. record { key = p.parts.key; eobt = p.parts.eobt; taxi = p.parts.taxi; via = p.parts.via.items; sts = p.parts.sts } };
 
-    ghost invariant = { λ p. IsValid p.eobt p.taxi (arc_slice_items p.via) };
+    ghost invariant = { λ p. IsValid p.parts.eobt p.parts.taxi p.parts.via.items };
 }
 
 impl Drop for Plan {
     fn drop(self) {
-        let Plan {
-            key: _,
-            eobt: _,
-            taxi: _,
-            via: _,
-            sts: _,
-        } = self;
+        let Plan { parts: _ } = self;
     }
 }
 
@@ -189,44 +188,46 @@ impl Plan {
         let Some(key) = Key::new(key) else {
             return Err(PlanFault::BadKey);
         };
-        let Ok(via) = ArcSlice::from_vec(via) else {
-            return Err(PlanFault::NoMemory);
-        };
-        Ok(Plan {
+        let alloc = *via.allocator();
+        let parts = PlanParts {
             key,
+            sts,
             eobt,
             taxi,
             via,
-            sts,
-        })
+        };
+        let Ok(parts) = Shared::new(alloc, parts) else {
+            return Err(PlanFault::NoMemory);
+        };
+        Ok(Plan { parts })
     }
 
     /// The flight's key.
     pub fn key(&self) -> Key
         ensures { result ≡ self.now.key }
     {
-        self.key
+        self.parts.key
     }
 
     /// The estimated off-block time.
     pub fn eobt(&self) -> Moment
         ensures { result ≡ self.now.eobt }
     {
-        self.eobt
+        self.parts.eobt
     }
 
     /// The taxi time, in seconds.
     pub fn taxi(&self) -> u32
         ensures { result ≡ self.now.taxi }
     {
-        self.taxi
+        self.parts.taxi
     }
 
     /// The special status.
     pub fn sts(&self) -> Sts
         ensures { result ≡ self.now.sts }
     {
-        self.sts
+        self.parts.sts
     }
 
     /// The estimated take-off time, in seconds from midnight UTC: off-block and taxi.
@@ -234,28 +235,24 @@ impl Plan {
         ensures value { result ≡ etot self.now }
         ensures in_range { result ≤ last_moment }
     {
-        let eobt = self.eobt.secs();
-        eobt + self.taxi
+        let eobt = self.parts.eobt.secs();
+        eobt + self.parts.taxi
     }
 
     /// The crossings.
     pub fn via(&self) -> &[Crossing]
         ensures { result.now ≡ self.now.via }
     {
-        self.via.as_slice()
+        self.parts.via.as_slice()
     }
 
-    /// The same plan, whose crossings the copy shares: it takes no memory of its own. `AllocError` where they are shared
-    /// too often to be counted.
+    /// The same plan, which the copy shares: it takes no memory of its own. `AllocError` where it is shared too often to be
+    /// counted.
     pub fn try_clone(&self) -> Result<Plan, AllocError>
         ensures { IfOk result (λ p. p ≡ self.now) }
     {
         Ok(Plan {
-            key: self.key,
-            eobt: self.eobt,
-            taxi: self.taxi,
-            via: self.via.clone()?,
-            sts: self.sts,
+            parts: self.parts.try_clone()?,
         })
     }
 }
@@ -268,7 +265,7 @@ impl Plan {
     pub fn is_due(&self, clock: Moment) -> bool
         ensures { result ≡ is_due clock self.now }
     {
-        due(clock, self.eobt)
+        due(clock, self.parts.eobt)
     }
 
     /// Whether a flight with this plan is gone by the clock: its estimated take-off is before that.
@@ -323,11 +320,11 @@ impl PartialEq for Plan {
     ghost laws = { partial_equiv_from_equiv plan_eq_laws };
 
     fn eq(&self, other: &Plan) -> bool {
-        self.key == other.key
-            && self.eobt == other.eobt
-            && self.taxi == other.taxi
-            && self.via.as_slice() == other.via.as_slice()
-            && self.sts == other.sts
+        self.key() == other.key()
+            && self.eobt() == other.eobt()
+            && self.taxi() == other.taxi()
+            && self.via() == other.via()
+            && self.sts() == other.sts()
     }
 }
 

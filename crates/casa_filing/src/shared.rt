@@ -1,8 +1,85 @@
 ghost use Rattle.std.specs.Prelude.{◌≡◌, IfOk};
 
-use std::alloc::AllocError;
+use std::alloc::{AllocError, Global};
+use std::fmt;
 use std::marker::Model;
-use std::sync::ArcSlice;
+use std::ops::Deref;
+use std::sync::{Arc, ArcSlice};
+
+/// A value that copies share by reference count, and so is never changed.
+///
+/// Contracts see it as the value, and a reference to it is one to the value.
+pub struct Shared<T> {
+    value: Arc<T>,
+}
+
+impl<T> Model for Shared<T> {
+    ghost use Rattle.std.specs.Arc.{arc_value};
+
+    ghost Value = { T };
+
+    ghost view = { λ s. arc_value s.value };
+}
+
+impl<T: Drop> Drop for Shared<T> {
+    fn drop(self) {
+        let Shared { value: _ } = self;
+    }
+}
+
+impl<T: fmt::Debug> fmt::Debug for Shared<T> {
+    /// Shows the value.
+    fn fmt<W: fmt::Write>(&self, f: &mut fmt::Formatter<W>) -> fmt::Result {
+        fmt::Debug::fmt(&*self.value, f)
+    }
+}
+
+impl<T> Deref for Shared<T> {
+    type Target = T;
+
+    ghost deref_gives = { λ shared value. value ≡ shared };
+
+    fn deref(&self) -> &T
+        ensures { result.now ≡ self.now }
+    {
+        &self.value
+    }
+}
+
+impl<T: Drop> Shared<T> {
+    /// The value, to be shared, or `AllocError` where there is no memory for that.
+    pub fn new(alloc: Global, value: T) -> Result<Shared<T>, AllocError>
+        ensures { IfOk result (λ shared. shared ≡ value) }
+    {
+        Ok(Shared {
+            value: Arc::new(alloc, value)?,
+        })
+    }
+
+    /// The same value, which the copy shares: it takes no memory of its own. `AllocError` where it is shared too often to
+    /// be counted.
+    pub fn try_clone(&self) -> Result<Shared<T>, AllocError>
+        ensures { IfOk result (λ copy. copy ≡ self.now) }
+    {
+        Ok(Shared {
+            value: Arc::try_clone(&self.value)?,
+        })
+    }
+}
+
+impl<T: PartialEq> PartialEq for Shared<T> {
+    ghost eq = { T.eq };
+
+    ghost laws = { T.PartialEq.laws };
+
+    fn eq(&self, other: &Shared<T>) -> bool {
+        *self.value == *other.value
+    }
+}
+
+impl<T: Eq> Eq for Shared<T> {
+    ghost laws = { T.Eq.laws };
+}
 
 /// Values in their order, which copies share by reference count; no values take no memory.
 ///

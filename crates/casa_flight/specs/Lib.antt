@@ -1,5 +1,6 @@
 pub mod Refusals
 pub mod State
+pub mod SlotNumbers
 pub mod Assignment
 pub mod Listing
 pub mod Entry

@@ -11,13 +11,14 @@ mod offer;
 mod order;
 mod reply;
 mod row;
+mod slot;
 mod span;
 mod state;
 
 pub use call::{Call, Refusal};
 pub use casa_filing::{
     Crossing, Key, Loc, MAX_REGULATIONS, Measure, Name, OfFlight, OfLocation, OfRegulation, Plan,
-    PlanFault, RegId, Regulation, SharedSlice, Sts,
+    PlanFault, RegId, Regulation, Shared, SharedSlice, Sts,
 };
 pub use comp::{Assigned, Comp};
 pub use equality::{call_equality, reply_equality, row_equality};
@@ -27,5 +28,6 @@ pub use reply::{
     Answer, FlightReply, Kind, ListReply, ListRow, Message, Messages, Reply, Rows, slot_number,
 };
 pub use row::{Row, Stance, is_issued, subject};
+pub use slot::SlotNumber;
 pub use span::{ends_later, keeps_span};
 pub use state::State;

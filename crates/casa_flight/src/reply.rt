@@ -4,7 +4,8 @@ ghost use Rattle.casa_flight.specs.Replies.{flight_with, message_of, slot_number
 
 use crate::call::Refusal;
 use crate::row::Row;
-use casa_filing::{Key, Loc, RegId, SharedSlice};
+use crate::slot::SlotNumber;
+use casa_filing::{Key, Loc, RegId, Shared, SharedSlice};
 use casa_grid::Place;
 use casa_time::Moment;
 use std::alloc::AllocError;
@@ -21,7 +22,7 @@ pub enum Reply {
 pub enum Answer {
     Done,
     Flight(FlightReply),
-    List(ListReply),
+    List(Shared<ListReply>),
 }
 
 /// A flight as it stands after the call. Times are in seconds from midnight UTC.
@@ -65,7 +66,7 @@ pub struct ListRow {
     pub cto: u32,
     pub kind: Kind,
     /// The slot of a competitor, or the slot whose window holds an issued time.
-    pub slot: Option<usize>,
+    pub slot: SlotNumber,
 }
 
 /// How a flight stands in a list.
@@ -151,8 +152,8 @@ impl Message {
 }
 
 impl ListReply {
-    /// The same list; rows and messages are shared, so that it takes no memory of its own. `AllocError` where they are
-    /// shared too often to be counted.
+    /// The same list; its rows are shared, so that it takes no memory of its own. `AllocError` where they are shared too
+    /// often to be counted.
     pub fn try_clone(&self) -> Result<ListReply, AllocError>
         ensures { IfOk result (λ copy. copy ≡ self.now) }
     {
@@ -168,8 +169,8 @@ impl ListReply {
 }
 
 impl Answer {
-    /// The same answer; rows and messages are shared, so that it takes no memory of its own. `AllocError` where they are
-    /// shared too often to be counted.
+    /// The same answer; a list is shared, so that it takes no memory of its own. `AllocError` where it is shared
+    /// too often to be counted.
     pub fn try_clone(&self) -> Result<Answer, AllocError>
         ensures { IfOk result (λ copy. copy ≡ self.now) }
     {
@@ -182,7 +183,7 @@ impl Answer {
 }
 
 impl Reply {
-    /// The same reply; rows and messages are shared, so that it takes no memory of its own. `AllocError` where they are
+    /// The same reply; list and messages are shared, so that it takes no memory of its own. `AllocError` where they are
     /// shared too often to be counted.
     pub fn try_clone(&self) -> Result<Reply, AllocError>
         ensures { IfOk result (λ copy. copy ≡ self.now) }

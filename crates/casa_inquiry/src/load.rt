@@ -7,7 +7,7 @@ ghost use Rattle.casa_grid.specs.Profile.{IsProfile, start_of};
 ghost use Rattle.casa_grid.specs.Slots.{slots};
 ghost use Rattle.casa_flight.specs.declared.reply.ListRow.{ListRow};
 ghost use Rattle.casa_inquiry.specs.declared.load.Step.{Step};
-ghost use Rattle.casa_inquiry.specs.Load.{begins, is_in, span_after, span_at, step, step_count, steps};
+ghost use Rattle.casa_inquiry.specs.Load.{begins, is_in, span_at, step, step_count, steps};
 
 use casa_flight::ListRow;
 use casa_grid::{Grid, Profile};
@@ -66,7 +66,12 @@ impl Load {
         'steps: for k in 0..count {
             steps.push(count_step(&begins, rows, span_at(profile, secs, k)))?;
         }
-        steps.push(count_step(&begins, rows, span_after(profile)))?;
+        let (_start, end) = profile.span();
+        let after = Span {
+            from: end,
+            until: None,
+        };
+        steps.push(count_step(&begins, rows, after))?;
         Ok(Load {
             steps,
             flights: rows.len(),
@@ -119,17 +124,6 @@ fn span_at(profile: &Profile, secs: usize, k: usize) -> Span
     Span {
         from: moment(from),
         until: Some(moment(until)),
-    }
-}
-
-/// When the regulation is over.
-fn span_after(profile: &Profile) -> Span
-    ensures { result ≡ span_after profile.now }
-{
-    let (_start, end) = profile.span();
-    Span {
-        from: end,
-        until: None,
     }
 }
 

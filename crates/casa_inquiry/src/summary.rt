@@ -134,7 +134,7 @@ fn over(rows: &[ListRow]) -> usize
     ensures { result ≡ count is_over rows.now }
 {
     rows.iter()
-        .filter(|row| governs(row.kind) && row.slot.is_none())
+        .filter(|row| governs(row.kind) && row.slot.get().is_none())
         .count()
 }
 

@@ -52,7 +52,7 @@ fn are_equal(list: &SlotList, reply: &ListReply) -> bool {
     let rows = reply.rows.as_slice();
     rows.len() == list.governed()
         && rows.iter().all(|row| {
-            let slot = row.slot.map_or(Place::Over, Place::Slot);
+            let slot = row.slot.get().map_or(Place::Over, Place::Slot);
             list.place_of(&row.key) == Some(slot)
                 && list.cto_of(&row.key).map(|cto| cto.secs()) == Some(row.cto)
         })

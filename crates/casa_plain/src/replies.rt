@@ -14,7 +14,7 @@ use crate::plain_list::PlainList;
 use crate::steps::Outcome;
 use casa_flight::{
     Answer, Call, FlightReply, Key, ListReply, ListRow, Message, Messages, RegId, Regulation,
-    Reply, Row, Rows, Stance, is_issued, slot_number, sort_rows,
+    Reply, Row, Rows, Shared, SlotNumber, Stance, is_issued, slot_number, sort_rows,
 };
 use casa_time::Moment;
 use std::alloc::{AllocError, Global};
@@ -120,7 +120,7 @@ impl Plain {
             eto: stance.eto(),
             cto,
             kind: stance.kind(),
-            slot,
+            slot: SlotNumber::of(slot)?,
         })
     }
 
@@ -172,7 +172,8 @@ impl Plain {
             return Ok(Answer::Done);
         };
         let list = PlainList::of(alloc, self.rows(), id, measure)?;
-        Ok(Answer::List(self.list_reply(alloc, &Regulation::of(id, measure), &list)?))
+        let reply = self.list_reply(alloc, &Regulation::of(id, measure), &list)?;
+        Ok(Answer::List(Shared::new(alloc, reply)?))
     }
 
     /// The answer to an accepted call, in the state that it led to.

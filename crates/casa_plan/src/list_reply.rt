@@ -16,8 +16,8 @@ use crate::flight_reply::delay_shown;
 use crate::replies::{no_messages, refused};
 use crate::shown::Shown;
 use casa_flight::{
-    Answer, Comp, Key, Kind, ListReply, ListRow, Refusal, RegId, Regulation, Reply, Rows,
-    slot_number, sort_rows,
+    Answer, Comp, Key, Kind, ListReply, ListRow, Refusal, RegId, Regulation, Reply, Rows, Shared,
+    SlotNumber, slot_number, sort_rows,
 };
 use casa_list::{SlotList, Standing};
 use casa_view::{Change, Version};
@@ -35,14 +35,14 @@ fn forced_delay<V: Version>(view: &Shown<V>, key: &Key) -> u32
     }
 }
 
-/// A flight as its list shows it, by how it stands there.
+/// A flight as its list shows it, by how it stands there. `AllocError` where there is no memory for the number of its slot.
 fn row_shown<V: Version>(
     view: &Shown<V>,
     list: &SlotList,
     comp: Comp,
     standing: Standing,
-) -> ListRow
-    ensures { result ≡ row_as view.now list.now comp standing }
+) -> Result<ListRow, AllocError>
+    ensures { IfOk result (λ row. row ≡ row_as view.now list.now comp standing) }
 {
     let (kind, cto, slot) = match standing {
         Standing::Pre(place) => {
@@ -55,13 +55,13 @@ fn row_shown<V: Version>(
             (Kind::Forced, comp.eto.secs() + delay, None)
         }
     };
-    ListRow {
+    Ok(ListRow {
         key: comp.key,
         eto: comp.eto,
         cto,
         kind,
-        slot,
-    }
+        slot: SlotNumber::of(slot)?,
+    })
 }
 
 /// The flights of a list as it shows them, in the order in which they stand there. `AllocError` where there is no memory
@@ -79,7 +79,8 @@ fn flights_shown<V: Version>(
     let mut rows = Vec::with_capacity(alloc, count)?;
     for n in 0..count {
         let (comp, standing) = list.nth(n).unwrap();
-        rows.push(row_shown(view, list, comp, standing))?;
+        let row = row_shown(view, list, comp, standing)?;
+        rows.push(row)?;
     }
     Ok(rows)
 }
@@ -130,7 +131,7 @@ pub(crate) fn list<V: Version>(
     let Some(list) = view.list(&id) else {
         return Ok(refused(alloc, Refusal::NoRegulation));
     };
-    let shown = list_shown(alloc, view, regulation, list)?;
+    let shown = Shared::new(alloc, list_shown(alloc, view, regulation, list)?)?;
     let reply = Reply::Answered(Answer::List(shown), no_messages(alloc)?);
     Ok((reply, Change::new(alloc)))
 }

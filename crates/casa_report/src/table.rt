@@ -50,7 +50,7 @@ fn row_line(row: &ListRow) -> Line
     push_time(&mut line, row.cto);
     push_number(&mut line, (row.cto - eto) as u128, 6, b' ');
     push_kind(&mut line, row.kind);
-    push_number_or_hyphen(&mut line, row.slot.map(|slot| slot as u128), 5, b'\n');
+    push_number_or_hyphen(&mut line, row.slot.get().map(|slot| slot as u128), 5, b'\n');
     line
 }
 

@@ -3,7 +3,7 @@
 use crate::parts::{equal, equal_at, key, loc, moment, over, period, profile, reg};
 use casa_flight::{
     Answer, Call, Crossing, FlightReply, Kind, ListReply, ListRow, Loc, Message, Messages, Plan,
-    Refusal, RegId, Reply, Rows, Sts,
+    Refusal, RegId, Reply, Rows, Shared, SlotNumber, Sts,
 };
 use casa_plain::Plain;
 use casa_time::Moment;
@@ -67,13 +67,13 @@ fn row(
         eto: moment(rt, eto),
         cto,
         kind,
-        slot,
+        slot: SlotNumber::of(slot).expect(rt, "memory"),
     }
 }
 
 /// The answer with the list of R1 that ends here and has so many slots and these rows.
 fn list(rt: &impl Abort, alloc: Global, end: u32, slots: usize, rows: &[ListRow]) -> Answer {
-    Answer::List(ListReply {
+    let list = ListReply {
         reg: reg(rt, b"R1"),
         loc: loc(rt, b"LA"),
         start: moment(rt, 36_000),
@@ -82,7 +82,8 @@ fn list(rt: &impl Abort, alloc: Global, end: u32, slots: usize, rows: &[ListRow]
         rows: Rows::from_vec(Vec::from_slice(alloc, rows).expect(rt, "memory")).expect(
             rt, "memory",
         ),
-    })
+    };
+    Answer::List(Shared::new(alloc, list).expect(rt, "memory"))
 }
 
 /// The calls of a day by number: R1 is opened, A and B are filed and listed, both are issued, and R1 is closed.

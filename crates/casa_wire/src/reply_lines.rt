@@ -346,7 +346,7 @@ fn push_row(out: &mut Vec<u8>, before: &'static [u8], row: &ListRow) -> Result<(
             Part::Text(b",\"kind\":"),
             Part::Name(kind_name(row.kind).as_bytes()),
             Part::Text(b",\"slot\":"),
-            number_or_null(row.slot),
+            number_or_null(row.slot.get()),
             Part::Text(b"}"),
         ],
     )

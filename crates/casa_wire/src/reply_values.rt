@@ -166,7 +166,7 @@ fn row_value(alloc: Global, row: &ListRow) -> Result<Value, AllocError>
     let (eto, cto) = (row.eto.secs(), row.cto);
     json!(in alloc; {
         "cto": cto, "eto": eto, "key": name_value(alloc, row.key.as_bytes())?,
-        "kind": kind_name(row.kind), "slot": optional_number_value(row.slot)
+        "kind": kind_name(row.kind), "slot": optional_number_value(row.slot.get())
     })
 }
 

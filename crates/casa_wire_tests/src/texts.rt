@@ -1,6 +1,7 @@
 use crate::parts::{key, loc, moment, reg};
 use casa_flight::{
     Answer, Call, FlightReply, Kind, ListReply, ListRow, Message, Messages, Refusal, Reply, Rows,
+    Shared, SlotNumber,
 };
 use casa_history::{Entry, Receipt, SharedEntry};
 use casa_wire::{
@@ -99,14 +100,14 @@ fn rows(rt: &impl Abort, alloc: Global) -> Rows {
         eto: moment(rt, 36_005),
         cto: 36_005,
         kind: Kind::Pre,
-        slot: Some(0),
+        slot: SlotNumber::of(Some(0)).expect(rt, "memory"),
     };
     let second = ListRow {
         key: key(rt, b"A"),
         eto: moment(rt, 36_010),
         cto: 36_310,
         kind: Kind::Forced,
-        slot: None,
+        slot: SlotNumber::of(None).expect(rt, "memory"),
     };
     let rows = vec![in alloc; first, second].expect(rt, "memory");
     Rows::from_vec(rows).expect(rt, "memory")
@@ -122,6 +123,7 @@ fn a_list_is_a_line(rt: HostRuntime) {
         slots: 10,
         rows: rows(&rt, rt.alloc()),
     };
+    let list = Shared::new(rt.alloc(), list).expect(&rt, "memory");
     let reply = Reply::Answered(Answer::List(list), messages(&rt, rt.alloc(), []));
     let line = line_of(&rt, rt.alloc(), reply, 4);
     assert!(&rt;

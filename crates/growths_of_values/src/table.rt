@@ -3,7 +3,7 @@
 ghost use Rattle.std.specs.Prelude.{◌≤◌, All, IsTrue};
 
 use crate::plain::plain_after;
-use casa_flight::{Answer, Call, ListReply, ListRow, RegId, Reply};
+use casa_flight::{Answer, Call, ListReply, ListRow, RegId, Reply, Shared};
 use casa_report::list_table;
 use std::alloc::{AllocError, Global};
 use trials::{Failure, SET_UP, Scenario, Subject};
@@ -14,7 +14,7 @@ const ROOM: usize = 10_000;
 /// A list, and the table of it that is written.
 #[derive(Drop)]
 pub struct Tabled {
-    list: ListReply,
+    list: Shared<ListReply>,
     table: Vec<u8>,
 }
 
@@ -41,7 +41,7 @@ impl Subject for Tabled {
 }
 
 /// The answer to the question for a list.
-fn listed(alloc: Global, id: RegId) -> Option<ListReply> {
+fn listed(alloc: Global, id: RegId) -> Option<Shared<ListReply>> {
     match plain_after(alloc, SET_UP)?
         .step(alloc, &Call::List(id))
         .ok()?

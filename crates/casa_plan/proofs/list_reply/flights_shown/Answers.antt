@@ -31,7 +31,7 @@ loop-n-preserved g c =
     let found : slice_get fs n ≡ Some f = sym c.nth.ensures.flight ∙ c.unwrap-comp.ensures in
     let next : take (n + 1) fs ≡ take n fs ++ f ∷ [] =
     take_more fs n f (slice_get_within fs n f found) ∙ ap (λ g. take n fs ++ g ∷ []) (get_or_from_slice_get fs n f f found) in
-    c.in_ok-push.ensures.items ∙ (λ i. c.loop-n.invariant i ++ c.row_shown.ensures i ∷ [])
+    c.in_ok-push.ensures.items ∙ (λ i. c.loop-n.invariant i ++ c.in_ok-row.ensures i ∷ [])
     ∙ sym (ap (map row) next ∙ map-append row (take n fs) (f ∷ []))
 
 pub returns-clause-rows : goal.returns-clause-rows

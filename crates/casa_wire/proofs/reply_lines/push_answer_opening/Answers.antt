@@ -11,4 +11,4 @@ pub returns-in_ok-push_list-in-List : goal.returns-in_ok-push_list-in-List
 returns-in_ok-push_list-in-List c =
     rw c.in-List.is
     (writes_third c.push_text-in-List-2.result c.args.out.now.items c.push_text-in-List.new.out.items c.push_list.new.out.items c.push_text-in-List-2.new.out.items _ _ _
-    c.in_ok-push_text-in-List.ensures c.in_ok-push_list-in-List.ensures c.push_text-in-List-2.ensures)
+    c.in_ok-push_text-in-List.ensures (rw c.deref.ensures at c.in_ok-push_list-in-List.ensures) c.push_text-in-List-2.ensures)
