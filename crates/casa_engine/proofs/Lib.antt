@@ -2,5 +2,6 @@ pub mod Delayed
 pub mod Listed
 pub mod Positions
 pub mod Standing
-pub mod Kept
+pub mod Seeing
+pub mod Following
 pub mod Sums

@@ -1,5 +1,6 @@
 pub mod Delays
 pub mod Equality
+pub mod Fronts
 pub mod Ledgers
 pub mod Passes
 pub mod Receipts

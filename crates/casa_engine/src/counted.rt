@@ -1,4 +1,5 @@
-ghost use Rattle.std.specs.Prelude.{◌≡◌, ◌+◌, ◌<◌, ◌≤◌, ◌↔◌, ℕ, [], length, Err, IfOk, IfErr, OnOk, OnErr};
+ghost use Rattle.std.specs.Prelude.{◌≡◌, ◌+◌, ◌<◌, ◌≤◌, ◌↔◌, ℕ, [], ◌∷◌, ◌++◌, length, Err, IfOk, IfErr, OnOk, OnErr};
+ghost use mathlib.Core.List.{IsPrefix};
 ghost use Rattle.casa_history.specs.Entries.{entries, receipts, number_of, desk_of};
 ghost use Rattle.casa_history.specs.Settlement.{IsSettled};
 ghost use Rattle.casa_commit.specs.Desks.{most_desks};
@@ -6,51 +7,67 @@ ghost use Rattle.casa_commit.specs.Legal.{IsLegal};
 ghost use Rattle.casa_commit.specs.Passes.{SamePass};
 ghost use Rattle.casa_commit.specs.Prepared.{call_of, view_of};
 ghost use Rattle.casa_commit.specs.Rooms.{world_of, history_of, entries_of, room_number, open_desks};
+ghost use Rattle.casa_front.specs.Openings.{history_name};
 ghost use Rattle.casa_footprint.specs.Stamps.{state_after};
 ghost use Rattle.casa_plan.specs.Rooms.{IsSequential};
 ghost use Rattle.casa_engine.specs.Delays.{lists_in};
+ghost use Rattle.casa_engine.specs.Fronts.{front_of, fronts_in, AllBegin, IsSeenIn};
 ghost use Rattle.casa_engine.specs.Ledgers.{all_parts, IsBlankOf};
 ghost use Rattle.casa_engine.specs.Passes.{pass_of, passes_in, calls_in};
 ghost use Rattle.casa_engine.specs.Receipts.{IsReceiptOf};
 
 use crate::lists::shared_lists;
+use crate::name::EngineName;
 use crate::pass::CountedPass;
 use crate::shared::Shareable;
 use casa_commit::{CallFault, CommitFault, DeskFault, Gate, Prepared, Room, World, commit};
+use casa_flight::{Call, Reply};
+use casa_front::{Front, Keeper, Opened};
 use casa_history::{History, Receipt, Settled, Torn, settle};
 use casa_list::SharedList;
 use casa_view::{Board, Store};
 use std::alloc::{AllocError, Global};
-use std::sync::ledger::{Blank, Book, Ledger, Share};
+use std::sync::ledger::{Blank, Book, Share};
 
-/// What the lock holds: the room, and the ledger in which its entries are counted.
+/// What the lock holds: the room, the ledger in which its entries are counted, and the keeper of the history that they are.
 ///
 /// Of the ledger's parts each open desk has one; the others are spare.
 #[derive(Drop)]
-pub(crate) struct CountedRoom<W: World, L: Ledger> {
+pub(crate) struct CountedRoom<W: World, L: EngineName> {
     room: Room<W>,
     book: Book<L>,
     spare: Share<L>,
+    keeper: Keeper<W::Call, W::Reply, L>,
+    ghost kept: { keeper ≡ entries_of room },
     ghost counted: { book.total ≡ length (entries_of room) },
     ghost nothing: { spare.amount ≡ 0 },
     ghost parts: { spare.parts + open_desks room ≡ all_parts },
 }
 
-impl<W: World, L: Ledger> CountedRoom<W, L> {
+impl<W: World, L: EngineName> CountedRoom<W, L> {
     /// The room with this number over a world in the opening state, with no desk and no entry.
-    pub(crate) fn new(alloc: Global, world: W, number: u32, blank: Blank) -> CountedRoom<W, L>
+    pub(crate) fn new(
+        alloc: Global,
+        world: W,
+        number: u32,
+        ledger: Blank,
+        history: Opened<W::Call, W::Reply>,
+    ) -> CountedRoom<W, L>
         requires opening { W.state world ≡ W.opening }
-        requires ledger { IsBlankOf L.name L.parts blank.name blank.parts }
+        requires ledger { IsBlankOf L.name L.parts ledger.name ledger.parts }
+        requires history { history_name history ≡ L.history }
         ensures number { room_number result.room ≡ number }
         ensures desks { open_desks result.room ≡ 0 }
         ensures history { entries_of result.room ≡ [] }
         ensures world { world_of result.room ≡ world }
     {
-        let (book, spare) = blank.open::<L>();
+        let (book, spare) = ledger.open::<L>();
+        let keeper = history.named::<L>();
         CountedRoom {
             room: Room::new(alloc, world, number),
             book,
             spare,
+            keeper,
         }
     }
 
@@ -70,6 +87,27 @@ impl<W: World, L: Ledger> CountedRoom<W, L> {
         self.room.world().view(call)
     }
 
+    /// A front that has seen all of the history, which is legal.
+    pub(crate) fn front(&self) -> Front<W::Call, W::Reply, L>
+        ensures all { result ≡ entries_of self.now.room }
+        ensures legal { IsLegal W.after W.reply W.opening result }
+    {
+        self.keeper.front()
+    }
+
+    /// Lets a front see all of the history, which is legal. How many entries there are.
+    pub(crate) fn see(&mut self, front: &mut Front<W::Call, W::Reply, L>) -> usize
+        ensures count { result ≡ length front.new }
+        ensures longer { IsPrefix front.old front.new }
+        ensures legal { IsLegal W.after W.reply W.opening front.new }
+        ensures all { front.new ≡ entries_of self.old.room }
+        ensures same { self.new.room ≡ self.old.room }
+    {
+        self.keeper.knows(front);
+        *front = self.keeper.front();
+        self.room.history().len()
+    }
+
     /// Opens the next desk and gives its pass; `TooManyDesks` where 1,024 are open, else `NoMemory` where there is no
     /// memory for it.
     pub(crate) fn open_desk(&mut self) -> Result<CountedPass<W, L>, DeskFault>
@@ -79,6 +117,7 @@ impl<W: World, L: Ledger> CountedRoom<W, L> {
             ≡ room_number self.old.room) }
         ensures desk { IfOk result (λ desk. desk_of (pass_of desk) ≡ open_desks self.old.room) }
         ensures empty { IfOk result (λ desk. receipts (pass_of desk) ≡ []) }
+        ensures seen { IfOk result (λ desk. front_of desk ≡ entries_of self.old.room) }
         ensures opened { OnOk result (open_desks self.new.room ≡ open_desks self.old.room + 1) }
         ensures closed { OnErr result (open_desks self.new.room ≡ open_desks self.old.room) }
         ensures same_history { history_of self.new.room ≡ history_of self.old.room }
@@ -86,7 +125,8 @@ impl<W: World, L: Ledger> CountedRoom<W, L> {
     {
         let pass = self.room.open_desk()?;
         let share = self.spare.split_off(1, 0);
-        Ok(CountedPass { pass, share })
+        let front = self.keeper.front();
+        Ok(CountedPass { pass, share, front })
     }
 
     /// Accepts a prepared answer, and counts it.
@@ -99,15 +139,18 @@ impl<W: World, L: Ledger> CountedRoom<W, L> {
         ensures stands { IfOk result (λ r. IsReceiptOf W.World (pass_of desk.old)
             (call_of prepared) r (pass_of desk.new)) }
         ensures same_pass { OnErr result (SamePass (pass_of desk.old) (pass_of desk.new)) }
+        ensures seen { IfOk result (λ r. IsSeenIn W.World (front_of desk.old) r (front_of desk.new)) }
+        ensures same_front { OnErr result (front_of desk.new ≡ front_of desk.old) }
     {
         let CountedRoom {
             room,
             book,
             spare: _,
+            keeper,
         } = self;
-        let CountedPass { pass, share } = desk;
+        let CountedPass { pass, share, front } = desk;
         let receipt = commit(room, pass, prepared)?;
-        book.add(share, 1);
+        enter(keeper, book, front, share, &receipt);
         Ok(receipt)
     }
 
@@ -122,20 +165,23 @@ impl<W: World, L: Ledger> CountedRoom<W, L> {
         ensures stands { IfOk result (λ r. IsReceiptOf W.World (pass_of desk.old) call.now r
             (pass_of desk.new)) }
         ensures same_pass { OnErr result (SamePass (pass_of desk.old) (pass_of desk.new)) }
+        ensures seen { IfOk result (λ r. IsSeenIn W.World (front_of desk.old) r (front_of desk.new)) }
+        ensures same_front { OnErr result (front_of desk.new ≡ front_of desk.old) }
     {
         let CountedRoom {
             room,
             book,
             spare: _,
+            keeper,
         } = self;
-        let CountedPass { pass, share } = desk;
+        let CountedPass { pass, share, front } = desk;
         let receipt = room.locked(alloc, pass, call, gate)?;
-        book.add(share, 1);
+        enter(keeper, book, front, share, &receipt);
         Ok(receipt)
     }
 }
 
-impl<K: Store, L: Ledger> CountedRoom<Board<K>, L> {
+impl<K: Store, L: EngineName> CountedRoom<Board<K>, L> {
     /// The lists of all open regulations, shared, as the room's history leads to them, which is one of a single thread.
     /// `AllocError` where there is no memory for that.
     pub(crate) fn lists(&self, alloc: Global) -> Result<Vec<SharedList>, AllocError>
@@ -145,9 +191,25 @@ impl<K: Store, L: Ledger> CountedRoom<Board<K>, L> {
     {
         shared_lists(alloc, &self.room)
     }
+
+    /// The same, and lets a front see the history that leads to them. At `AllocError` the front is as it was.
+    pub(crate) fn lists_seen(
+        &mut self,
+        alloc: Global,
+        front: &mut Front<Call, Reply, L>,
+    ) -> Result<Vec<SharedList>, AllocError>
+        ensures lists { IfOk result (λ lists. lists.items ≡ lists_in (state_after front.new)) }
+        ensures sequential { OnOk result (IsSequential front.new) }
+        ensures longer { OnOk result (IsPrefix front.old front.new) }
+        ensures same_front { OnErr result (front.new ≡ front.old) }
+    {
+        let lists = self.lists(alloc)?;
+        self.see(front);
+        Ok(lists)
+    }
 }
 
-impl<W: Shareable + Drop, L: Ledger> CountedRoom<W, L> {
+impl<W: Shareable + Drop, L: EngineName> CountedRoom<W, L> {
     /// The history, how many desks were opened, and whether these passes and the history tell the same story.
     pub(crate) fn close(
         self,
@@ -166,12 +228,15 @@ impl<W: Shareable + Drop, L: Ledger> CountedRoom<W, L> {
             × ((d : ℕ) → d < t.0 → IsSettled d (entries result.0) (passes_in passes.items))) }
         ensures all_calls { length passes.items ≡ result.1 →
             calls_in passes.items ≡ length (entries result.0) }
+        ensures known { AllBegin (fronts_in passes.items) (entries result.0) }
     {
         let CountedRoom {
             room,
             mut book,
             spare,
+            mut keeper,
         } = self;
+        know_all(&mut keeper, passes.as_slice());
         let desks = room.desks();
         let history = room.into_history();
         let settled = settle(&history, passes.as_slice());
@@ -181,8 +246,41 @@ impl<W: Shareable + Drop, L: Ledger> CountedRoom<W, L> {
     }
 }
 
+/// Adds the entry of a receipt to the history, all of which the pass's front then sees, and counts it.
+fn enter<C, R, L: EngineName>(
+    keeper: &mut Keeper<C, R, L>,
+    book: &mut Book<L>,
+    front: &mut Front<C, R, L>,
+    share: &mut Share<L>,
+    receipt: &Receipt<C, R>,
+)
+    requires { 0 < share.old.parts }
+    ensures pushed { keeper.new ≡ keeper.old ++ receipt.now.entry ∷ [] }
+    ensures seen { front.new ≡ keeper.new }
+    ensures known { IsPrefix front.old keeper.old }
+    ensures total { book.new.total ≡ book.old.total + 1 }
+    ensures amount { share.new.amount ≡ share.old.amount + 1 }
+    ensures parts { share.new.parts ≡ share.old.parts }
+{
+    keeper.push(front, &receipt.entry);
+    book.add(share, 1);
+}
+
+/// What these passes have seen is each a beginning of what the keeper has.
+fn know_all<W: World, L: EngineName>(
+    keeper: &mut Keeper<W::Call, W::Reply, L>,
+    passes: &[CountedPass<W, L>],
+)
+    ensures same { keeper.new ≡ keeper.old }
+    ensures known { AllBegin (fronts_in passes.now) keeper.old }
+{
+    for desk in passes {
+        keeper.knows(&desk.front);
+    }
+}
+
 /// The share with those of all these passes.
-fn gathered<W: World, L: Ledger>(spare: Share<L>, passes: Vec<CountedPass<W, L>>) -> Share<L>
+fn gathered<W: World, L: EngineName>(spare: Share<L>, passes: Vec<CountedPass<W, L>>) -> Share<L>
     requires { spare.parts ≤ L.parts }
     ensures parts { result.parts ≡ spare.parts + length passes.items }
     ensures within { result.parts ≤ L.parts }
@@ -190,7 +288,11 @@ fn gathered<W: World, L: Ledger>(spare: Share<L>, passes: Vec<CountedPass<W, L>>
 {
     let mut all = spare;
     for desk in passes {
-        let CountedPass { pass: _, share } = desk;
+        let CountedPass {
+            pass: _,
+            share,
+            front: _,
+        } = desk;
         all.merge(share);
     }
     all

@@ -1,25 +1,29 @@
 ghost use Rattle.std.specs.Prelude.{◌≡◌, IfOk, OnErr};
+ghost use Rattle.casa_history.specs.Entries.{receipts, receipts_of, desk_of};
+ghost use Rattle.casa_commit.specs.Legal.{IsLegal};
 ghost use Rattle.casa_commit.specs.Passes.{SamePass};
+ghost use Rattle.casa_engine.specs.Fronts.{front_of, IsSeenIn};
 ghost use Rattle.casa_engine.specs.Passes.{pass_of};
 ghost use Rattle.casa_engine.specs.Receipts.{IsReceiptOf};
 
+use crate::name::EngineName;
 use crate::pass::CountedPass;
 use crate::shared::{Shareable, SharedRoom};
 use casa_commit::{CallFault, Gate};
+use casa_front::Front;
 use casa_history::Receipt;
 use casa_plan::Direct;
 use std::sync::Wait;
-use std::sync::ledger::Ledger;
 
 /// A desk of a shared room, which answers by its pass.
 #[derive(Drop)]
-pub struct SharedDesk<'a, W: Shareable, L: Ledger, G, R> {
+pub struct SharedDesk<'a, W: Shareable, L: EngineName, G, R> {
     room: &'a SharedRoom<W, L, G>,
     rt: &'a R,
     pass: CountedPass<W, L>,
 }
 
-impl<'a, W: Shareable, L: Ledger, G, R> SharedDesk<'a, W, L, G, R> {
+impl<'a, W: Shareable, L: EngineName, G, R> SharedDesk<'a, W, L, G, R> {
     /// The desk of this pass.
     pub fn new(
         room: &'a SharedRoom<W, L, G>,
@@ -29,6 +33,16 @@ impl<'a, W: Shareable, L: Ledger, G, R> SharedDesk<'a, W, L, G, R> {
         ensures { result.pass ≡ pass }
     {
         SharedDesk { room, rt, pass }
+    }
+
+    /// What its pass has seen of the engine's history, as `front` of the pass gives it.
+    pub fn front(&self) -> Front<W::Call, W::Reply, L>
+        ensures same { result ≡ front_of self.now.pass }
+        ensures legal { IsLegal W.after W.reply W.opening result }
+        ensures told { receipts (pass_of self.now.pass)
+            ≡ receipts_of (desk_of (pass_of self.now.pass)) result }
+    {
+        self.pass.front()
     }
 
     /// The pass.
@@ -44,7 +58,7 @@ impl<'a, W: Shareable, L: Ledger, G, R> SharedDesk<'a, W, L, G, R> {
     }
 }
 
-impl<'a, W: Shareable, L: Ledger, G: Gate<W>, R: Wait> SharedDesk<'a, W, L, G, R>
+impl<'a, W: Shareable, L: EngineName, G: Gate<W>, R: Wait> SharedDesk<'a, W, L, G, R>
 where
     Direct: Gate<W>,
 {
@@ -54,6 +68,9 @@ where
             (pass_of self.new.pass)) }
         ensures same_pass { OnErr result (SamePass (pass_of self.old.pass)
             (pass_of self.new.pass)) }
+        ensures seen { IfOk result (λ r. IsSeenIn W.World (front_of self.old.pass) r
+            (front_of self.new.pass)) }
+        ensures same_front { OnErr result (front_of self.new.pass ≡ front_of self.old.pass) }
     {
         self.room.call(self.rt, &mut self.pass, call)
     }

@@ -1,11 +1,13 @@
 //! Engines: shared rooms of boards.
 
-ghost use Rattle.std.specs.Prelude.{◌≡◌, ℕ, List, ⊤, IfOk};
+ghost use Rattle.std.specs.Prelude.{◌≡◌, ℕ, List, ⊤, IfOk, OnOk, OnErr};
 ghost use Rattle.std.proofs.Math.Logic.{∥∥₁_map};
+ghost use mathlib.Core.List.{IsPrefix};
 ghost use Rattle.casa_flight.specs.declared.call.Call.{Call};
 ghost use Rattle.casa_flight.specs.declared.reply.Reply.{Reply};
 ghost use Rattle.casa_history.specs.declared.entry.Entry.{Entry};
 ghost use Rattle.casa_history.specs.Entries.{receipts, desk_of};
+ghost use Rattle.casa_front.specs.Openings.{history_name};
 ghost use Rattle.casa_footprint.specs.Stamps.{state_after};
 ghost use Rattle.casa_plan.specs.Rooms.{IsSequential};
 ghost use Rattle.casa_engine.specs.Delays.{lists_in, IsAuditOf};
@@ -16,20 +18,21 @@ ghost use Rattle.casa_engine.specs.Receipts.{AreReceiptsOf};
 
 use crate::audit::{Audit, audit_shared};
 use crate::desk::SharedDesk;
+use crate::name::{Blank, EngineName};
 use crate::pass::CountedPass;
 use crate::shared::{Shareable, SharedRoom};
 use casa_commit::{CallFault, Gate, World};
 use casa_desk::Desk;
 use casa_flight::{Call, Reply};
+use casa_front::Front;
 use casa_history::Receipt;
 use casa_view::{Board, Store};
 use std::alloc::{AllocError, Global};
 use std::sync::Wait;
-use std::sync::ledger::{Blank, Ledger};
 use std::thread::Threads;
 
-/// A room of a board, shared by the desks of many threads. K is the store of its versions, L names its ledger, and G is its
-/// gate.
+/// A room of a board, shared by the desks of many threads. K is the store of its versions, L names its ledger and its
+/// history, and G is its gate.
 pub type Engine<K, L, G> = SharedRoom<Board<K>, L, G>;
 
 /// The pass of an engine's desk.
@@ -46,7 +49,7 @@ impl<K: Store> Shareable for Board<K> {
     ghost equal_replies = { reply_equality };
 }
 
-impl<K: Store, L: Ledger, G: Gate<Board<K>> + Drop> SharedRoom<Board<K>, L, G> {
+impl<K: Store, L: EngineName, G: Gate<Board<K>> + Drop> SharedRoom<Board<K>, L, G> {
     /// The engine with this number over an empty board, whose versions this store keeps; no desk is open. `AllocError` where
     /// there is no memory for it.
     pub fn new(
@@ -56,17 +59,19 @@ impl<K: Store, L: Ledger, G: Gate<Board<K>> + Drop> SharedRoom<Board<K>, L, G> {
         number: u32,
         gate: G,
     ) -> Result<Engine<K, L, G>, AllocError>
-        requires { IsBlankOf L.name L.parts blank.name blank.parts }
+        requires ledger { IsBlankOf L.name L.parts blank.ledger.name blank.ledger.parts }
+        requires history { history_name blank.history ≡ L.history }
     {
         let board = Board::new(alloc, store)?;
-        Ok(SharedRoom::over(alloc, board, blank, number, gate))
+        let Blank { ledger, history } = blank;
+        Ok(SharedRoom::over(alloc, board, ledger, history, number, gate))
     }
 
     /// How many regulations are open, and the sum of the delays of the flights that they govern, after some history of a
     /// single thread. `AllocError` where there is no memory for it.
     ///
     /// The lists are shared under the lock and their delays added without it, by several threads. That the history is the
-    /// engine's present one, no contract says.
+    /// engine's own, `audit_seen` says.
     pub fn audit<R: Threads + Wait + Sync>(&self, rt: &R) -> Result<Audit, AllocError>
         ensures { IfOk result (λ audit. (history : List (Entry Call Reply)) × IsSequential history
             × IsAuditOf (lists_in (state_after history)) audit) }
@@ -76,11 +81,32 @@ impl<K: Store, L: Ledger, G: Gate<Board<K>> + Drop> SharedRoom<Board<K>, L, G> {
         let lists = shared?;
         audit_shared(rt, alloc, lists.as_slice())
     }
+
+    /// The same after the engine's own history as it is then, which the front sees from then on, and which begins with what
+    /// it had seen. So who looks after a reply sees that reply's call. At `AllocError` the front is as it was.
+    pub fn audit_seen<R: Threads + Wait + Sync>(
+        &self,
+        rt: &R,
+        front: &mut Front<Call, Reply, L>,
+    ) -> Result<Audit, AllocError>
+        ensures audit { IfOk result (IsAuditOf (lists_in (state_after front.new))) }
+        ensures sequential { OnOk result (IsSequential front.new) }
+        ensures longer { OnOk result (IsPrefix front.old front.new) }
+        ensures same_front { OnErr result (front.new ≡ front.old) }
+    {
+        let alloc = self.alloc;
+        let mut now = front.again();
+        let shared = self.held(rt).lists_seen(alloc, &mut now);
+        let lists = shared?;
+        let audit = audit_shared(rt, alloc, lists.as_slice())?;
+        *front = now;
+        Ok(audit)
+    }
 }
 
 /// A desk of an engine has answered what its pass has receipts of: all of one desk, and each next after those before it
 /// in a legal history. Memory comes from the engine's allocator.
-impl<'a, K: Store, L: Ledger, G: Gate<Board<K>>, R: Wait> Desk for EngineDesk<'a, K, L, G, R> {
+impl<'a, K: Store, L: EngineName, G: Gate<Board<K>>, R: Wait> Desk for EngineDesk<'a, K, L, G, R> {
     ghost answered = { λ desk. receipts (pass_of desk.pass) };
 
     ghost lawful = { λ given. ∥ ((desk : ℕ) × AreReceiptsOf ⟦<Board<K> as World>⟧ desk given) ∥₁ };

@@ -1,7 +1,8 @@
 //! Desks in threads: a room of a board behind a lock, and the passes of the desks that make calls there.
 //!
 //! What the lock holds is a history with its board, as casa_commit keeps it. Answers are worked out outside the lock, on a
-//! view; inside it they are accepted or refused. No receipt is had without an entry: that is counted.
+//! view; inside it they are accepted or refused. No receipt is had without an entry: that is counted. And each desk sees a
+//! beginning of that one history, in which its receipts stand.
 #![tactic(auto)]
 
 mod audit;
@@ -10,6 +11,7 @@ mod desk;
 mod engine;
 mod laws;
 mod lists;
+mod name;
 mod parts;
 mod pass;
 mod shared;
@@ -20,4 +22,5 @@ pub use casa_plan::Direct;
 pub use engine::{DeskPass, Engine, EngineDesk};
 pub use laws::legal_histories_are_sequential;
 pub use lists::push_shared;
+pub use name::{Blank, EngineName};
 pub use parts::blank;

@@ -1,17 +1,23 @@
 ghost use Rattle.std.specs.Prelude.{◌≡◌};
 ghost use Rattle.casa_engine.specs.Ledgers.{all_parts};
 
+use crate::name::Blank;
+use casa_front::Opened;
 use std::marker::PhantomData;
-use std::sync::ledger::{Blank, Ledger};
+use std::sync::ledger;
+use std::sync::ledger::Ledger;
 
 /// How many parts an engine's ledger has: one for each desk that may be open, and one that is never given.
 const PARTS: u64 = 1025;
 
-/// A new ledger, as an engine takes it.
+/// A new ledger and a new history, as an engine takes them.
 pub fn blank() -> Blank
-    ensures { result.parts ≡ all_parts }
+    ensures { result.ledger.parts ≡ all_parts }
 {
-    Blank::new(PARTS)
+    Blank {
+        ledger: ledger::Blank::new(PARTS),
+        history: Opened::new(),
+    }
 }
 
 /// Says of a ledger that it has as many parts as an engine's.

@@ -1,21 +1,26 @@
 ghost use Rattle.std.specs.Prelude.{◌≡◌, ◌<◌, ◌≤◌, ◌↔◌, ℕ, true, [], length, IfOk, IfErr, OnErr};
+ghost use mathlib.Core.List.{IsPrefix};
 ghost use Rattle.casa_history.specs.Entries.{entries, receipts};
 ghost use Rattle.casa_history.specs.Settlement.{IsSettled};
 ghost use Rattle.casa_commit.specs.Legal.{IsLegal};
 ghost use Rattle.casa_commit.specs.Passes.{SamePass};
+ghost use Rattle.casa_front.specs.Openings.{history_name};
+ghost use Rattle.casa_engine.specs.Fronts.{front_of, fronts_in, AllBegin, IsSeenIn};
 ghost use Rattle.casa_engine.specs.Ledgers.{IsBlankOf};
 ghost use Rattle.casa_engine.specs.Passes.{pass_of, passes_in, calls_in};
 ghost use Rattle.casa_engine.specs.Receipts.{IsReceiptOf};
 
 use crate::counted::CountedRoom;
+use crate::name::EngineName;
 use crate::parts::AllParts;
 use crate::pass::CountedPass;
 use casa_commit::{CallFault, CommitFault, DeskFault, Gate, World, prepare};
+use casa_front::{Front, Opened};
 use casa_history::{History, Receipt, Settled, Torn};
 use casa_plan::Direct;
 use std::alloc::Global;
 use std::hint::spin_loop;
-use std::sync::ledger::{Blank, Ledger};
+use std::sync::ledger::Blank;
 use std::sync::{Mutex, MutexGuard, Wait};
 
 /// How often a call's answer is worked out outside the lock before it is worked out under it.
@@ -39,14 +44,14 @@ pub trait Shareable: World<Call: PartialEq, Reply: PartialEq> {
 }
 
 /// A room behind a lock, for the desks of many threads.
-pub struct SharedRoom<W: Shareable, L: Ledger, G> {
+pub struct SharedRoom<W: Shareable, L: EngineName, G> {
     pub(crate) room: Mutex<CountedRoom<W, L>>,
     gate: G,
     pub(crate) alloc: Global,
     parts: AllParts<L>,
 }
 
-impl<W: Shareable + Drop, L: Ledger, G: Drop> Drop for SharedRoom<W, L, G> {
+impl<W: Shareable + Drop, L: EngineName, G: Drop> Drop for SharedRoom<W, L, G> {
     fn drop(self) {
         let SharedRoom {
             room: _,
@@ -57,7 +62,7 @@ impl<W: Shareable + Drop, L: Ledger, G: Drop> Drop for SharedRoom<W, L, G> {
     }
 }
 
-impl<W: Shareable, L: Ledger, G: Gate<W>> SharedRoom<W, L, G>
+impl<W: Shareable, L: EngineName, G: Gate<W>> SharedRoom<W, L, G>
 where
     Direct: Gate<W>,
 {
@@ -65,15 +70,17 @@ where
     pub(crate) fn over(
         alloc: Global,
         world: W,
-        blank: Blank,
+        ledger: Blank,
+        history: Opened<W::Call, W::Reply>,
         number: u32,
         gate: G,
     ) -> SharedRoom<W, L, G>
         requires opening { W.state world ≡ W.opening }
-        requires ledger { IsBlankOf L.name L.parts blank.name blank.parts }
+        requires ledger { IsBlankOf L.name L.parts ledger.name ledger.parts }
+        requires history { history_name history ≡ L.history }
     {
         SharedRoom {
-            room: Mutex::new(CountedRoom::new(alloc, world, number, blank)),
+            room: Mutex::new(CountedRoom::new(alloc, world, number, ledger, history)),
             gate,
             alloc,
             parts: AllParts::new(),
@@ -99,12 +106,48 @@ where
         self.held(rt).open_desk()
     }
 
+    /// A front that sees the history as it is now, which is legal.
+    pub fn front<R: Wait>(&self, rt: &R) -> Front<W::Call, W::Reply, L>
+        ensures { IsLegal W.after W.reply W.opening result }
+    {
+        self.held(rt).front()
+    }
+
+    /// Lets a front see the history as it is now, which is legal, and begins with what the front had seen. How many entries
+    /// there are.
+    pub fn see<R: Wait>(&self, rt: &R, front: &mut Front<W::Call, W::Reply, L>) -> usize
+        ensures count { result ≡ length front.new }
+        ensures longer { IsPrefix front.old front.new }
+        ensures legal { IsLegal W.after W.reply W.opening front.new }
+    {
+        self.held(rt).see(front)
+    }
+
+    /// The history as it is now, which is legal, and begins with what each of these fronts has seen.
+    pub fn history_of<R: Wait>(
+        &self,
+        rt: &R,
+        fronts: &Vec<Front<W::Call, W::Reply, L>>,
+    ) -> Front<W::Call, W::Reply, L>
+        ensures legal { IsLegal W.after W.reply W.opening result }
+        ensures all { AllBegin fronts.now.items result }
+    {
+        let mut all = self.front(rt);
+        for k in 0..fronts.len() {
+            all = all.joined(&fronts[k]);
+        }
+        self.see(rt, &mut all);
+        all
+    }
+
     /// Answers a call and gives its receipt.
     ///
     /// A view is taken under the lock, the answer is worked out by the gate with the lock free, and accepted under it.
     /// Where it is stale this is done again; after the third time all of it is done in one section, without the gate.
     /// `NoMemory` or `ForeignPass` of a try is answered at once, and the pass is then as it was: `ForeignPass` where the
     /// pass is not this room's, `NoMemory` where memory was refused.
+    ///
+    /// With a receipt the pass has seen all of the history up to its entry.
     pub fn call<R: Wait>(
         &self,
         rt: &R,
@@ -114,6 +157,8 @@ where
         ensures stands { IfOk result (λ r. IsReceiptOf W.World (pass_of desk.old) call.now r
             (pass_of desk.new)) }
         ensures same_pass { OnErr result (SamePass (pass_of desk.old) (pass_of desk.new)) }
+        ensures seen { IfOk result (λ r. IsSeenIn W.World (front_of desk.old) r (front_of desk.new)) }
+        ensures same_front { OnErr result (front_of desk.new ≡ front_of desk.old) }
     {
         for attempt in 0..TRIES {
             match self.attempt(rt, desk, call, attempt) {
@@ -137,6 +182,8 @@ where
         ensures stands { IfOk result (λ r. IsReceiptOf W.World (pass_of desk.old) call.now r
             (pass_of desk.new)) }
         ensures same_pass { OnErr result (SamePass (pass_of desk.old) (pass_of desk.new)) }
+        ensures seen { IfOk result (λ r. IsSeenIn W.World (front_of desk.old) r (front_of desk.new)) }
+        ensures same_front { OnErr result (front_of desk.new ≡ front_of desk.old) }
     {
         let Ok(copy) = W::copy_call(call) else {
             return Err(CommitFault::NoMemory);
@@ -164,14 +211,16 @@ where
         ensures stands { IfOk result (λ r. IsReceiptOf W.World (pass_of desk.old) call.now r
             (pass_of desk.new)) }
         ensures same_pass { OnErr result (SamePass (pass_of desk.old) (pass_of desk.new)) }
+        ensures seen { IfOk result (λ r. IsSeenIn W.World (front_of desk.old) r (front_of desk.new)) }
+        ensures same_front { OnErr result (front_of desk.new ≡ front_of desk.old) }
     {
         self.held(rt).locked(self.alloc, desk, call, &Direct)
     }
 }
 
-impl<W: Shareable + Drop, L: Ledger, G: Drop> SharedRoom<W, L, G> {
-    /// Ends the room. Gives the history, which is legal, how many desks were opened, no fewer than the passes, and whether
-    /// these passes tell the same story.
+impl<W: Shareable + Drop, L: EngineName, G: Drop> SharedRoom<W, L, G> {
+    /// Ends the room. Gives the history, which is legal and begins with what each pass has seen, how many desks were opened,
+    /// no fewer than the passes, and whether these passes tell the same story.
     pub fn close(
         self,
         passes: Vec<CountedPass<W, L>>,
@@ -188,6 +237,7 @@ impl<W: Shareable + Drop, L: Ledger, G: Drop> SharedRoom<W, L, G> {
             IsSettled d (entries result.0) (passes_in passes.items)) }
         ensures all_calls { length passes.items ≡ result.1 →
             calls_in passes.items ≡ length (entries result.0) }
+        ensures known { AllBegin (fronts_in passes.items) (entries result.0) }
     {
         let SharedRoom {
             room,
