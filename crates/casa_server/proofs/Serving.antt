@@ -1,21 +1,28 @@
 -- connections that are accepted, and how they end
-use Rattle.std.proofs.Common.{◌≡◌, ℕ, ◌+◌, List, [], ◌∷◌, ◌++◌, map, length, take, Bool, true, false, cond, Option, None, Some, IfSome, Result, refl, sym, ap, subst, ◌∙◌, append_assoc, arith}
+use Rattle.std.proofs.Common.{◌≡◌, ℕ, ◌+◌, List, [], ◌∷◌, ◌++◌, map, length, take, Bool, true, false, cond, Option, None, Some, IfSome, Result, Ok, Err, IfOk, refl, sym, ap, subst, ◌∙◌, append_assoc, arith}
 use Rattle.std.specs.Prelude.{⊤}
 use Rattle.std.proofs.lemmas.List.{map-append, length-map}
 use Rattle.std.proofs.lemmas.List.Elements.{All-nil, All-push}
 use Rattle.std.proofs.lemmas.List.Sums.{sum_by-append}
 use Rattle.std.proofs.Math.Seq.{take-append_seam}
 use Rattle.std.specs.Int.{from_bool}
+use mathlib.Core.List.{IsPrefix}
 use Rattle.casa_flight.specs.declared.call.Call.{Call}
 use Rattle.casa_flight.specs.declared.reply.Reply.{Reply}
-use Rattle.casa_commit.specs.declared.world.World.{Ghosts as WorldOf}
+use Rattle.casa_history.specs.declared.entry.Entry.{Entry}
 use Rattle.casa_history.specs.Entries.{receipts}
+use Rattle.casa_commit.specs.declared.world.World.{Ghosts as WorldOf}
+use Rattle.casa_commit.specs.Legal.{IsLegal}
+use Rattle.casa_front.specs.declared.rule.Named.{Ghosts as NamedOf}
 use Rattle.casa_engine.specs.declared.pass.CountedPass.{CountedPass}
+use Rattle.casa_engine.specs.Fronts.{front_of}
 use Rattle.casa_engine.specs.Passes.{pass_of}
+use Rattle.casa_engine.proofs.Seeing.{begins_itself, begins_more}
 use Rattle.casa_desk.specs.Receipts.{Receipts}
 use Rattle.casa_session.specs.declared.fault.SessionFault.{SessionFault}
 use Rattle.casa_session.specs.Transcript.{Ends}
-use Rattle.casa_server.specs.Serving.{Ending, is_faulted, IsSession, HasEnded, HaveEnded}
+use Rattle.casa_server.specs.declared.server.Served.{Served}
+use Rattle.casa_server.specs.Serving.{Ending, refused, ended, is_faulted, IsSession, HasEnded, HaveEnded, Serves}
 use Rattle.casa_server.specs.Sources.{Gives}
 
 pub none_left : {X : Type 0} (xs : List X) → length xs ≡ 0 → xs ≡ []
@@ -44,35 +51,82 @@ as_number : (b : Bool) → 0 + cond b 1 0 ≡ from_bool b
 as_number true = refl
 as_number false = refl
 
-module _ {I O W V D : Type 0} (L : Type 0) (world : WorldOf W Call V D Reply)
+module _ {I O W V D L : Type 0} (world : WorldOf W Call V D Reply) (named : NamedOf L)
     (remaining : I → Option (List ℕ)) (contents : O → Option (List ℕ)) where
-  -- a session by a pass that had no receipt
-  pub is_session : (before after : I × O) (used new : CountedPass W L Call V D Reply world) (result : Result ℕ SessionFault) → receipts (pass_of used) ≡ []
+  -- a session by a pass that had no receipt, in the history that the pass has seen
+  pub is_session : (before after : I × O) (used new : CountedPass W L Call V D Reply world named) (front : List (Entry Call Reply))
+      (result : Result ℕ SessionFault) → front ≡ front_of new → receipts (pass_of used) ≡ []
       → Ends ⊤ result (record { input = remaining before.0; input_left = remaining after.0; receipts = receipts (pass_of used); receipts_now = receipts (pass_of new); output = contents before.1; output_now = contents after.1 })
-      → IsSession L world remaining contents before result
-  is_session before after used new result none e = record {
+      → IsSession world named remaining contents front before result
+  is_session before after used new front result same none e = record {
     after = after;
     pass = new;
-    stand = new.stand;
+    seen = subst (IsPrefix (front_of new)) (sym same) (begins_itself (front_of new));
+    told = new.told;
     ends = subst (λ (rs : Receipts). Ends ⊤ result (record { input = remaining before.0; input_left = remaining after.0; receipts = rs; receipts_now = receipts (pass_of new); output = contents before.1; output_now = contents after.1 })) none e;
   }
 
-  pub same_session : (before : I × O) (r s : Result ℕ SessionFault) → r ≡ s → IsSession L world remaining contents before s → IsSession L world remaining contents before r
+  pub same_session : (before : I × O) (r s : Result ℕ SessionFault × List (Entry Call Reply)) → r ≡ s
+      → IsSession world named remaining contents s.1 before s.0 → IsSession world named remaining contents r.1 before r.0
   same_session before r s same session = rw same session
 
-  pub none_ended : HaveEnded L world remaining contents [] 0
-  none_ended = record { endings = []; all = refl; each = All-nil _; faulted = refl }
+  -- what has ended in a history has ended in a longer one
+  pub ended_in_more : (short long : List (Entry Call Reply)) (connection : I × O) (ending : Ending) → IsPrefix short long
+      → HasEnded world named remaining contents short connection ending → HasEnded world named remaining contents long connection ending
+  ended_in_more short long connection refused longer has = tt
+  ended_in_more short long connection (ended result) longer has = record {
+    after = has.after;
+    pass = has.pass;
+    seen = begins_more (front_of has.pass) short long has.seen longer;
+    told = has.told;
+    ends = has.ends;
+  }
+
+  pub have_ended_in_more : (short long : List (Entry Call Reply)) (connections : List (I × O)) (n : ℕ) → IsPrefix short long
+      → HaveEnded world named remaining contents short connections n → HaveEnded world named remaining contents long connections n
+  have_ended_in_more short long connections n longer have = record {
+    endings = have.endings;
+    all = have.all;
+    each = λ k e within. ended_in_more short long _ _ longer (have.each k e within);
+    faulted = have.faulted;
+  }
+
+  pub none_ended : (history : List (Entry Call Reply)) → HaveEnded world named remaining contents history [] 0
+  none_ended history = record { endings = []; all = refl; each = All-nil _; faulted = refl }
 
   -- one more has ended, and it faulted or not
-  pub one_more_ended : (connections : List (I × O)) (n more : ℕ) (connection : I × O) (b : Bool)
-      → HaveEnded L world remaining contents connections n → more ≡ from_bool b
-      → ((ending : Ending) × HasEnded L world remaining contents connection ending × (b ≡ is_faulted ending))
-      → HaveEnded L world remaining contents (connections ++ connection ∷ []) (n + more)
-  one_more_ended connections n more connection b have number (ending, has, same) =
+  pub one_more_ended : (history : List (Entry Call Reply)) (connections : List (I × O)) (n more : ℕ) (connection : I × O) (b : Bool)
+      → HaveEnded world named remaining contents history connections n → more ≡ from_bool b
+      → ((ending : Ending) × HasEnded world named remaining contents history connection ending × (b ≡ is_faulted ending))
+      → HaveEnded world named remaining contents history (connections ++ connection ∷ []) (n + more)
+  one_more_ended history connections n more connection b have number (ending, has, same) =
       let e : (I × O) × Ending = (connection, ending) in
       record {
         endings = have.endings ++ e ∷ [];
         all = map-append (λ (x : (I × O) × Ending). x.0) have.endings (e ∷ []) ∙ ap (λ (l : List (I × O)). l ++ connection ∷ []) have.all;
-        each = All-push (λ (x : (I × O) × Ending). HasEnded L world remaining contents x.0 x.1) have.endings e have.each has;
+        each = All-push (λ (x : (I × O) × Ending). HasEnded world named remaining contents history x.0 x.1) have.endings e have.each has;
         faulted = omega (arith, have.faulted, sum_by-append (λ (x : (I × O) × Ending). cond (is_faulted x.1) 1 0) have.endings (e ∷ []), as_number (is_faulted ending), number, ap from_bool same);
       }
+
+  -- who serves in a history serves in a longer one
+  pub serves_in_more : {E : Type 0} (short long : List (Entry Call Reply)) (coming : Option (List (I × O))) (result : Result Served E)
+      → IsPrefix short long → IsLegal world.after world.reply world.opening long
+      → IfOk result (Serves world named remaining contents short coming) → IfOk result (Serves world named remaining contents long coming)
+  serves_in_more short long coming (Ok served) longer legal is = record {
+    legal = legal;
+    connections = is.connections;
+    sessions = is.sessions;
+    first = is.first;
+    ended = have_ended_in_more short long is.connections served.faulted longer is.ended;
+  }
+  serves_in_more short long coming (Err fault) longer legal is = tt
+
+  pub same_serves : {E : Type 0} (coming : Option (List (I × O))) (r s : Result Served E × List (Entry Call Reply)) → r ≡ s
+      → IfOk s.0 (Serves world named remaining contents s.1 coming) → IfOk r.0 (Serves world named remaining contents r.1 coming)
+  same_serves coming r s same is = rw same is
+
+  pub serves_in_some : {E : Type 0} (history : List (Entry Call Reply)) (coming : Option (List (I × O))) (result : Result Served E)
+      → IfOk result (Serves world named remaining contents history coming)
+      → IfOk result (λ served. (h : List (Entry Call Reply)) × Serves world named remaining contents h coming served)
+  serves_in_some history coming (Ok served) is = (history, is)
+  serves_in_some history coming (Err fault) is = tt

@@ -2,16 +2,20 @@
 use Rattle.std.specs.Prelude.{◌≡◌, ◌≤◌, ℕ, List, [], ◌∷◌, ◌++◌, map, take, length, Bool, true, false, Option, None, Some, IfSome}
 use Rattle.std.specs.List.{count_by}
 use Rattle.std.specs.Io.KnownBytes.{Consumes, IsAtEnd}
+use mathlib.Core.List.{IsPrefix}
 use Rattle.casa_flight.specs.declared.call.Call.{Call}
 use Rattle.casa_flight.specs.declared.call.Call.TheVariants.{Tick}
 use Rattle.casa_flight.specs.declared.reply.Reply.{Reply}
 use Rattle.casa_flight.specs.declared.reply.Reply.TheVariants.{Refused, Answered}
+use Rattle.casa_history.specs.declared.entry.Entry.{Entry}
 use Rattle.casa_history.specs.declared.entry.Receipt.{Receipt}
-use Rattle.casa_history.specs.Entries.{receipts, desk_of}
+use Rattle.casa_history.specs.Entries.{receipts, receipts_of, desk_of}
 use Rattle.casa_commit.specs.declared.world.World.{Ghosts as WorldOf}
+use Rattle.casa_commit.specs.Legal.{IsLegal}
+use Rattle.casa_front.specs.declared.rule.Named.{Ghosts as NamedOf}
 use Rattle.casa_engine.specs.declared.pass.CountedPass.{CountedPass}
+use Rattle.casa_engine.specs.Fronts.{front_of}
 use Rattle.casa_engine.specs.Passes.{pass_of}
-use Rattle.casa_engine.specs.Receipts.{AreReceiptsOf}
 use Rattle.casa_desk.specs.Receipts.{Receipts}
 use Rattle.casa_session.specs.Transcript.{calls_of}
 
@@ -49,10 +53,12 @@ pub record Ticked (coming : Option (List ℕ)) (turns : ℕ) (a b : Receipts) (n
   pub first : IfSome coming (λ ms. moments ≡ take turns ms)
   pub ticks : Ticks a b moments n
 
-module _ {W V D : Type 0} (L : Type 0) (world : WorldOf W Call V D Reply) where
-  -- a pass of the engine with this ledger, which had no receipt before, has those of the ticks, n of them accepted, and each
-  -- is next after those before it in a legal history
-  pub record IsTicked (coming : Option (List ℕ)) (turns : ℕ) (n : ℕ) : Type 0 where
-    pub pass : CountedPass W L Call V D Reply world
-    pub stand : ∥ AreReceiptsOf world (desk_of (pass_of pass)) (receipts (pass_of pass)) ∥₁
+module _ {W V D L : Type 0} (world : WorldOf W Call V D Reply) (named : NamedOf L) where
+  -- a pass of the engine of this name, which had no receipt before, has those of the ticks, n of them accepted. What it has
+  -- seen is a beginning of this history, which is legal, and there these are the receipts of its desk's entries
+  pub record IsTicked (history : List (Entry Call Reply)) (coming : Option (List ℕ)) (turns : ℕ) (n : ℕ) : Type 0 where
+    pub legal : IsLegal world.after world.reply world.opening history
+    pub pass : CountedPass W L Call V D Reply world named
+    pub seen : IsPrefix (front_of pass) history
+    pub told : receipts (pass_of pass) ≡ receipts_of (desk_of (pass_of pass)) (front_of pass)
     pub ticked : Ticked coming turns [] (receipts (pass_of pass)) n

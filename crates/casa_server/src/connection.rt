@@ -5,15 +5,15 @@ ghost use Rattle.casa_session.specs.Transcript.{Ends};
 ghost use Rattle.casa_server.specs.Serving.{IsSession};
 
 use casa_commit::World;
-use casa_engine::{DeskPass, Engine, EngineDesk, Gate};
+use casa_engine::{DeskPass, Engine, EngineDesk, EngineName, Gate};
 use casa_flight::{Call, Reply};
+use casa_front::Front;
 use casa_history::Holds;
 use casa_session::{SessionFault, run};
 use casa_view::{Board, Store};
 use std::alloc::Global;
 use std::io::{Read, Write};
 use std::sync::Wait;
-use std::sync::ledger::Ledger;
 
 /// A connection with the pass of a desk that is its own.
 ///
@@ -26,12 +26,15 @@ pub(crate) struct Connection<I, O, P: Holds<Call, Reply>> {
     ghost unused: { receipts (P.held pass) ≡ [] },
 }
 
-/// Answers the lines of a connection until it ends, says how many there were, and closes it.
+/// What a connection's thread hands out: how its session ended, with the number of its lines, and what its pass has seen.
+pub(crate) type Ended<L> = (Result<u64, SessionFault>, Front<Call, Reply, L>);
+
+/// Answers the lines of a connection until it ends, and closes it.
 pub(crate) fn answer<
     I: Read + Drop,
     O: Write + Drop,
     K: Store,
-    L: Ledger,
+    L: EngineName,
     G: Gate<Board<K>>,
     R: Wait,
 >(
@@ -39,19 +42,21 @@ pub(crate) fn answer<
     alloc: Global,
     engine: &Engine<K, L, G>,
     connection: Connection<I, O, DeskPass<K, L>>,
-) -> Result<u64, SessionFault>
-    ensures { IsSession L ⟦<Board<K> as World>⟧ I.remaining O.contents connection.ends result }
+) -> Ended<L>
+    ensures { IsSession ⟦<Board<K> as World>⟧ L.Named I.remaining O.contents result.1
+        connection.ends result.0 }
 {
     let Connection {
         ends: (mut reader, mut writer),
         pass,
     } = connection;
-    let (ended, _pass) = session(rt, alloc, engine, pass, &mut reader, &mut writer);
-    ended
+    let (ended, pass) = session(rt, alloc, engine, pass, &mut reader, &mut writer);
+    let front = pass.front();
+    (ended, front)
 }
 
 /// Answers the lines of a reader at a writer by the desk of this pass, as every session does. Gives the pass back.
-fn session<K: Store, L: Ledger, G: Gate<Board<K>>, R: Wait, I: Read, O: Write>(
+fn session<K: Store, L: EngineName, G: Gate<Board<K>>, R: Wait, I: Read, O: Write>(
     rt: &R,
     alloc: Global,
     engine: &Engine<K, L, G>,

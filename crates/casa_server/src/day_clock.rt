@@ -1,16 +1,19 @@
 ghost use Rattle.std.specs.Prelude.{ℕ, List, Option, None, IfOk};
+ghost use Rattle.casa_flight.specs.declared.call.Call.{Call};
+ghost use Rattle.casa_flight.specs.declared.reply.Reply.{Reply};
+ghost use Rattle.casa_history.specs.declared.entry.Entry.{Entry};
 ghost use Rattle.casa_server.specs.Ticks.{IsTicked, ClockGives, Ticked, TicksTo};
 
 use crate::fault::TimerFault;
 use casa_commit::World;
-use casa_engine::{Engine, EngineDesk, Gate};
+use casa_engine::{Engine, EngineDesk, EngineName, Gate};
 use casa_flight::{Call, Reply};
+use casa_front::Front;
 use casa_session::Desk;
 use casa_time::Moment;
 use casa_view::{Board, Store};
 use std::alloc::Global;
 use std::sync::Wait;
-use std::sync::ledger::Ledger;
 
 /// A clock of an engine's day, which tells one moment after the other.
 pub trait DayClock {
@@ -27,19 +30,38 @@ pub trait DayClock {
 ///
 /// `NoDesk` where 1,024 desks are open, or the engine does not know its desk; `NoMemory` where there is none for the desk or
 /// a tick. The ticks that were accepted before a fault stand.
-pub fn timer<K: Store, L: Ledger, G: Gate<Board<K>>, C: DayClock, R: Wait>(
+pub fn timer<K: Store, L: EngineName, G: Gate<Board<K>>, C: DayClock, R: Wait>(
     rt: &R,
     alloc: Global,
     clock: &mut C,
     engine: &Engine<K, L, G>,
     turns: u32,
 ) -> Result<u32, TimerFault>
-    ensures { IfOk result (λ accepted.
-        IsTicked L ⟦<Board<K> as World>⟧ (C.coming clock.old) turns accepted) }
+    ensures { IfOk result (λ accepted. (history : List (Entry Call Reply))
+        × IsTicked ⟦<Board<K> as World>⟧ L.Named history (C.coming clock.old) turns accepted) }
 {
-    let pass = engine.desk(rt)?;
+    let (accepted, _) = timer_seen(rt, alloc, clock, engine, turns);
+    accepted
+}
+
+/// The same, with what the timer's pass has seen.
+pub(crate) fn timer_seen<K: Store, L: EngineName, G: Gate<Board<K>>, C: DayClock, R: Wait>(
+    rt: &R,
+    alloc: Global,
+    clock: &mut C,
+    engine: &Engine<K, L, G>,
+    turns: u32,
+) -> (Result<u32, TimerFault>, Front<Call, Reply, L>)
+    ensures { IfOk result.0 (IsTicked ⟦<Board<K> as World>⟧ L.Named result.1
+        (C.coming clock.old) turns) }
+{
+    let pass = match engine.desk(rt) {
+        Ok(pass) => pass,
+        Err(fault) => return (Err(TimerFault::from(fault)), engine.front(rt)),
+    };
     let mut desk = EngineDesk::new(engine, rt, pass);
-    keep_time(alloc, clock, &mut desk, turns)
+    let accepted = keep_time(alloc, clock, &mut desk, turns);
+    (accepted, desk.front())
 }
 
 /// Ticks with a desk to each moment that the clock tells, at most this many times. Says how many ticks were accepted; one

@@ -1,4 +1,7 @@
-ghost use Rattle.std.specs.Prelude.{◌≡◌, length, map, take, IfOk, IfSome};
+ghost use Rattle.std.specs.Prelude.{◌≡◌, List, length, map, take, IfOk, IfSome};
+ghost use Rattle.casa_flight.specs.declared.call.Call.{Call};
+ghost use Rattle.casa_flight.specs.declared.reply.Reply.{Reply};
+ghost use Rattle.casa_history.specs.declared.entry.Entry.{Entry};
 ghost use Rattle.casa_server.specs.Begun.{connection_of};
 ghost use Rattle.casa_server.specs.Serving.{Serves};
 
@@ -7,14 +10,15 @@ use crate::connection::{Connection, answer};
 use crate::fault::ServeFault;
 use crate::source::Connections;
 use casa_commit::World;
-use casa_engine::{Engine, Gate};
+use casa_engine::{Engine, EngineName, Gate};
+use casa_flight::{Call, Reply};
+use casa_front::Front;
 use casa_view::{Board, Store};
 use std::alloc::Global;
 use std::io::{Read, Write};
 use std::marker::PhantomData;
 use std::snapshot::Snapshot;
 use std::sync::Wait;
-use std::sync::ledger::Ledger;
 use std::thread;
 use std::thread::{Scope, Threads};
 
@@ -31,14 +35,14 @@ pub struct Served {
 /// Ends when all sessions have ended, and says how many there were.
 ///
 /// A session's fault, or a desk that is refused since 1,024 are open or there is no memory for it, closes its connection
-/// alone, and counts as faulted.
+/// alone, and counts as faulted. What all sessions were told is of one history.
 ///
 /// `AcceptFailed` where the source gives no connection, `SpawnFailed` where the system gives no thread, `NoMemory` where
 /// there is none to keep one connection more; each after the sessions that were begun have ended.
 pub fn serve<
     S: Connections + Drop,
     K: Store<Version: Send + Sync> + Send,
-    L: Ledger + Send + Sync,
+    L: EngineName + Send + Sync,
     G: Gate<Board<K>> + Sync,
     R: Threads + Wait + Sync,
 >(
@@ -49,8 +53,31 @@ pub fn serve<
     connections: u32,
 ) -> Result<Served, ServeFault>
     ensures sessions { IfOk result (λ served. served.sessions ≡ connections) }
-    ensures served { IfOk result (λ served. Serves L ⟦<Board<K> as World>⟧
-        S.Reader.remaining S.Writer.contents (S.coming source) served) }
+    ensures served { IfOk result (λ served. (history : List (Entry Call Reply))
+        × Serves ⟦<Board<K> as World>⟧ L.Named S.Reader.remaining S.Writer.contents history
+        (S.coming source) served) }
+{
+    let (served, _) = serve_seen(rt, alloc, source, engine, connections);
+    served
+}
+
+/// The same, with the history as it is when all sessions have ended.
+pub(crate) fn serve_seen<
+    S: Connections + Drop,
+    K: Store<Version: Send + Sync> + Send,
+    L: EngineName + Send + Sync,
+    G: Gate<Board<K>> + Sync,
+    R: Threads + Wait + Sync,
+>(
+    rt: &R,
+    alloc: Global,
+    source: S,
+    engine: &Engine<K, L, G>,
+    connections: u32,
+) -> (Result<Served, ServeFault>, Front<Call, Reply, L>)
+    ensures sessions { IfOk result.0 (λ served. served.sessions ≡ connections) }
+    ensures served { IfOk result.0 (Serves ⟦<Board<K> as World>⟧ L.Named
+        S.Reader.remaining S.Writer.contents result.1 (S.coming source)) }
 {
     thread::scope(
         thread::scope_env(),
@@ -65,7 +92,7 @@ fn serve_all<
     E,
     S: Connections + Drop,
     K: Store<Version: Send + Sync> + Send,
-    L: Ledger + Send + Sync,
+    L: EngineName + Send + Sync,
     G: Gate<Board<K>> + Sync,
     R: Threads + Wait + Sync,
 >(
@@ -75,20 +102,26 @@ fn serve_all<
     source: S,
     engine: &'s Engine<K, L, G>,
     connections: u32,
-) -> Result<Served, ServeFault>
+) -> (Result<Served, ServeFault>, Front<Call, Reply, L>)
 where
     S::Reader: 's,
     S::Writer: 's,
-    ensures sessions { IfOk result (λ served. served.sessions ≡ connections) }
-    ensures served { IfOk result (λ served. Serves L ⟦<Board<K> as World>⟧
-        S.Reader.remaining S.Writer.contents (S.coming source) served) }
+    ensures sessions { IfOk result.0 (λ served. served.sessions ≡ connections) }
+    ensures served { IfOk result.0 (Serves ⟦<Board<K> as World>⟧ L.Named
+        S.Reader.remaining S.Writer.contents result.1 (S.coming source)) }
 {
-    let begun = begin_all(scope, rt, alloc, source, engine, connections)?;
-    let faulted = end_all(rt, begun);
-    Ok(Served {
+    let mut front = engine.front(rt);
+    let begun = match begin_all(scope, rt, alloc, source, engine, connections) {
+        Ok(begun) => begun,
+        Err(fault) => return (Err(fault), front),
+    };
+    let faulted = end_all(rt, begun, &mut front);
+    engine.see(rt, &mut front);
+    let served = Served {
         sessions: connections,
         faulted,
-    })
+    };
+    (Ok(served), front)
 }
 
 /// Accepts that many connections, and begins a session with each that is given a desk.
@@ -97,7 +130,7 @@ fn begin_all<
     E,
     S: Connections + Drop,
     K: Store<Version: Send + Sync> + Send,
-    L: Ledger + Send + Sync,
+    L: EngineName + Send + Sync,
     G: Gate<Board<K>> + Sync,
     R: Threads + Wait + Sync,
 >(
@@ -133,7 +166,7 @@ fn begin<
     I: Read + Send + Drop + 's,
     O: Write + Send + Drop + 's,
     K: Store<Version: Send + Sync> + Send,
-    L: Ledger + Send + Sync,
+    L: EngineName + Send + Sync,
     G: Gate<Board<K>> + Sync,
     R: Threads + Wait + Sync,
 >(

@@ -7,4 +7,4 @@ use Rattle.casa_server.proofs.begun.end_all.Given as goal
 abbrev pub invariant-ending : goal.invariant-ending
 invariant-ending g l =
     (l.yielded ++ l.begun-iterator.rest.items ≡ l.fn.all.items) × (l.faulted ≤ length l.yielded)
-    × HaveEnded g.row.L.Denot g.W.World g.I.Read.remaining g.O.Write.contents (map connection_of l.yielded) l.faulted
+    × HaveEnded g.W.World g.L.Named g.I.Read.remaining g.O.Write.contents l.front (map connection_of l.yielded) l.faulted

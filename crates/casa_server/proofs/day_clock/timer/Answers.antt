@@ -1,7 +1,5 @@
-use Rattle.casa_server.proofs.Ticking.{is_ticked}
+use Rattle.casa_server.proofs.Ticking.{ticked_in_some}
 use Rattle.casa_server.proofs.day_clock.timer.Goals as goal
 
 pub returns : goal.returns
-returns g c =
-    is_ticked _ _ _ _ c.new-desk.result.pass c.keep_time.new.desk.pass c.keep_time.result
-    (rw c.new-desk.ensures c.in_ok-pass.ensures) c.keep_time.ensures.ticked
+returns g c = ticked_in_some _ _ c.timer_seen-accepted.result.1 _ _ c.timer_seen-accepted.result.0 c.timer_seen-accepted.ensures
