@@ -2,12 +2,13 @@
 
 ghost use Rattle.std.specs.Prelude.{◌≡◌, IfOk};
 ghost use Rattle.std.specs.Arc.{arc_value};
+ghost use Rattle.casa_front.specs.Openings.{history_name};
 ghost use Rattle.casa_engine.specs.Ledgers.{IsBlankOf};
 
 use crate::fault::ProgramFault;
-use casa_engine::{Engine, blank};
+use casa_engine::{Blank, Engine, EngineName, blank};
 use casa_plan::Recalling;
-use casa_server::{DayClock, ServeFault, Served, moment_at, serve, timer};
+use casa_server::{DayClock, ServeFault, Served, moment_at, serve, serve_with_timer};
 use casa_shelf::{Seals, Shelf, Shelving};
 use casa_time::Moment;
 use casa_view::Store;
@@ -16,7 +17,6 @@ use jiff::civil::Date;
 use std::alloc::Global;
 use std::marker::Brand;
 use std::net::{Ipv4Addr, Net, TcpListener, TcpStream};
-use std::sync::ledger::{Blank, Ledger};
 use std::sync::{Arc, Wait};
 use std::thread;
 use std::thread::Threads;
@@ -82,11 +82,11 @@ pub fn serve_desks<
     serve_on::<Brand, Brand, R>(rt, alloc, &listener, &shelf, blank(), connections, timing)
 }
 
-/// Serves the connections of this listener on a new engine, whose ledger is this one, and whose versions have their
-/// positions on this shelf.
+/// Serves the connections of this listener on a new engine, whose ledger and history are these, and whose versions have
+/// their positions on this shelf.
 fn serve_on<
     V: Shelving + Send + Sync,
-    L: Ledger + Send + Sync,
+    L: EngineName + Send + Sync,
     R: Net<Listener = TcpListener, Stream = TcpStream> + Threads + Wait + Clock + Sync,
 >(
     rt: &R,
@@ -98,7 +98,8 @@ fn serve_on<
     timing: Option<Timing>,
 ) -> Result<Served, ProgramFault>
     requires shelf { arc_value shelf.now ≡ V.shelves }
-    requires ledger { IsBlankOf L.name L.parts blank.name blank.parts }
+    requires ledger { IsBlankOf L.name L.parts blank.ledger.name blank.ledger.parts }
+    requires history { history_name blank.history ≡ L.history }
     ensures { IfOk result (λ served. served.sessions ≡ connections) }
 {
     let shelf: Shelf<V, R> = Shelf::new(shelf, rt);
@@ -107,10 +108,11 @@ fn serve_on<
     Ok(serve_by(rt, alloc, listener, &engine, connections, timing)?)
 }
 
-/// Serves the connections of this listener by the desks of this engine, while the timer moves its clock.
+/// Serves the connections of this listener by the desks of this engine, while the timer moves its clock, if it is to be
+/// moved.
 fn serve_by<
     K: Store<Version: Send + Sync> + Send,
-    L: Ledger + Send + Sync,
+    L: EngineName + Send + Sync,
     R: Threads + Wait + Clock + Sync,
 >(
     rt: &R,
@@ -122,25 +124,11 @@ fn serve_by<
 ) -> Result<Served, ServeFault>
     ensures { IfOk result (λ served. served.sessions ≡ connections) }
 {
-    let (served, ()) = thread::join(
-        rt,
-        || serve(rt, alloc, listener, engine, connections),
-        || keep_time(rt, alloc, engine, timing),
-    );
-    served
-}
-
-/// Moves the clock of the engine, if it is to be moved.
-fn keep_time<K: Store, L: Ledger + Send + Sync, R: Threads + Wait + Clock + Sync>(
-    rt: &R,
-    alloc: Global,
-    engine: &Engine<K, L, Recalling>,
-    timing: Option<Timing>,
-) {
     let Some(Timing { day, turns }) = timing else {
-        return;
+        return serve(rt, alloc, listener, engine, connections);
     };
     let mut clock = EachSecond { rt, day };
     // What the timer could not do is nobody's loss but the clock's, so the server goes on.
-    let _ = timer(rt, alloc, &mut clock, engine, turns);
+    let (served, _) = serve_with_timer(rt, alloc, listener, engine, connections, &mut clock, turns);
+    served
 }

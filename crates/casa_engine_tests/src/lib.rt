@@ -10,4 +10,6 @@ mod lists;
 #[cfg(test)]
 mod played;
 #[cfg(test)]
+mod told;
+#[cfg(test)]
 mod watched;

@@ -2,11 +2,12 @@
 
 ghost use Rattle.std.specs.Prelude.{◌≡◌};
 ghost use Rattle.std.specs.Arc.{arc_value};
+ghost use Rattle.casa_front.specs.Openings.{history_name};
 ghost use Rattle.casa_engine.specs.Ledgers.{IsBlankOf};
 
 use crate::watched::{Signals, Watched};
 use casa_desk::Desk;
-use casa_engine::{Audit, DeskPass, Engine, EngineDesk, blank};
+use casa_engine::{Audit, Blank, DeskPass, Engine, EngineDesk, EngineName, blank};
 use casa_flight::{Call, Reply};
 use casa_history::{History, Holds};
 use casa_plain::Plain;
@@ -16,7 +17,6 @@ use casa_wire::{read_call, reply_line};
 use std::alloc::Global;
 use std::marker::Brand;
 use std::process::Abort;
-use std::sync::ledger::{Blank, Ledger};
 use std::sync::{Arc, Wait};
 use std::thread;
 use std::thread::Threads;
@@ -96,7 +96,7 @@ fn make_calls<D: Desk>(
 }
 
 /// Opens desks, and writes why one is refused.
-fn open_desks<'a, K: Store, L: Ledger, R: Wait + Abort>(
+fn open_desks<'a, K: Store, L: EngineName, R: Wait + Abort>(
     rt: &'a R,
     alloc: Global,
     engine: &'a Engine<K, L, Watched<'a>>,
@@ -121,7 +121,7 @@ fn open_desks<'a, K: Store, L: Ledger, R: Wait + Abort>(
 fn all_calls<
     'a,
     K: Store<Version: Send + Sync> + Send,
-    L: Ledger + Send + Sync,
+    L: EngineName + Send + Sync,
     R: Threads + Wait + Sync + Abort,
 >(
     rt: &'a R,
@@ -166,10 +166,11 @@ fn is_sequential(rt: &impl Abort, alloc: Global, history: &History<Call, Reply>)
 /// What comes of a script on an engine over this store, with this ledger.
 fn played_over<
     K: Store<Version: Send + Sync> + Send,
-    L: Ledger + Send + Sync,
+    L: EngineName + Send + Sync,
     R: Threads + Wait + Sync + Abort,
 >(rt: &R, alloc: Global, store: K, blank: Blank, script: &Script<'_>) -> Told
-    requires { IsBlankOf L.name L.parts blank.name blank.parts }
+    requires ledger { IsBlankOf L.name L.parts blank.ledger.name blank.ledger.parts }
+    requires history { history_name blank.history ≡ L.history }
 {
     let signals = Signals::new(script.meet);
     let gate = Watched { signals: &signals };
@@ -194,15 +195,14 @@ fn played_over<
 }
 
 /// The same over this shelf.
-fn played_on<V: Shelving + Send + Sync, L: Ledger + Send + Sync, R: Threads + Wait + Sync + Abort>(
-    rt: &R,
-    alloc: Global,
-    shelf: &Arc<Seals>,
-    blank: Blank,
-    script: &Script<'_>,
-) -> Told
+fn played_on<
+    V: Shelving + Send + Sync,
+    L: EngineName + Send + Sync,
+    R: Threads + Wait + Sync + Abort,
+>(rt: &R, alloc: Global, shelf: &Arc<Seals>, blank: Blank, script: &Script<'_>) -> Told
     requires shelf { arc_value shelf.now ≡ V.shelves }
-    requires ledger { IsBlankOf L.name L.parts blank.name blank.parts }
+    requires ledger { IsBlankOf L.name L.parts blank.ledger.name blank.ledger.parts }
+    requires history { history_name blank.history ≡ L.history }
 {
     let shelf: Shelf<V, R> = Shelf::new(shelf, rt);
     played_over::<Shelf<V, R>, L, R>(rt, alloc, shelf, blank, script)

@@ -2,10 +2,11 @@
 
 ghost use Rattle.std.specs.Prelude.{◌≡◌};
 ghost use Rattle.std.specs.Arc.{arc_value};
+ghost use Rattle.casa_front.specs.Openings.{history_name};
 ghost use Rattle.casa_engine.specs.Ledgers.{IsBlankOf};
 
 use crate::clients::{FILING, OPENING};
-use casa_engine::{DeskPass, Direct, Engine, EngineDesk, blank};
+use casa_engine::{Blank, DeskPass, Direct, Engine, EngineDesk, EngineName, blank};
 use casa_history::{Settled, Torn};
 use casa_session::{Desk, SessionFault, run};
 use casa_shelf::{Seals, Shelf, Shelving};
@@ -15,7 +16,6 @@ use std::io;
 use std::io::{ErrorKind, Write};
 use std::marker::Brand;
 use std::process::Abort;
-use std::sync::ledger::{Blank, Ledger};
 use std::sync::{Arc, Wait};
 
 /// Nothing can be written to it.
@@ -54,7 +54,7 @@ const SHOWN: &str =
 "#;
 
 /// Desk 0 opens a regulation, desk 1 files a flight and loses its connection, and desk 0 sees the flight. Its pass.
-fn file_and_lose<'a, K: Store, L: Ledger, R: Wait + Abort>(
+fn file_and_lose<'a, K: Store, L: EngineName, R: Wait + Abort>(
     rt: &'a R,
     alloc: Global,
     engine: &'a Engine<K, L, Direct>,
@@ -68,13 +68,14 @@ fn file_and_lose<'a, K: Store, L: Ledger, R: Wait + Abort>(
 }
 
 /// How many desks a new engine over this store had, and how its history settles without the pass of the desk that was lost.
-fn settled_over<K: Store, L: Ledger, R: Wait + Abort>(
+fn settled_over<K: Store, L: EngineName, R: Wait + Abort>(
     rt: &R,
     alloc: Global,
     store: K,
     blank: Blank,
 ) -> (u32, Result<Settled, Torn>)
-    requires { IsBlankOf L.name L.parts blank.name blank.parts }
+    requires ledger { IsBlankOf L.name L.parts blank.ledger.name blank.ledger.parts }
+    requires history { history_name blank.history ≡ L.history }
 {
     let engine = Engine::<K, L, Direct>::new(alloc, store, blank, 7, Direct).expect(rt, "memory");
     let pass = file_and_lose(rt, alloc, &engine);
@@ -85,14 +86,15 @@ fn settled_over<K: Store, L: Ledger, R: Wait + Abort>(
 }
 
 /// The same over this shelf.
-fn settled_on<V: Shelving + Send + Sync, L: Ledger, R: Wait + Abort>(
+fn settled_on<V: Shelving + Send + Sync, L: EngineName, R: Wait + Abort>(
     rt: &R,
     alloc: Global,
     shelf: &Arc<Seals>,
     blank: Blank,
 ) -> (u32, Result<Settled, Torn>)
     requires shelf { arc_value shelf.now ≡ V.shelves }
-    requires ledger { IsBlankOf L.name L.parts blank.name blank.parts }
+    requires ledger { IsBlankOf L.name L.parts blank.ledger.name blank.ledger.parts }
+    requires history { history_name blank.history ≡ L.history }
 {
     let shelf: Shelf<V, R> = Shelf::new(shelf, rt);
     settled_over::<Shelf<V, R>, L, R>(rt, alloc, shelf, blank)

@@ -2,10 +2,11 @@
 
 ghost use Rattle.std.specs.Prelude.{◌≡◌, None};
 ghost use Rattle.std.specs.Arc.{arc_value};
+ghost use Rattle.casa_front.specs.Openings.{history_name};
 ghost use Rattle.casa_engine.specs.Ledgers.{IsBlankOf};
 
 use crate::clients::OPENING;
-use casa_engine::{Audit, Direct, Engine, blank};
+use casa_engine::{Audit, Blank, Direct, Engine, EngineName, blank};
 use casa_server::{Connections, ServeFault, Served, serve};
 use casa_shelf::{Seals, Shelf, Shelving};
 use casa_view::{Copies, Store};
@@ -14,7 +15,6 @@ use std::io;
 use std::io::Sink;
 use std::marker::Brand;
 use std::process::Abort;
-use std::sync::ledger::{Blank, Ledger};
 use std::sync::{Arc, Wait};
 use std::test::Fail;
 use std::thread::Threads;
@@ -46,10 +46,11 @@ type Seen = (Result<Served, ServeFault>, Audit);
 /// What is seen of so many of these connections on a new engine over this store.
 fn seen_over<
     K: Store<Version: Send + Sync> + Send,
-    L: Ledger + Send + Sync,
+    L: EngineName + Send + Sync,
     R: Threads + Wait + Abort + Sync,
 >(rt: &R, alloc: Global, store: K, blank: Blank, sent: Sent, connections: u32) -> Seen
-    requires { IsBlankOf L.name L.parts blank.name blank.parts }
+    requires ledger { IsBlankOf L.name L.parts blank.ledger.name blank.ledger.parts }
+    requires history { history_name blank.history ≡ L.history }
 {
     let engine = Engine::<K, L, Direct>::new(alloc, store, blank, 7, Direct).expect(rt, "memory");
     let served = serve(rt, alloc, sent, &engine, connections);
@@ -57,16 +58,14 @@ fn seen_over<
 }
 
 /// The same over this shelf.
-fn seen_on<V: Shelving + Send + Sync, L: Ledger + Send + Sync, R: Threads + Wait + Abort + Sync>(
-    rt: &R,
-    alloc: Global,
-    shelf: &Arc<Seals>,
-    blank: Blank,
-    sent: Sent,
-    connections: u32,
-) -> Seen
+fn seen_on<
+    V: Shelving + Send + Sync,
+    L: EngineName + Send + Sync,
+    R: Threads + Wait + Abort + Sync,
+>(rt: &R, alloc: Global, shelf: &Arc<Seals>, blank: Blank, sent: Sent, connections: u32) -> Seen
     requires shelf { arc_value shelf.now ≡ V.shelves }
-    requires ledger { IsBlankOf L.name L.parts blank.name blank.parts }
+    requires ledger { IsBlankOf L.name L.parts blank.ledger.name blank.ledger.parts }
+    requires history { history_name blank.history ≡ L.history }
 {
     let shelf: Shelf<V, R> = Shelf::new(shelf, rt);
     seen_over::<Shelf<V, R>, L, R>(rt, alloc, shelf, blank, sent, connections)

@@ -2,12 +2,13 @@
 
 ghost use Rattle.std.specs.Prelude.{◌≡◌, Some};
 ghost use Rattle.std.specs.Arc.{arc_value};
+ghost use Rattle.casa_front.specs.Openings.{history_name};
 ghost use Rattle.casa_engine.specs.Ledgers.{IsBlankOf};
 
 use crate::clients::{
     FILING, HALF_A_LINE, LISTING, NOTHING, OPENING, SHOWING, Talk, connect, talk_in_turn, visit,
 };
-use casa_engine::{Direct, Engine, blank};
+use casa_engine::{Blank, Direct, Engine, EngineName, blank};
 use casa_server::{DayClock, ServeFault, Served, TimerFault, serve, timer};
 use casa_shelf::{Seals, Shelf, Shelving};
 use casa_time::Moment;
@@ -16,7 +17,6 @@ use std::alloc::Global;
 use std::marker::Brand;
 use std::net::{Net, TcpListener, TcpStream};
 use std::process::Abort;
-use std::sync::ledger::{Blank, Ledger};
 use std::sync::{Arc, Wait};
 use std::test::Fail;
 use std::thread;
@@ -65,7 +65,7 @@ struct Seen {
 /// Plays a scene with an engine.
 fn play_with<
     K: Store<Version: Send + Sync> + Send,
-    L: Ledger + Send + Sync,
+    L: EngineName + Send + Sync,
     R: Net<Listener = TcpListener, Stream = TcpStream> + Threads + Wait + Abort + Sync,
 >(rt: &R, alloc: Global, engine: &Engine<K, L, Direct>, scene: Scene) -> Seen {
     for _ in 0..scene.desks {
@@ -103,11 +103,12 @@ fn play_with<
 /// Plays a scene on a new engine with this ledger, over this shelf.
 fn play_on<
     V: Shelving + Send + Sync,
-    L: Ledger + Send + Sync,
+    L: EngineName + Send + Sync,
     R: Net<Listener = TcpListener, Stream = TcpStream> + Threads + Wait + Abort + Sync,
 >(rt: &R, alloc: Global, shelf: &Arc<Seals>, blank: Blank, scene: Scene) -> Seen
     requires shelf { arc_value shelf.now ≡ V.shelves }
-    requires ledger { IsBlankOf L.name L.parts blank.name blank.parts }
+    requires ledger { IsBlankOf L.name L.parts blank.ledger.name blank.ledger.parts }
+    requires history { history_name blank.history ≡ L.history }
 {
     let shelf: Shelf<V, R> = Shelf::new(shelf, rt);
     let engine = Engine::<Shelf<V, R>, L, Direct>::new(alloc, shelf, blank, 7, Direct).expect(

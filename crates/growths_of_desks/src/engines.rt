@@ -2,13 +2,14 @@
 
 ghost use Rattle.std.specs.Prelude.{◌≡◌};
 ghost use Rattle.std.specs.Arc.{arc_value};
+ghost use Rattle.casa_front.specs.Openings.{history_name};
 ghost use Rattle.casa_engine.specs.Ledgers.{IsBlankOf};
 
 use crate::answers::{Seen, call, made};
 use crate::counting::Counting;
 use casa_commit::DeskFault;
 use casa_desk::Desk;
-use casa_engine::{Audit, DeskPass, Engine, EngineDesk, blank};
+use casa_engine::{Audit, Blank, DeskPass, Engine, EngineDesk, EngineName, blank};
 use casa_flight::{Call, Reply};
 use casa_history::{History, Holds, Settled, Torn};
 use casa_shelf::{Seals, Shelf, Shelving};
@@ -18,7 +19,6 @@ use std::alloc::Global;
 use std::cell::Cell;
 use std::io::Read;
 use std::marker::Brand;
-use std::sync::ledger::{Blank, Ledger};
 use std::sync::{Arc, Wait};
 use std::thread::Threads;
 use trials::{Ending, Fault, Trial, read_mark};
@@ -59,7 +59,7 @@ pub enum Place {
 type Passes<K, L> = Vec<DeskPass<K, L>>;
 
 /// Keeps a pass, and tells it.
-fn keep<K: Store, L: Ledger>(
+fn keep<K: Store, L: EngineName>(
     alloc: Global,
     passes: &mut Passes<K, L>,
     pass: DeskPass<K, L>,
@@ -73,7 +73,7 @@ fn keep<K: Store, L: Ledger>(
 }
 
 /// Opens a desk, and keeps its pass.
-fn open<K: Store, L: Ledger, R: Wait>(
+fn open<K: Store, L: EngineName, R: Wait>(
     rt: &R,
     engine: &Engine<K, L, Counting<'_>>,
     passes: &mut Passes<K, L>,
@@ -88,7 +88,7 @@ fn open<K: Store, L: Ledger, R: Wait>(
 }
 
 /// Opens so many desks, and another one between two bytes of the input, once more where that is refused memory.
-fn opened<K: Store, L: Ledger, R: Wait, I: Read>(
+fn opened<K: Store, L: EngineName, R: Wait, I: Read>(
     rt: &R,
     alloc: Global,
     engine: &Engine<K, L, Counting<'_>>,
@@ -116,7 +116,7 @@ fn opened<K: Store, L: Ledger, R: Wait, I: Read>(
 }
 
 /// Audits the lists between two bytes of the input, and once more where that is refused memory; whether it was.
-fn audited<K: Store, L: Ledger, R: Threads + Wait + Sync, I: Read>(
+fn audited<K: Store, L: EngineName, R: Threads + Wait + Sync, I: Read>(
     rt: &R,
     engine: &Engine<K, L, Counting<'_>>,
     reader: &mut I,
@@ -165,7 +165,7 @@ fn done<D: Desk, I: Read>(
 }
 
 /// What a new desk does, whose pass is kept.
-fn at_desk<K: Store, L: Ledger, R: Wait, I: Read>(
+fn at_desk<K: Store, L: EngineName, R: Wait, I: Read>(
     rt: &R,
     alloc: Global,
     engine: &Engine<K, L, Counting<'_>>,
@@ -185,7 +185,7 @@ fn at_desk<K: Store, L: Ledger, R: Wait, I: Read>(
 }
 
 /// What is done at an engine.
-fn at_engine<K: Store, L: Ledger, R: Threads + Wait + Sync, I: Read>(
+fn at_engine<K: Store, L: EngineName, R: Threads + Wait + Sync, I: Read>(
     rt: &R,
     alloc: Global,
     engine: &Engine<K, L, Counting<'_>>,
@@ -224,7 +224,7 @@ fn told_end(
 }
 
 /// What comes of a deed on a new engine over this store, with this ledger.
-fn on_store<K: Store, L: Ledger, R: Threads + Wait + Sync, I: Read>(
+fn on_store<K: Store, L: EngineName, R: Threads + Wait + Sync, I: Read>(
     rt: &R,
     alloc: Global,
     store: K,
@@ -232,7 +232,8 @@ fn on_store<K: Store, L: Ledger, R: Threads + Wait + Sync, I: Read>(
     reader: &mut I,
     plan: Plan<'_>,
 ) -> Result<Seen, Fault>
-    requires { IsBlankOf L.name L.parts blank.name blank.parts }
+    requires ledger { IsBlankOf L.name L.parts blank.ledger.name blank.ledger.parts }
+    requires history { history_name blank.history ≡ L.history }
 {
     let again = Cell::new(0);
     let gate = Counting { again: &again };
@@ -253,7 +254,7 @@ fn on_store<K: Store, L: Ledger, R: Threads + Wait + Sync, I: Read>(
 }
 
 /// The same over this shelf.
-fn on_shelf<V: Shelving, L: Ledger, R: Threads + Wait + Sync, I: Read>(
+fn on_shelf<V: Shelving, L: EngineName, R: Threads + Wait + Sync, I: Read>(
     rt: &R,
     alloc: Global,
     shelf: &Arc<Seals>,
@@ -262,7 +263,8 @@ fn on_shelf<V: Shelving, L: Ledger, R: Threads + Wait + Sync, I: Read>(
     plan: Plan<'_>,
 ) -> Result<Seen, Fault>
     requires shelf { arc_value shelf.now ≡ V.shelves }
-    requires ledger { IsBlankOf L.name L.parts blank.name blank.parts }
+    requires ledger { IsBlankOf L.name L.parts blank.ledger.name blank.ledger.parts }
+    requires history { history_name blank.history ≡ L.history }
 {
     let shelf: Shelf<V, R> = Shelf::new(shelf, rt);
     on_store::<Shelf<V, R>, L, R, I>(rt, alloc, shelf, blank, reader, plan)
