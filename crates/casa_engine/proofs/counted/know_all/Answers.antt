@@ -1,4 +1,4 @@
-use Rattle.std.proofs.Common.{◌∙◌, All, take, subst, slice_index_or}
+use Rattle.std.proofs.Common.{◌∙◌, All, subst, slice_index_or}
 use Rattle.std.proofs.lemmas.List.{take_all}
 use Rattle.std.proofs.lemmas.List.Elements.{All-map, All-more}
 use mathlib.Core.List.{IsPrefix}
