@@ -1,4 +1,5 @@
 pub mod EachOnce
+pub mod Held
 pub mod Steps
 pub mod Summed
 pub mod Told

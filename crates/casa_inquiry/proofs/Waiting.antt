@@ -1,6 +1,6 @@
 -- what is put down of each number
-use Rattle.std.proofs.Common.{◌≡◌, ℕ, ◌+◌, ◌-◌, ◌<◌, ◌∙◌, sym, ap, List, [], ◌∷◌, ◌++◌, length, drop, get_or, suc, Option, None, Some, arith, add-one, append_assoc, drop-cons}
-use Rattle.std.specs.List.{filter_map, flat_map, range_with_len, cons_option}
+use Rattle.std.proofs.Common.{◌≡◌, ℕ, ◌+◌, ◌-◌, ◌<◌, ◌∙◌, sym, ap, List, ◌++◌, suc, arith, append_assoc}
+use Rattle.std.specs.List.{flat_map, range_with_len}
 
 -- the next of these numbers
 pub next_slot : {Y : Type 0} (f : ℕ → List Y) (k until : ℕ) (done now all : List Y) → k < until → now ≡ done ++ f k → done ++ flat_map f (range_with_len k (until - k)) ≡ all

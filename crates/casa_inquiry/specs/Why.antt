@@ -1,9 +1,11 @@
 -- to believe: why a flight waits
-use Rattle.std.specs.Prelude.{ℕ, ◌-◌, List, [], ◌∷◌, length, Bool, false, not, ◌&&◌, ◌==◌, Option, None, Some, if◌then◌else◌}
-use Rattle.std.specs.Option.{option_map, option_map_or}
+use Rattle.std.specs.Prelude.{◌≡◌, ℕ, ◌+◌, ◌-◌, ◌<◌, List, [], ◌∷◌, length, map, slice_index_or, Bool, false, not, ◌&&◌, ◌==◌, Option, None, Some, Vec, if◌then◌else◌}
+use Rattle.std.specs.declared.alloc.Global.{Global}
+use Rattle.std.specs.Option.{option_and_then, option_map, option_map_or}
 use Rattle.std.specs.List.{range_with_len, filter_map, flat_map, list_any}
 use Rattle.casa_grid.specs.declared.slot.Window.{Window}
 use Rattle.casa_grid.specs.declared.slot.Place.{Place}
+use Rattle.casa_grid.specs.declared.slot.Place.TheVariants.{Slot, Over}
 use Rattle.casa_grid.specs.Slots.{slots, begin_at, wanted}
 use Rattle.casa_flight.specs.declared.row.Row.{Row}
 use Rattle.casa_flight.specs.declared.row.Stance.{Stance}
@@ -20,13 +22,13 @@ use Rattle.casa_slots.specs.Walk.{low_after}
 use Rattle.casa_inquiry.specs.declared.why.Reasons.{Reasons}
 use Rattle.casa_inquiry.specs.declared.why.Holding.{Holding}
 use Rattle.casa_inquiry.specs.declared.why.Rule.{Rule}
-use Rattle.casa_inquiry.specs.declared.why.Rule.TheVariants.{GreatestDelay, SmallestId, SinceEntry, Exempt, Gone, Outside}
+use Rattle.casa_inquiry.specs.declared.why.Rule.TheVariants.{GreatestDelay, SmallestId, SinceEntry, GovernedGone, Exempt, Gone, Outside}
 
 -- whether another regulation offers as much delay
 abbrev pub is_tied : List Offer → Offer → Bool
 is_tied os o = list_any (λ (x : Offer). (x.delay == o.delay) && not (same_text x.id o.id)) os
 
--- the rule by which a regulation governs, by the most penalising of the offers that there are now
+-- the rule by which a regulation governs a flight that is not gone, by the most penalising of the offers that there are now
 abbrev pub rule_by : Text → List Offer → Option Offer → Rule
 rule_by id os None = SinceEntry
 rule_by id os (Some o) = if not (same_text o.id id) then SinceEntry else (if is_tied os o then SmallestId else GreatestDelay)
@@ -35,8 +37,12 @@ rule_by id os (Some o) = if not (same_text o.id id) then SinceEntry else (if is_
 abbrev pub rule_free : ℕ → Row → Rule
 rule_free clock row = if is_exempt row then Exempt else (if is_gone clock row.plan then Gone else Outside)
 
+-- the rule by which a regulation governs a flight; a gone one enters nowhere, so that no offer counts
+abbrev pub rule_governed : ℕ → Row → List Offer → Text → Rule
+rule_governed clock row os id = if is_gone clock row.plan then GovernedGone else rule_by id os (most_penalising os)
+
 abbrev pub rule_of : ℕ → Row → List Offer → Rule
-rule_of clock row os = option_map_or (λ (id : Text). rule_by id os (most_penalising os)) row.governing (rule_free clock row)
+rule_of clock row os = option_map_or (rule_governed clock row os) row.governing (rule_free clock row)
 
 -- whether a flight of a list has slot k, as a competitor or by its issued time
 abbrev pub has_slot : Listing → ℕ → Text → Bool
@@ -51,6 +57,23 @@ held_by l k e = if has_slot l k e.0 then Some (slot_with l k (Some e)) else None
 
 abbrev pub held : Listing → ℕ → List Holding
 held l k = filter_map (held_by l k) l.flights
+
+-- inner: the slot of a place
+abbrev pub slot_in : Place → Option ℕ
+slot_in (Slot k) = Some k
+slot_in Over = None
+
+-- inner: the slot that a flight of a list has
+abbrev pub slot_held : Listing → Text → Option ℕ
+slot_held l key = option_and_then slot_in (governed_place l key)
+
+-- inner: what is in row k
+abbrev pub held_in : List (Vec Holding Global) → ℕ → List Holding
+held_in rows k = slice_index_or (map (λ (row : Vec Holding Global). row.items) rows) k []
+
+-- inner: each row has those of these flights that have its slot, the slots being numbered from here on
+abbrev pub AreHeld : Listing → ℕ → List (Text × Stance) → List (Vec Holding Global) → Type 0
+AreHeld l from es rows = (k : ℕ) → k < length rows → held_in rows k ≡ filter_map (held_by l (from + k)) es
 
 -- who holds slot k: these flights, or nobody
 abbrev pub or_nobody : Listing → ℕ → List Holding → List Holding

@@ -1,7 +1,7 @@
 //! Why a flight waits.
 
-ghost use Rattle.std.specs.Prelude.{◌≡◌, ◌≤◌, ◌<◌, ◌++◌, ◌-◌, Some, IfOk, OnOk, length};
-ghost use Rattle.std.specs.List.{range_with_len};
+ghost use Rattle.std.specs.Prelude.{◌≡◌, ◌≤◌, ◌<◌, ◌++◌, ◌+◌, ◌-◌, ◌∷◌, [], ℕ, Some, IfOk, OnOk, length};
+ghost use Rattle.std.specs.List.{filter_map, range_with_len};
 ghost use Rattle.casa_time.specs.Moment.{last_moment};
 ghost use Rattle.casa_grid.specs.Slots.{slots};
 ghost use Rattle.casa_flight.specs.declared.row.Stance.{Stance};
@@ -9,7 +9,7 @@ ghost use Rattle.casa_filing.specs.Subject.{subject};
 ghost use Rattle.casa_flight.specs.Listing.{cto_as, delay_in};
 ghost use Rattle.casa_flight.specs.Entry.{most_penalising, offer_in, with_competitor};
 ghost use Rattle.casa_slots.specs.Walk.{low_after};
-ghost use Rattle.casa_inquiry.specs.Why.{has_slot, held_by, holdings, holdings_at, is_tied, rule_by, rule_free, rule_of, slot_with, slots_waited};
+ghost use Rattle.casa_inquiry.specs.Why.{AreHeld, held, held_by, held_in, holdings, holdings_at, is_tied, rule_by, rule_free, rule_governed, rule_of, slot_held, slot_with, slots_waited};
 
 use casa_flight::{
     Comp, FlightReply, Key, Offer, Plan, RegId, Regulation, Row, SharedSlice, most_penalising,
@@ -40,6 +40,8 @@ pub enum Rule {
     SmallestId,
     /// Its regulation has governed it since it entered; by what is offered now, another one would.
     SinceEntry,
+    /// Its regulation has governed it since it entered; it enters no more, since its take-off time is before the clock.
+    GovernedGone,
     /// Nothing governs it, since it is exempt.
     Exempt,
     /// Nothing governs it, since its take-off time is before the clock.
@@ -96,12 +98,23 @@ pub fn rule_of(clock: Moment, row: &Row, offers: &[Offer]) -> Rule
     ensures { result ≡ rule_of clock row.now offers.now }
 {
     match row.governing {
-        Some(id) => rule_by(id, offers),
+        Some(id) => rule_governed(clock, row, id, offers),
         None => rule_free(clock, row),
     }
 }
 
-/// The rule by which this regulation governs a flight with these offers.
+/// The rule by which this regulation governs a flight at this clock and with these offers.
+fn rule_governed(clock: Moment, row: &Row, id: RegId, offers: &[Offer]) -> Rule
+    ensures { result ≡ rule_governed clock row.now offers.now id }
+{
+    if row.plan.is_gone(clock) {
+        Rule::GovernedGone
+    } else {
+        rule_by(id, offers)
+    }
+}
+
+/// The rule by which this regulation governs a flight that is not gone, with these offers.
 fn rule_by(id: RegId, offers: &[Offer]) -> Rule
     ensures { result ≡ rule_by id offers.now (most_penalising offers.now) }
 {
@@ -160,9 +173,10 @@ pub fn holdings(
     ensures { IfOk result (λ all. all ≡ holdings key.now list.now) }
 {
     let (from, until) = waited(list, key);
+    let rows = held_from(alloc, list, from, until)?;
     let mut all = Vec::new(alloc);
     for slot in from..until {
-        push_holdings(&mut all, list, slot)?;
+        push_holdings(&mut all, list, slot, &rows[slot - from])?;
     }
     SharedSlice::from_vec(all)
 }
@@ -195,32 +209,87 @@ fn behind(count: usize, place: Place) -> usize
     }
 }
 
-/// Puts down who holds a slot.
-fn push_holdings(all: &mut Vec<Holding>, list: &SlotList, slot: usize) -> Result<(), AllocError>
-    requires { slot < length (slots list.now.profile) }
-    ensures { OnOk result (all.new.items ≡ all.old.items ++ holdings_at list.now slot) }
+/// The flights that have each slot from one on and before another, slot by slot, in the order of their keys.
+///
+/// It goes over the flights of the list once.
+fn held_from(
+    alloc: Global,
+    list: &SlotList,
+    from: usize,
+    until: usize,
+) -> Result<Vec<Vec<Holding>>, AllocError>
+    requires { until ≤ length (slots list.now.profile) }
+    ensures number { IfOk result (λ rows. length rows.items ≡ until - from) }
+    ensures held { IfOk result (λ rows. AreHeld list.now from list.now.flights rows.items) }
 {
-    let before = all.len();
+    let mut rows = empty_rows(alloc, until.saturating_sub(from))?;
     for member in list.flights() {
-        if let Some(holding) = held_by(list, slot, member) {
-            all.push(holding)?;
-        }
+        put_down(&mut rows, list, from, member)?;
     }
-    if all.len() == before {
-        all.push(slot_with(list, slot, None))?;
+    Ok(rows)
+}
+
+/// So many rows with nothing in them.
+fn empty_rows(alloc: Global, number: usize) -> Result<Vec<Vec<Holding>>, AllocError>
+    ensures number { IfOk result (λ rows. length rows.items ≡ number) }
+    ensures empty { IfOk result (λ rows. (k : ℕ) → k < number → held_in rows.items k ≡ []) }
+{
+    let mut rows = Vec::with_capacity(alloc, number)?;
+    for _ in 0..number {
+        rows.push(Vec::new(alloc))?;
     }
+    Ok(rows)
+}
+
+/// Puts a flight of a list down in the row of the slot that it has, if there is one: the rows are those of the slots from
+/// this one on.
+fn put_down(
+    rows: &mut [Vec<Holding>],
+    list: &SlotList,
+    from: usize,
+    member: &Member,
+) -> Result<(), AllocError>
+    requires { length rows.old ≤ length (slots list.now.profile) - from }
+    ensures { OnOk result ((k : ℕ) → k < length rows.old → held_in rows.new k
+        ≡ held_in rows.old k ++ filter_map (held_by list.now (from + k)) (member.now ∷ [])) }
+{
+    let Some(slot) = slot_held(list, &member.key()) else {
+        return Ok(());
+    };
+    if slot < from || slot - from >= rows.len() {
+        return Ok(());
+    }
+    rows[slot - from].push(slot_with(list, slot, Some(*member)))?;
     Ok(())
 }
 
-/// A slot with this flight of the list, if that has it.
-fn held_by(list: &SlotList, slot: usize, member: &Member) -> Option<Holding>
-    requires { slot < length (slots list.now.profile) }
-    ensures { result ≡ held_by list.now slot member.now }
+/// The slot that a flight of a list has; `None` where it has none.
+fn slot_held(list: &SlotList, key: &Key) -> Option<usize>
+    ensures { result ≡ slot_held list.now key.now }
 {
-    if !has_slot(list, slot, &member.key()) {
-        return None;
+    match list.place_of(key) {
+        Some(Place::Slot(slot)) => Some(slot),
+        _ => None,
     }
-    Some(slot_with(list, slot, Some(*member)))
+}
+
+/// Puts down who holds a slot: these flights, or nobody.
+fn push_holdings(
+    all: &mut Vec<Holding>,
+    list: &SlotList,
+    slot: usize,
+    these: &[Holding],
+) -> Result<(), AllocError>
+    requires within { slot < length (slots list.now.profile) }
+    requires held { these.now ≡ held list.now slot }
+    ensures { OnOk result (all.new.items ≡ all.old.items ++ holdings_at list.now slot) }
+{
+    if these.is_empty() {
+        all.push(slot_with(list, slot, None))?;
+    } else {
+        all.extend_from_slice(these)?;
+    }
+    Ok(())
 }
 
 /// A slot with who has it.
@@ -232,15 +301,5 @@ fn slot_with(list: &SlotList, slot: usize, holder: Option<Member>) -> Holding
         slot,
         begin: list.grid().begin(slot),
         holder,
-    }
-}
-
-/// Whether a flight of a list has a slot.
-fn has_slot(list: &SlotList, slot: usize, key: &Key) -> bool
-    ensures { result ≡ has_slot list.now slot key.now }
-{
-    match list.place_of(key) {
-        Some(Place::Slot(number)) => slot == number,
-        _ => false,
     }
 }

@@ -13,7 +13,7 @@ use Rattle.casa_flight.specs.Entry.{Offer}
 use Rattle.casa_inquiry.specs.declared.why.Reasons.{Reasons}
 use Rattle.casa_inquiry.specs.declared.why.Holding.{Holding}
 use Rattle.casa_inquiry.specs.declared.why.Rule.{Rule}
-use Rattle.casa_inquiry.specs.declared.why.Rule.TheVariants.{GreatestDelay, SmallestId, SinceEntry, Exempt, Gone, Outside}
+use Rattle.casa_inquiry.specs.declared.why.Rule.TheVariants.{GreatestDelay, SmallestId, SinceEntry, GovernedGone, Exempt, Gone, Outside}
 use Rattle.casa_report.specs.Columns.{Column, left, right, shown_line, titles}
 use Rattle.casa_report.specs.Heading.{heading_line}
 
@@ -41,6 +41,7 @@ abbrev pub rule_text : Rule → Text
 rule_text GreatestDelay = codes " governs: it offers the greatest delay."
 rule_text SmallestId = codes " governs: it offers the greatest delay, and others as much; its identifier is the smallest."
 rule_text SinceEntry = codes " governs since the flight entered; if it entered now, another one would."
+rule_text GovernedGone = codes " governs since the flight entered; it is gone now."
 rule_text Exempt = codes " governs: the flight is exempt."
 rule_text Gone = codes " governs: the flight is gone."
 rule_text Outside = codes " governs: the flight is subject to no open regulation."

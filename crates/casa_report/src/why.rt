@@ -132,6 +132,7 @@ fn rule_text(rule: Rule) -> &'static [u8]
         }
         Rule::SinceEntry =>
             b" governs since the flight entered; if it entered now, another one would.",
+        Rule::GovernedGone => b" governs since the flight entered; it is gone now.",
         Rule::Exempt => b" governs: the flight is exempt.",
         Rule::Gone => b" governs: the flight is gone.",
         Rule::Outside => b" governs: the flight is subject to no open regulation.",
