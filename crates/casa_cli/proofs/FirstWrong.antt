@@ -1,23 +1,22 @@
 -- words ask for what their checks say
-use Rattle.std.proofs.Common.{◌≡◌, ◌∙◌, ◌||◌, ◌&&◌, ◌==◌, ℕ, Bool, true, false, not, cond, refl, codes, List, [], ◌∷◌, length, Option, Some, None, is_some, is_none, option_map, arith}
-use Rattle.std.specs.Prelude.{option_and_then, IsSome, Ok, Err}
+use Rattle.std.proofs.Common.{◌≡◌, ◌∙◌, ◌||◌, ◌&&◌, ◌==◌, ℕ, Bool, true, false, not, cond, refl, ap, codes, List, [], ◌∷◌, length, Option, Some, None, Result, is_some, is_none, option_map, arith}
+use Rattle.std.specs.Prelude.{option_and_then, Ok, Err}
 use Rattle.std.specs.Option.{option_map_or}
 use Rattle.std.proofs.lemmas.Bool.Decides.{nat_tests}
 use Rattle.jiff_fmt.specs.Temporal.{DateParts}
-use Rattle.clap.specs.Words.{Row, fault_of, first_of, one_of, subcommand_of}
+use Rattle.clap.specs.Words.{Row, fault_of, first_of, subcommand_of}
 use Rattle.casa_filing.specs.Text.{Text}
-use Rattle.casa_cli.specs.Words.{Request, WrongValue, run, report, load, summary, why, serve, wrong_reg, wrong_key, wrong_day, whole_app, request_of, named_request, serve_at, or_wrong, ◌>>=◌, number_of, day_in, day_of, named_in, step_of, turns_of, connections_of, checked_day}
-use Rattle.casa_cli.specs.Checks.{AreRead, first_wrong, report_checks, report_request, load_request, summary_checks, summary_request, why_checks, why_request, serve_checks, serve_request, unless_wrong}
-use Rattle.casa_cli.proofs.Served.{serve_checked}
+use Rattle.casa_cli.specs.Words.{Clash, Request, WrongValue, no_port, clashing, run, report, load, summary, why, serve, stay, wrong_reg, wrong_key, wrong_day, whole_app, request_of, named_request, serve_at, stay_at, or_wrong, ◌>>=◌, number_of, day_in, day_of, named_in, step_of, turns_of, connections_of, seats_of, socket_of, every_of, is_given, is_strict, checked_day, clock_for, clash_of}
+use Rattle.casa_cli.specs.Checks.{AreRead, AreServed, first_wrong, report_checks, report_request, load_request, summary_checks, summary_request, why_checks, why_request, serve_checks, serve_request, stay_checks, stay_request, unless_wrong}
 
 pub nothing_asked : (words : List Text) → (fault_of whole_app words ≡ [] → ⊥) → request_of words ≡ None
 nothing_asked words h = go (fault_of whole_app words) h
   where
-    go : {X : Type 0} (faults : List X) → (faults ≡ [] → ⊥) → cond (length faults == 0) (option_and_then named_request (subcommand_of whole_app words)) None ≡ None
+    go : {X : Type 0} (faults : List X) → (faults ≡ [] → ⊥) → cond (length faults == 0) (option_map named_request (subcommand_of whole_app words)) None ≡ None
     go [] h = absurd (h refl)
     go (x ∷ xs) h = let filled : (length (x ∷ xs) == 0) ≡ false = grind (arith, nat_tests) in rw filled refl
 
-asked_of : (words : List Text) (name : Text) (rows : List Row) → AreRead words name rows → request_of words ≡ named_request (name, rows)
+asked_of : (words : List Text) (name : Text) (rows : List Row) → AreRead words name rows → request_of words ≡ Some (named_request (name, rows))
 asked_of words name rows read = rw (read.0, read.1) refl
 
 pub run_asked : (words : List Text) (rows : List Row) → AreRead words (codes "run") rows → request_of words ≡ Some (Ok run)
@@ -35,30 +34,48 @@ named_and_day wrong (Some n) (Some d) make = refl
 pub report_asked : (words : List Text) (rows : List Row) → AreRead words (codes "report") rows
     → request_of words ≡ unless_wrong (first_wrong (report_checks rows)) (report_request rows)
 report_asked words rows read =
-    asked_of words (codes "report") rows read ∙ named_and_day wrong_reg (named_in (codes "reg") rows) (day_in rows) report
+    asked_of words (codes "report") rows read ∙ named_and_day wrong_reg (named_in (codes "reg") rows) (day_in rows)
+    (λ reg day. report reg day (is_strict rows))
 
 pub load_asked : (words : List Text) (rows : List Row) → AreRead words (codes "load") rows
     → request_of words ≡ unless_wrong (first_wrong (report_checks rows)) (load_request rows)
 load_asked words rows read =
     asked_of words (codes "load") rows read
-    ∙ named_and_day wrong_reg (named_in (codes "reg") rows) (day_in rows) (λ reg day. load reg day (step_of rows))
+    ∙ named_and_day wrong_reg (named_in (codes "reg") rows) (day_in rows) (λ reg day. load reg day (step_of rows) (is_strict rows))
 
 pub why_asked : (words : List Text) (rows : List Row) → AreRead words (codes "why") rows
     → request_of words ≡ unless_wrong (first_wrong (why_checks rows)) (why_request rows)
 why_asked words rows read =
-    asked_of words (codes "why") rows read ∙ named_and_day wrong_key (named_in (codes "key") rows) (day_in rows) why
+    asked_of words (codes "why") rows read ∙ named_and_day wrong_key (named_in (codes "key") rows) (day_in rows)
+    (λ key day. why key day (is_strict rows))
 
-day_alone : (day : Option DateParts)
-    → Some (or_wrong wrong_day day >>= (λ d. Ok (summary d)))
-    ≡ unless_wrong (first_wrong ((is_none day, wrong_day) ∷ [])) (option_and_then (λ d. Some (summary d)) day)
-day_alone None = refl
-day_alone (Some d) = refl
+day_alone : (day : Option DateParts) (make : DateParts → Request)
+    → Some (or_wrong wrong_day day >>= (λ d. Ok (make d)))
+    ≡ unless_wrong (first_wrong ((is_none day, wrong_day) ∷ [])) (option_and_then (λ d. Some (make d)) day)
+day_alone None make = refl
+day_alone (Some d) make = refl
 
 pub summary_asked : (words : List Text) (rows : List Row) → AreRead words (codes "summary") rows
     → request_of words ≡ unless_wrong (first_wrong (summary_checks rows)) (summary_request rows)
-summary_asked words rows read = asked_of words (codes "summary") rows read ∙ day_alone (day_in rows)
+summary_asked words rows read =
+    asked_of words (codes "summary") rows read ∙ day_alone (day_in rows) (λ day. summary day (is_strict rows))
 
--- `serve`, by whether no turn is asked for and by the day
+-- what `serve` asks for, by a clash and by whether it stays
+abbrev by_clash : List Row → Option Clash → Bool → Option (Result Request WrongValue)
+by_clash rows clash stays = Some (option_map_or (λ c. Err (clashing c)) clash (cond stays (stay_at rows) (serve_at rows)))
+
+pub clash_asked : (words : List Text) (rows : List Row) (clash : Clash) → AreRead words (codes "serve") rows
+    → clash_of rows ≡ Some clash → request_of words ≡ Some (Err (clashing clash))
+clash_asked words rows clash read found =
+    asked_of words (codes "serve") rows read ∙ ap (λ o. by_clash rows o (is_given (codes "stay") rows)) found
+
+unclashed : (words : List Text) (stays : Bool) (rows : List Row) → AreServed words stays rows
+    → request_of words ≡ Some (cond stays (stay_at rows) (serve_at rows))
+unclashed words stays rows served =
+    asked_of words (codes "serve") rows served.0 ∙ ap (λ o. by_clash rows o (is_given (codes "stay") rows)) served.1
+    ∙ ap (λ b. by_clash rows None b) served.2
+
+-- a server that ends, by whether no turn is asked for and by the day
 with_day : (b : Bool) (day : Option DateParts) (make : Option DateParts → Request)
     → Some (or_wrong wrong_day (option_map (λ d. Some d) day) >>= (λ given. cond (b || is_some given) (Ok given) (Err wrong_day) >>= (λ d. Ok (make d))))
     ≡ unless_wrong (first_wrong ((is_none day, wrong_day) ∷ (not b && false, wrong_day) ∷ [])) (Some (make day))
@@ -74,20 +91,48 @@ served_at true None make = refl
 served_at false None make = refl
 served_at b (Some t) make = with_day b (day_of t) make
 
-with_port : (rows : List Row) (o : Option ℕ) → IsSome o
-    → option_map (serve_at rows) o ≡ unless_wrong (first_wrong (serve_checks rows))
-    (option_and_then (λ port. Some (serve port (connections_of rows) (turns_of rows) (day_in rows))) o)
-with_port rows None h = absurd (cc)
-with_port rows (Some port) h =
-    served_at (turns_of rows == 0) (first_of (codes "day") rows) (λ day. serve port (connections_of rows) (turns_of rows) day)
+with_port : (port : Option ℕ) (b : Bool) (text : Option Text) (make : ℕ → Option DateParts → Request)
+    → Some (or_wrong (clashing no_port) port >>= (λ p. checked_day text
+    >>= (λ given. cond (b || is_some given) (Ok given) (Err wrong_day) >>= (λ d. Ok (make p d)))))
+    ≡ unless_wrong (first_wrong ((is_none port, clashing no_port) ∷ (option_map_or (λ t. is_none (day_of t)) text false, wrong_day) ∷
+    (not b && is_none text, wrong_day) ∷ [])) (option_and_then (λ p. Some (make p (option_and_then day_of text))) port)
+with_port None b text make = refl
+with_port (Some p) b text make = served_at b text (make p)
 
-some_number : {A B : Type 0} (f : A → B) (o : Option A) → IsSome o → IsSome (option_map f o)
-some_number f None h = absurd (cc)
-some_number f (Some x) h = refl
-
-pub serve_asked : (words : List Text) (rows : List Row) → AreRead words (codes "serve") rows
+pub serve_asked : (words : List Text) (rows : List Row) → AreServed words false rows
     → request_of words ≡ unless_wrong (first_wrong (serve_checks rows)) (serve_request rows)
-serve_asked words rows read =
-    asked_of words (codes "serve") rows read
-    ∙ with_port rows (number_of (codes "port") rows)
-    (some_number _ (one_of (codes "port") rows) (serve_checked words (codes "serve") rows read.0 read.1 refl).port.0)
+serve_asked words rows served =
+    unclashed words false rows served
+    ∙ with_port (number_of (codes "port") rows) (turns_of rows == 0) (first_of (codes "day") rows)
+    (λ port day. serve port (connections_of rows) (turns_of rows) day)
+
+-- a server that stays, by whether its clock is moved and by the day
+moved_by_day : (moves : Bool) (every : ℕ) (day : Option DateParts) (make : Option (DateParts × ℕ) → Request)
+    → Some (or_wrong wrong_day (option_map (λ d. Some d) day) >>= (λ given. clock_for moves every given >>= (λ clock. Ok (make clock))))
+    ≡ unless_wrong (first_wrong ((is_none day, wrong_day) ∷ (moves && false, wrong_day) ∷ []))
+    (Some (make (cond moves (option_map (λ d. (d, every)) day) None)))
+moved_by_day true every None make = refl
+moved_by_day false every None make = refl
+moved_by_day true every (Some d) make = refl
+moved_by_day false every (Some d) make = refl
+
+stayed_at : (moves : Bool) (every : ℕ) (text : Option Text) (make : Option (DateParts × ℕ) → Request)
+    → Some (checked_day text >>= (λ given. clock_for moves every given >>= (λ clock. Ok (make clock))))
+    ≡ unless_wrong (first_wrong ((option_map_or (λ t. is_none (day_of t)) text false, wrong_day) ∷ (moves && is_none text, wrong_day) ∷ []))
+    (Some (make (cond moves (option_map (λ d. (d, every)) (option_and_then day_of text)) None)))
+stayed_at true every None make = refl
+stayed_at false every None make = refl
+stayed_at moves every (Some t) make = moved_by_day moves every (day_of t) make
+
+pub stay_asked : (words : List Text) (rows : List Row) → AreServed words true rows
+    → request_of words ≡ unless_wrong (first_wrong (stay_checks rows)) (stay_request rows)
+stay_asked words rows served =
+    unclashed words true rows served
+    ∙ stayed_at (is_given (codes "clock") rows) (every_of rows) (first_of (codes "day") rows) (λ clock. stay (record {
+      port = number_of (codes "port") rows;
+      socket = socket_of rows;
+      seats = seats_of rows;
+      idle = number_of (codes "idle") rows;
+      quiet = is_given (codes "quiet") rows;
+      clock = clock;
+    }))

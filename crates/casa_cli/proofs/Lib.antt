@@ -1,5 +1,6 @@
-pub mod Values
+pub mod Given
 pub mod Numbers
+pub mod Refused
 pub mod Walks
 pub mod Served
 pub mod FirstWrong

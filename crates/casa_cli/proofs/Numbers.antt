@@ -1,5 +1,5 @@
 -- the numbers of options, as the getters of clap read them
-use Rattle.std.proofs.Common.{◌≡◌, ◌<◌, ℕ, List, Option, Some, None, Result, Ok, IfSome, IsSome, refl, ap, subst, option_map}
+use Rattle.std.proofs.Common.{◌≡◌, ◌<◌, ℕ, List, Option, Some, None, Result, Ok, IfSome, refl, ap, subst, option_map}
 use Rattle.std.specs.Prelude.{◌^◌, pos}
 use Rattle.std.specs.Str.Parse.{ParsesUnsigned, digits_value, without_leading_plus}
 use Rattle.clap.specs.Matches.{ReadsOne}
@@ -26,7 +26,3 @@ number_read bits low high E G (Some t) r none some only fits taken = go r (some 
     go None read =
         let bad = signed_reads E G bits low high taken.0 None (subst (λ u. ReadsOne G u None) taken.1 read) only fits taken.2 in
         absurd (cc)
-
-pub none_given : (o : Option Text) → IsSome o → None ≡ option_map number o → ⊥
-none_given None given e = absurd (cc)
-none_given (Some t) given e = absurd (cc)

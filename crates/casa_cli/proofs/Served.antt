@@ -1,23 +1,22 @@
 -- what clap has checked of the options of `serve` and `load`
-use Rattle.std.proofs.Common.{◌≡◌, ◌∙◌, ◌<◌, ◌||◌, ℕ, Bool, true, false, not, cond, refl, sym, ap, subst, inl, inr, arith, codes, List, [], ◌∷◌, length, Option, Some, None, IfSome, IsSome, option_map, true≢false}
+use Rattle.std.proofs.Common.{◌≡◌, ◌∙◌, ◌<◌, ℕ, Bool, true, false, not, cond, refl, suc, sym, ap, subst, arith, codes, List, [], ◌∷◌, ◌++◌, take, drop, length, Option, Some, None, IfSome, option_map, true≢false}
 use Rattle.std.specs.Prelude.{find, nat_lt, option_and_then, pos, slice_get, unwrap_or}
+use Rattle.std.specs.List.{list_all}
 use Rattle.std.specs.Option.{option_map_or}
 use Rattle.std.specs.Str.{bytes_eq}
-use Rattle.clap.specs.Facts.{explicit_source, parser_of_value, unwrap_or_range}
-use Rattle.clap.specs.Faults.{check_fault, entered_fault, fault_of, level_fault, values_fault}
-use Rattle.clap.specs.Kinds.{check_kinds}
+use Rattle.clap.specs.Facts.{parser_of_value, unwrap_or_range}
+use Rattle.clap.specs.Faults.{entered_fault, fault_of, level_fault, values_fault}
 use Rattle.clap.specs.Simple.{Shape, argument_words, built, entered, label_of, names_of, new_rule, new_shape, rows_at, subcommand_of}
-use Rattle.clap.specs.Takes.{is_given}
 use Rattle.clap.specs.ValueTests.{accepts}
 use Rattle.clap.specs.Values.{read_as, reading_of, refused_kind}
-use Rattle.clap.specs.Walk.{Row, Rule, Text, action_of, answers_to, nothing_held, one_of, reading_by, row_text, rows_after, stop_after}
+use Rattle.clap.specs.Walk.{Row, Rule, Text, action_of, answers_to, nothing_held, reading_by, row_text, rows_after, stop_after}
 use Rattle.clap.specs.Words.{IsSignedIn, without_minus}
 use Rattle.clap.specs.declared.builder.action.ArgAction.TheVariants.{Set}
 use Rattle.clap.specs.declared.builder.value_parser.ValueParser.TheVariants.{Signed}
 use Rattle.clap.proofs.ValueTestLemmas.{accepts-Accepts}
 use Rattle.casa_cli.specs.Words.{whole_app}
 use Rattle.casa_cli.specs.Tasks.{AreChecked, IsNumber, IsStepped}
-use Rattle.casa_cli.proofs.Walks.{AreBeside, ArePassed, IsOneValued, level-passed, or_else-left, or_else-right, row-passed}
+use Rattle.casa_cli.proofs.Walks.{AreBeside, ArePassed, IsValued, beside_at, level-passed, or_else-left, or_else-right, row-passed}
 
 -- the first value of an option with numbers
 first_passes : (q : Rule) (v : Text) (vs : List Text) → values_fault q (v ∷ vs) ≡ [] → accepts q.ignore_case (parser_of_value q.parser) v ≡ true
@@ -53,126 +52,63 @@ number_in_rows q low high rows parser passed = go (find (λ r. bytes_eq r.id q.i
         subst (λ how. IfSome (option_map (read_as how) (slice_get r.values 0)) (λ text. (value : Text)
         × (text ≡ without_minus value) × IsSignedIn (pos low) (pos high) value)) (sym known.2) (valued r.values known.0 known.1)
 
--- a given option has a value
-given_in_rows : (q : Rule) (rows : List Row) → ArePassed q rows → is_given q.id rows ≡ true → IsSome (one_of q.id rows)
-given_in_rows q rows passed given = go (find (λ r. bytes_eq r.id q.id) rows) refl given
-  where
-    valued : (r : Row) (values : List Text) → 0 < length values → IsSome (option_map (read_as r.reading) (slice_get values 0))
-    valued r [] some = absurd (omega arith)
-    valued r (v ∷ vs) some = refl
-
-    go : (o : Option Row) → find (λ r. bytes_eq r.id q.id) rows ≡ o → option_map_or (λ r. explicit_source r.source) o false ≡ true
-        → IsSome (option_and_then row_text o)
-    go None found e = absurd (true≢false (sym e))
-    go (Some r) found e = valued r r.values (row-passed q rows r passed found).1
-
 -- ---- the options of `serve`
 
 abbrev serve_shape : Shape
 serve_shape = unwrap_or (slice_get (built whole_app).subs 5) (new_shape [])
 
-abbrev rule_at : ℕ → Rule
-rule_at k = unwrap_or (slice_get serve_shape.rules k) (new_rule [])
+abbrev rule_at : Shape → ℕ → Rule
+rule_at s k = unwrap_or (slice_get s.rules k) (new_rule [])
 
-is_set : (a : Rule) → action_of a ≡ Set → nat_lt 0 (unwrap_or_range a.range).start_inclusive ≡ true → a.defaults ≡ [] → IsOneValued a
-is_set a set least none = record { acts = inl (set, least); defaults = none }
+abbrev before_in : Shape → ℕ → List Rule
+before_in s k = take k s.rules
 
-help_flag : IsOneValued (rule_at 4)
-help_flag = record { acts = inr refl; defaults = refl }
+abbrev after_in : Shape → ℕ → List Rule
+after_in s k = drop (suc k) s.rules
 
-port_beside : AreBeside (rule_at 0) serve_shape.rules
-port_beside = (
-  (is_set (rule_at 0) refl refl refl, λ e. refl),
-  (
-    (is_set (rule_at 1) refl refl refl, λ e. absurd (true≢false (sym e))),
-    (
-      (is_set (rule_at 2) refl refl refl, λ e. absurd (true≢false (sym e))),
-      (
-        (is_set (rule_at 3) refl refl refl, λ e. absurd (true≢false (sym e))),
-        ((help_flag, λ e. absurd (true≢false (sym e))), tt),
-      ),
-    ),
-  ),
-)
+is_valued : (a : Rule) → action_of a ≡ Set → nat_lt 0 (unwrap_or_range a.range).start_inclusive ≡ true → a.defaults ≡ [] → IsValued a
+is_valued a set least none = record { sets = set; takes = least; defaults = none }
 
-connections_beside : AreBeside (rule_at 1) serve_shape.rules
-connections_beside = (
-  (is_set (rule_at 0) refl refl refl, λ e. absurd (true≢false (sym e))),
-  (
-    (is_set (rule_at 1) refl refl refl, λ e. refl),
-    (
-      (is_set (rule_at 2) refl refl refl, λ e. absurd (true≢false (sym e))),
-      (
-        (is_set (rule_at 3) refl refl refl, λ e. absurd (true≢false (sym e))),
-        ((help_flag, λ e. absurd (true≢false (sym e))), tt),
-      ),
-    ),
-  ),
-)
+-- the rows of the option at a place of a subcommand
+rows_passed : (s : Shape) (q : Rule) (before after : List Rule) → before ++ q ∷ after ≡ s.rules → IsValued q
+    → list_all (λ a. not (bytes_eq a.id q.id)) before ≡ true → list_all (λ a. not (bytes_eq a.id q.id)) after ≡ true
+    → (words : List Text) → level_fault s [] nothing_held words false [] ≡ [] → ArePassed q (rows_after s.rules [] words)
+rows_passed s q before after are valued first last words e =
+    (level-passed q valued s (subst (AreBeside q) are (beside_at q before after first last)) words e).0
 
-turns_beside : AreBeside (rule_at 3) serve_shape.rules
-turns_beside = (
-  (is_set (rule_at 0) refl refl refl, λ e. absurd (true≢false (sym e))),
-  (
-    (is_set (rule_at 1) refl refl refl, λ e. absurd (true≢false (sym e))),
-    (
-      (is_set (rule_at 2) refl refl refl, λ e. absurd (true≢false (sym e))),
-      (
-        (is_set (rule_at 3) refl refl refl, λ e. refl),
-        ((help_flag, λ e. absurd (true≢false (sym e))), tt),
-      ),
-    ),
-  ),
-)
-
-port_given : (rows : List Row) → check_fault serve_shape rows false ≡ [] → is_given (codes "port") rows ≡ true
-port_given rows e = go (is_given (codes "port") rows) e
-  where
-    go : (b : Bool) → check_kinds false false (not b || false) ≡ [] → b ≡ true
-    go true f = refl
-    go false f = absurd (cc)
+served_at : (k : ℕ) (low high : ℕ) → before_in serve_shape k ++ rule_at serve_shape k ∷ after_in serve_shape k ≡ serve_shape.rules
+    → IsValued (rule_at serve_shape k)
+    → list_all (λ a. not (bytes_eq a.id (rule_at serve_shape k).id)) (before_in serve_shape k) ≡ true
+    → list_all (λ a. not (bytes_eq a.id (rule_at serve_shape k).id)) (after_in serve_shape k) ≡ true
+    → (rule_at serve_shape k).parser ≡ Some (Signed (pos low) (pos high))
+    → (words : List Text) → level_fault serve_shape [] nothing_held words false [] ≡ []
+    → IsNumber low high (rule_at serve_shape k).id (rows_after serve_shape.rules [] words)
+served_at k low high are valued first last parser words e =
+    number_in_rows (rule_at serve_shape k) low high (rows_after serve_shape.rules [] words) parser
+    (rows_passed serve_shape (rule_at serve_shape k) (before_in serve_shape k) (after_in serve_shape k) are valued first last words e)
 
 served : (words : List Text) → level_fault serve_shape [] nothing_held words false [] ≡ []
     → AreChecked (rows_after serve_shape.rules [] words)
-served words e =
-    let rows = rows_after serve_shape.rules [] words in
-    let port = level-passed (rule_at 0) serve_shape port_beside words e in
-    let connections = level-passed (rule_at 1) serve_shape connections_beside words e in
-    let turns = level-passed (rule_at 3) serve_shape turns_beside words e in
-    record {
-      port = (given_in_rows (rule_at 0) rows port.0 (port_given rows port.1), number_in_rows (rule_at 0) 1 65535 rows refl port.0);
-      connections = number_in_rows (rule_at 1) 0 4294967295 rows refl connections.0;
-      turns = number_in_rows (rule_at 3) 0 4294967295 rows refl turns.0;
-    }
+served words e = record {
+  port = served_at 0 1 65535 refl (is_valued _ refl refl refl) refl refl refl words e;
+  connections = served_at 1 0 4294967295 refl (is_valued _ refl refl refl) refl refl refl words e;
+  turns = served_at 3 0 4294967295 refl (is_valued _ refl refl refl) refl refl refl words e;
+  seats = served_at 7 1 1000 refl (is_valued _ refl refl refl) refl refl refl words e;
+  idle = served_at 8 1 86400 refl (is_valued _ refl refl refl) refl refl refl words e;
+  every = served_at 11 1 3600 refl (is_valued _ refl refl refl) refl refl refl words e;
+}
 
 -- ---- the options of `load`
 
 abbrev load_shape : Shape
 load_shape = unwrap_or (slice_get (built whole_app).subs 2) (new_shape [])
 
-abbrev load_rule : ℕ → Rule
-load_rule k = unwrap_or (slice_get load_shape.rules k) (new_rule [])
-
-load_help : IsOneValued (load_rule 3)
-load_help = record { acts = inr refl; defaults = refl }
-
-step_beside : AreBeside (load_rule 2) load_shape.rules
-step_beside = (
-  (is_set (load_rule 0) refl refl refl, λ e. absurd (true≢false (sym e))),
-  (
-    (is_set (load_rule 1) refl refl refl, λ e. absurd (true≢false (sym e))),
-    (
-      (is_set (load_rule 2) refl refl refl, λ e. refl),
-      ((load_help, λ e. absurd (true≢false (sym e))), tt),
-    ),
-  ),
-)
-
 stepped : (words : List Text) → level_fault load_shape [] nothing_held words false [] ≡ []
     → IsStepped (rows_after load_shape.rules [] words)
 stepped words e =
-    number_in_rows (load_rule 2) 1 1440 (rows_after load_shape.rules [] words) refl
-    (level-passed (load_rule 2) load_shape step_beside words e).0
+    number_in_rows (rule_at load_shape 2) 1 1440 (rows_after load_shape.rules [] words) refl
+    (rows_passed load_shape (rule_at load_shape 2) (before_in load_shape 2) (after_in load_shape 2) refl
+    (is_valued _ refl refl refl) refl refl words e)
 
 -- ---- where only one of the subcommands has a name, and its walk shows that its rows are so
 

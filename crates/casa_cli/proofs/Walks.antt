@@ -1,6 +1,7 @@
 -- What clap has checked of the values of one option, once its walk over the words of a subcommand has passed.
-use Rattle.std.proofs.Common.{◌≡◌, ◌∙◌, ◌<◌, ◌==◌, ◌&&◌, ◌⊎◌, ℕ, Bool, true, false, cond, zero, suc, refl, sym, ap, subst, inl, inr, arith, List, [], ◌∷◌, ◌++◌, length, drop, Option, Some, None, is_some, length-append}
+use Rattle.std.proofs.Common.{◌≡◌, ◌∙◌, ◌<◌, ◌+◌, ◌==◌, ◌&&◌, ◌⊎◌, ℕ, Bool, true, false, cond, zero, suc, refl, sym, ap, subst, inl, inr, arith, List, [], ◌∷◌, ◌++◌, length, drop, min, Option, Some, None, is_some, not, true≢false, length-append}
 use Rattle.std.specs.Prelude.{encode_utf8, find, fold, nat_lt, slice_get, unwrap_or}
+use Rattle.std.specs.List.{list_all}
 use Rattle.std.specs.Option.{option_map_or}
 use Rattle.std.specs.Str.{bytes_eq, chars}
 use Rattle.std.proofs.lemmas.Slice.Eq.{bytes_eq-Decides}
@@ -9,10 +10,13 @@ use Rattle.clap.specs.Faults.{action_fault, bundle_step_fault, flag_word_fault, 
 use Rattle.clap.specs.Kinds.{Kinds, or_else, range_kinds}
 use Rattle.clap.specs.Lexer.{long_of, short_of}
 use Rattle.clap.specs.Simple.{Shape}
-use Rattle.clap.specs.Walk.{Held, Outcome, Row, Rule, Step, Text, Waiting, Walk, action_of, after_flag, after_step, arg_by_id, arg_by_index, arg_by_long, arg_by_short, at_row, attached_value, bundle_met, bundle_step, done, flag_met, has_row, idle, is_pending, long_met, long_or_other, more_values, most_values, next, nothing_held, option, option_met, option_word, plain, plain_word, positional, reacted, reading_by, refused, rows_after, settled, settled_rows, short_met, short_or_plain, subcommand, takes_several, takes_values, to_positional, trailing, used, used_as, used_by_id, value, values_or_missing, waits, walk, walk_from, walked, walked_from, with_default, with_values, without, word_met}
-use Rattle.clap.specs.declared.builder.action.ArgAction.TheVariants.{Set, Help}
+use Rattle.clap.specs.Walk.{Held, Outcome, Row, Rule, Step, Text, Waiting, Walk, action_of, after_flag, after_step, arg_by_id, arg_by_index, arg_by_long, arg_by_short, at_row, attached_value, bundle_met, bundle_step, count_of, counted, default_rows, done, flag_met, has_row, idle, is_pending, long_met, long_or_other, more_values, most_values, new_count, next, nothing_held, option, option_met, option_word, plain, plain_word, positional, reacted, reading_by, refused, rows_after, settled, settled_rows, short_met, short_or_plain, subcommand, takes_several, takes_values, to_positional, trailing, used, used_as, used_by_id, value, values_or_missing, waits, walk, walk_from, walked, walked_from, with_count, with_default, with_values, without, word_met}
+use Rattle.clap.specs.declared.builder.action.ArgAction.{ArgAction}
+use Rattle.clap.specs.declared.builder.action.ArgAction.TheVariants.{Set, SetTrue, SetFalse, Append, Count}
+use Rattle.clap.specs.declared.builder.value_parser.Reading.{Reading}
 use Rattle.clap.specs.declared.error.kind.ErrorKind.TheVariants.{InvalidValue, TooFewValues, TooManyValues, WrongNumberOfValues}
-use Rattle.clap.specs.declared.parser.matches.ValueSource.TheVariants.{CommandLine}
+use Rattle.clap.specs.declared.parser.matches.ValueSource.{ValueSource}
+use Rattle.clap.specs.declared.parser.matches.ValueSource.TheVariants.{CommandLine, DefaultValue}
 use Rattle.clap.proofs.FaultLemmas.{past}
 
 pub or_else-left : (a b : Kinds) → or_else a b ≡ [] → a ≡ []
@@ -23,9 +27,10 @@ pub or_else-right : (a b : Kinds) → or_else a b ≡ [] → b ≡ []
 or_else-right [] b e = e
 or_else-right (k ∷ ks) b e = absurd (cc)
 
--- an option that takes one value and has no default, or the flag for help
-pub record IsOneValued (a : Rule) : Type 0 where
-  pub acts : ((action_of a ≡ Set) × (nat_lt 0 (unwrap_or_range a.range).start_inclusive ≡ true)) ⊎ (action_of a ≡ Help)
+-- an option that takes a value and has no default
+pub record IsValued (a : Rule) : Type 0 where
+  pub sets : action_of a ≡ Set
+  pub takes : nat_lt 0 (unwrap_or_range a.range).start_inclusive ≡ true
   pub defaults : a.defaults ≡ []
 
 no_value : (most least : ℕ) → nat_lt 0 least ≡ true → range_kinds least most 0 ≡ [] → ⊥
@@ -66,11 +71,33 @@ module _ (q : Rule) where
 
   -- the rule is the option's own, or has another name
   abbrev pub IsBeside : Rule → Type 0
-  IsBeside a = IsOneValued a × (bytes_eq a.id q.id ≡ true → a ≡ q)
+  IsBeside a = (a ≡ q) ⊎ (bytes_eq a.id q.id ≡ false)
 
   abbrev pub AreBeside : List Rule → Type 0
   AreBeside [] = Unit {0}
   AreBeside (a ∷ rest) = IsBeside a × AreBeside rest
+
+  -- the option stands in a list of rules, of which no other has its name
+  pub beside_at : (before after : List Rule) → list_all (λ a. not (bytes_eq a.id q.id)) before ≡ true
+      → list_all (λ a. not (bytes_eq a.id q.id)) after ≡ true → AreBeside (before ++ q ∷ after)
+  beside_at [] after e f = (inl refl, others after f)
+    where
+      step : (a : Rule) (rest : List Rule) (b : Bool) → bytes_eq a.id q.id ≡ b
+          → (list_all (λ x. not (bytes_eq x.id q.id)) rest ≡ true → AreBeside rest)
+          → (not b && list_all (λ x. not (bytes_eq x.id q.id)) rest) ≡ true → IsBeside a × AreBeside rest
+      step a rest true is more g = absurd (true≢false (sym g))
+      step a rest false is more g = (inr is, more g)
+
+      others : (c : List Rule) → list_all (λ x. not (bytes_eq x.id q.id)) c ≡ true → AreBeside c
+      others [] g = tt
+      others (a ∷ rest) g = step a rest (bytes_eq a.id q.id) refl (others rest) g
+  beside_at (a ∷ before) after e f = step (bytes_eq a.id q.id) refl (λ g. beside_at before after g f) e
+    where
+      step : (b : Bool) → bytes_eq a.id q.id ≡ b
+          → (list_all (λ x. not (bytes_eq x.id q.id)) before ≡ true → AreBeside (before ++ q ∷ after))
+          → (not b && list_all (λ x. not (bytes_eq x.id q.id)) before) ≡ true → IsBeside a × AreBeside (before ++ q ∷ after)
+      step true is more g = absurd (true≢false (sym g))
+      step false is more g = (inr is, more g)
 
   passed-append : (xs ys : List Row) → ArePassed xs → ArePassed ys → ArePassed (xs ++ ys)
   passed-append [] ys left right = right
@@ -87,57 +114,95 @@ module _ (q : Rule) where
       go true e rest = passed-append (change r) rs (changed r e passed.0) passed.1
       go false e rest = (passed.0, rest)
 
+  kept : (id : Text) (rows : List Row) → ArePassed rows → ArePassed (without id rows)
+  kept id rows passed = at_row-passed id (λ _. []) [] rows passed tt (λ r same is. tt)
+
   -- the values of a use of the option are added
-  with_values-passed : (a : Rule) (vs : List Text) (rows : List Row) → IsBeside a → values_fault a vs ≡ [] → 0 < length vs
-      → ArePassed rows → ArePassed (with_values a.id (reading_by a) CommandLine vs rows)
-  with_values-passed a vs rows beside checked some passed =
-      at_row-passed a.id (more_values CommandLine vs) _ rows passed (new, tt) more
+  with_values-passed : (vs : List Text) (rows : List Row) → values_fault q vs ≡ [] → 0 < length vs
+      → ArePassed rows → ArePassed (with_values q.id (reading_by q) CommandLine vs rows)
+  with_values-passed vs rows checked some passed =
+      at_row-passed q.id (more_values CommandLine vs) _ rows passed (λ e. (checked, some, refl), tt) more
     where
-      of_option : bytes_eq a.id q.id ≡ true → values_fault q vs ≡ []
-      of_option e = subst (λ x. values_fault x vs ≡ []) (beside.1 e) checked
-
-      new : bytes_eq a.id q.id ≡ true → (values_fault q vs ≡ []) × (0 < length vs) × (reading_by a ≡ reading_by q)
-      new e = (of_option e, some, ap reading_by (beside.1 e))
-
-      more : (r : Row) → bytes_eq r.id a.id ≡ true → IsPassed r → ArePassed (more_values CommandLine vs r)
+      more : (r : Row) → bytes_eq r.id q.id ≡ true → IsPassed r → ArePassed (more_values CommandLine vs r)
       more r same is = (
         λ e.
-            let ids : r.id ≡ a.id = (bytes_eq-Decides r.id a.id).0 same in
-            let own : bytes_eq a.id q.id ≡ true = subst (λ id. bytes_eq id q.id ≡ true) ids e in
             let old = is e in (
-              values_fault-append q r.values vs old.0 (of_option own),
+              values_fault-append q r.values vs old.0 checked,
               omega (arith, length-append r.values vs),
               old.2,
             ),
         tt,
       )
 
-  used-passed : (a : Rule) (again : Bool) (values : List Text) (rows : List Row) → IsBeside a → use_fault again a values rows ≡ []
-      → ArePassed rows → ArePassed (used a values rows)
-  used-passed a again values rows beside e passed = elim beside.0.acts [
-    | inl set ↦
-        let new = use_values a again values rows set.0 set.1 e in
-        let kept = at_row-passed a.id (λ _. []) [] rows passed tt (λ r same is. tt) in
-        let set_rows = with_values-passed a (values_or_missing a values) (without a.id rows) beside new.0 new.1 kept in
-        subst (λ x. ArePassed (used_as x a.id (reading_by a) (values_or_missing a values) rows)) (sym set.0) set_rows
-    | inr help ↦
-        let acted = or_else-right _ _ e in
-        let bad = subst (λ x. action_fault x again a (values_or_missing a values) rows ≡ []) help acted in
-        absurd (cc)
+  own_used-passed : IsValued q → (again : Bool) (values : List Text) (rows : List Row) → use_fault again q values rows ≡ []
+      → ArePassed rows → ArePassed (used q values rows)
+  own_used-passed valued again values rows e passed =
+      let new = use_values q again values rows valued.sets valued.takes e in
+      let set_rows = with_values-passed (values_or_missing q values) (without q.id rows) new.0 new.1 (kept q.id rows passed) in
+      subst (λ x. ArePassed (used_as x q.id (reading_by q) (values_or_missing q values) rows)) (sym valued.sets) set_rows
+
+  -- another option's row is not the option's
+  module _ (id : Text) (other : bytes_eq id q.id ≡ false) where
+    not_own : (name : Text) → bytes_eq name id ≡ true → bytes_eq name q.id ≡ true → ⊥
+    not_own name same e =
+        let ids : name ≡ id = (bytes_eq-Decides name id).0 same in
+        let own : bytes_eq id q.id ≡ true = subst (λ t. bytes_eq t q.id ≡ true) ids e in
+        true≢false (sym own ∙ other)
+
+    other_values-passed : (how : Reading) (s : ValueSource) (vs : List Text) (rows : List Row) → ArePassed rows
+        → ArePassed (with_values id how s vs rows)
+    other_values-passed how s vs rows passed =
+        at_row-passed id (more_values s vs) _ rows passed (λ e. absurd (true≢false (sym e ∙ other)), tt)
+        (λ r same is. (λ e. absurd (not_own r.id same e), tt))
+
+    other_count-passed : (how : Reading) (s : ValueSource) (n : ℕ) (rows : List Row) → ArePassed rows
+        → ArePassed (with_count id how s n rows)
+    other_count-passed how s n rows passed =
+        at_row-passed id (new_count s n) _ rows passed (λ e. absurd (true≢false (sym e ∙ other)), tt)
+        (λ r same is. (λ e. absurd (not_own r.id same e), tt))
+
+    other_counted-passed : (how : Reading) (vs : List Text) (rows : List Row) → ArePassed rows → ArePassed (counted id how vs rows)
+    other_counted-passed how [] rows passed = other_count-passed how CommandLine (min (count_of id rows + 1) 255) (without id rows) (kept id rows passed)
+    other_counted-passed how (v ∷ vs) rows passed = other_values-passed how CommandLine (v ∷ vs) (without id rows) (kept id rows passed)
+
+    other_used-passed : (x : ArgAction) (how : Reading) (vs : List Text) (rows : List Row) → ArePassed rows
+        → ArePassed (used_as x id how vs rows)
+    other_used-passed Set how vs rows passed = other_values-passed how CommandLine vs (without id rows) (kept id rows passed)
+    other_used-passed SetTrue how vs rows passed = other_values-passed how CommandLine vs (without id rows) (kept id rows passed)
+    other_used-passed SetFalse how vs rows passed = other_values-passed how CommandLine vs (without id rows) (kept id rows passed)
+    other_used-passed Append how vs rows passed = other_values-passed how CommandLine vs rows passed
+    other_used-passed Count how vs rows passed = other_counted-passed how vs rows passed
+    other_used-passed _ how vs rows passed = passed
+
+    other_defaults-passed : (how : Reading) (vs : List Text) (rows : List Row) → ArePassed rows → ArePassed (default_rows id how vs rows)
+    other_defaults-passed how [] rows passed = passed
+    other_defaults-passed how (v ∷ vs) rows passed = other_values-passed how DefaultValue (v ∷ vs) rows passed
+
+  used-passed : IsValued q → (a : Rule) (again : Bool) (values : List Text) (rows : List Row) → IsBeside a
+      → use_fault again a values rows ≡ [] → ArePassed rows → ArePassed (used a values rows)
+  used-passed valued a again values rows beside e passed = elim beside [
+    | inl is ↦ subst (λ x. use_fault again x values rows ≡ [] → ArePassed (used x values rows)) (sym is)
+        (λ f. own_used-passed valued again values rows f passed) e
+    | inr other ↦ other_used-passed a.id other (action_of a) (reading_by a) (values_or_missing a values) rows passed
   ]
 
-  -- no default is added
-  no_default : (a : Rule) (rows : List Row) → a.defaults ≡ [] → with_default rows a ≡ rows
-  no_default a rows e = rw e (go (has_row a.id rows))
+  -- the option gets no default
+  default-passed : IsValued q → (a : Rule) (rows : List Row) → IsBeside a → ArePassed rows → ArePassed (with_default rows a)
+  default-passed valued a rows beside passed = go (has_row a.id rows)
     where
-      go : (b : Bool) → cond b rows rows ≡ rows
-      go true = refl
-      go false = refl
+      defaults : (o : (a ≡ q) ⊎ (bytes_eq a.id q.id ≡ false)) → ArePassed (default_rows a.id (reading_by a) a.defaults rows)
+      defaults (inl is) =
+          subst (λ vs. ArePassed (default_rows a.id (reading_by a) vs rows)) (sym (ap (λ (x : Rule). x.defaults) is ∙ valued.defaults)) passed
+      defaults (inr other) = other_defaults-passed a.id other (reading_by a) a.defaults rows passed
 
-  defaults-passed : (c : List Rule) → AreBeside c → (rows : List Row) → ArePassed rows → ArePassed (fold with_default rows c)
-  defaults-passed [] beside rows passed = passed
-  defaults-passed (a ∷ rest) beside rows passed =
-      defaults-passed rest beside.1 _ (subst ArePassed (sym (no_default a rows beside.0.0.defaults)) passed)
+      go : (b : Bool) → ArePassed (cond b rows (default_rows a.id (reading_by a) a.defaults rows))
+      go true = passed
+      go false = defaults beside
+
+  defaults-passed : IsValued q → (c : List Rule) → AreBeside c → (rows : List Row) → ArePassed rows → ArePassed (fold with_default rows c)
+  defaults-passed valued [] beside rows passed = passed
+  defaults-passed valued (a ∷ rest) beside rows passed =
+      defaults-passed valued rest beside.1 _ (default-passed valued a rows beside.0 passed)
 
   beside_of : (p : Rule → Bool) (c : List Rule) (a : Rule) → AreBeside c → find p c ≡ Some a → IsBeside a
   beside_of p [] a beside e = absurd (cc)
@@ -149,7 +214,7 @@ module _ (q : Rule) where
           subst IsBeside is beside.0
       go false f rest = rest f
 
-  module _ (s : Shape) (beside : AreBeside s.rules) where
+  module _ (valued : IsValued q) (s : Shape) (beside : AreBeside s.rules) where
     abbrev again : Bool
     again = s.args_override_self
 
@@ -160,7 +225,7 @@ module _ (q : Rule) where
         at : (id : Text) (values : List Text) (o : Option Rule) → arg_by_id s.rules id ≡ o
             → option_map_or (λ a. use_fault again a values h.rows) o [] ≡ [] → ArePassed (used_by_id o values h.rows)
         at id values None is f = passed
-        at id values (Some a) is f = used-passed a again values h.rows (beside_of _ s.rules a beside is) f passed
+        at id values (Some a) is f = used-passed valued a again values h.rows (beside_of _ s.rules a beside is) f passed
 
         go : (p : Option (Text × List Text))
             → option_map_or (λ p. option_map_or (λ a. use_fault again a p.1 h.rows) (arg_by_id s.rules p.0) []) p [] ≡ []
@@ -171,7 +236,7 @@ module _ (q : Rule) where
     reacted-passed : (a : Rule) (values : List Text) (h : Held) → IsBeside a → react_fault s.rules again a values h ≡ []
         → ArePassed h.rows → ArePassed (reacted s.rules a values h).rows
     reacted-passed a values h own e passed =
-        used-passed a again values (settled s.rules h).rows own (or_else-right _ _ e) (settled-passed h (or_else-left _ _ e) passed)
+        used-passed valued a again values (settled s.rules h).rows own (or_else-right _ _ e) (settled-passed h (or_else-left _ _ e) passed)
 
     option_met-passed : (a : Rule) (v : Option Text) (h : Held) → IsBeside a → option_fault s.rules again a v h ≡ []
         → ArePassed h.rows → ArePassed (option_met s.rules a v h).0.rows
@@ -323,7 +388,7 @@ module _ (q : Rule) where
         let walked_rows = walk-passed words (walk_from nothing_held) (or_else-left _ _ e) tt in
         let after = or_else-right _ _ e in
         let settled_rows = settled-passed (walk s.rules [] nothing_held words).held (or_else-left _ _ after) walked_rows in (
-          defaults-passed s.rules beside _ settled_rows,
+          defaults-passed valued s.rules beside _ settled_rows,
           or_else-right _ _ (or_else-right _ _ after),
         )
 

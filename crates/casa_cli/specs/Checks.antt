@@ -1,13 +1,18 @@
 -- inner contracts: which value of an option can be wrong, in the order of the checks, and what is asked for else
-use Rattle.std.specs.Prelude.{◌≡◌, Bool, false, not, ◌&&◌, ◌==◌, List, [], ◌∷◌, find, Option, Some, None, is_none, option_and_then, option_map, codes, Result, Ok, Err}
+use Rattle.std.specs.Prelude.{◌≡◌, Bool, false, not, ◌&&◌, ◌==◌, if◌then◌else◌, List, [], ◌∷◌, find, Option, Some, None, is_none, option_and_then, option_map, codes, Result, Ok, Err}
 use Rattle.std.specs.Option.{option_map_or}
 use Rattle.clap.specs.Words.{Row, fault_of, first_of, subcommand_of}
 use Rattle.casa_filing.specs.Text.{Text}
-use Rattle.casa_cli.specs.Words.{Request, WrongValue, report, load, summary, why, serve, wrong_reg, wrong_key, wrong_day, whole_app, connections_of, day_in, day_of, named_in, number_of, step_of, turns_of}
+use Rattle.casa_cli.specs.Words.{Request, WrongValue, no_port, clashing, report, load, summary, why, serve, stay, wrong_reg, wrong_key, wrong_day, whole_app, clash_of, connections_of, day_in, day_of, every_of, is_given, is_strict, named_in, number_of, seats_of, socket_of, step_of, turns_of}
 
 -- clap finds no fault in the words, and they are this subcommand with these options
 abbrev pub AreRead : List Text → Text → List Row → Type 0
 AreRead words name rows = (fault_of whole_app words ≡ []) × (subcommand_of whole_app words ≡ Some (name, rows))
+
+-- and their options go together, for a server that stays or for one that ends
+abbrev pub AreServed : List Text → Bool → List Row → Type 0
+AreServed words stays rows =
+    AreRead words (codes "serve") rows × (clash_of rows ≡ None) × (is_given (codes "stay") rows ≡ stays)
 
 -- whether something is wrong, and the value that this is
 abbrev pub Check : Type 0
@@ -29,11 +34,22 @@ summary_checks rows = (is_none (day_in rows), wrong_day) ∷ []
 abbrev pub why_checks : List Row → List Check
 why_checks rows = (is_none (named_in (codes "key") rows), wrong_key) ∷ (is_none (day_in rows), wrong_day) ∷ []
 
--- of `serve`: what stands after `--day` is no day; the clock is to be moved, and no day is given
+-- what stands after `--day` is no day
+abbrev pub day_check : List Row → Check
+day_check rows = (option_map_or (λ text. is_none (day_of text)) (first_of (codes "day") rows) false, wrong_day)
+
+-- of `serve` without `--stay`: the port is missing; the day is none; the clock is to be moved, and no day is given
 abbrev pub serve_checks : List Row → List Check
 serve_checks rows =
-    (option_map_or (λ text. is_none (day_of text)) (first_of (codes "day") rows) false, wrong_day) ∷
+    (is_none (number_of (codes "port") rows), clashing no_port) ∷
+    day_check rows ∷
     (not (turns_of rows == 0) && is_none (first_of (codes "day") rows), wrong_day) ∷ []
+
+-- with it: the day is none; the clock is to be moved, and no day is given
+abbrev pub stay_checks : List Row → List Check
+stay_checks rows =
+    day_check rows ∷
+    (is_given (codes "clock") rows && is_none (first_of (codes "day") rows), wrong_day) ∷ []
 
 infixl 10 ◌>>=◌
 abbrev ◌>>=◌ : {A B : Type 0} → Option A → (A → Option B) → Option B
@@ -44,29 +60,40 @@ abbrev pub report_request : List Row → Option Request
 report_request rows = do
   reg ← named_in (codes "reg") rows
   day ← day_in rows
-  Some (report reg day)
+  Some (report reg day (is_strict rows))
 
 abbrev pub load_request : List Row → Option Request
 load_request rows = do
   reg ← named_in (codes "reg") rows
   day ← day_in rows
-  Some (load reg day (step_of rows))
+  Some (load reg day (step_of rows) (is_strict rows))
 
 abbrev pub summary_request : List Row → Option Request
 summary_request rows = do
   day ← day_in rows
-  Some (summary day)
+  Some (summary day (is_strict rows))
 
 abbrev pub why_request : List Row → Option Request
 why_request rows = do
   key ← named_in (codes "key") rows
   day ← day_in rows
-  Some (why key day)
+  Some (why key day (is_strict rows))
 
 abbrev pub serve_request : List Row → Option Request
 serve_request rows = do
   port ← number_of (codes "port") rows
   Some (serve port (connections_of rows) (turns_of rows) (day_in rows))
+
+abbrev pub stay_request : List Row → Option Request
+stay_request rows = Some (stay (record {
+  port = number_of (codes "port") rows;
+  socket = socket_of rows;
+  seats = seats_of rows;
+  idle = number_of (codes "idle") rows;
+  quiet = is_given (codes "quiet") rows;
+  clock =
+      if is_given (codes "clock") rows then option_map (λ midnight. (midnight, every_of rows)) (day_in rows) else None;
+}))
 
 -- what is wrong, or else what is asked for
 abbrev pub unless_wrong : Option WrongValue → Option Request → Option (Result Request WrongValue)

@@ -1,43 +1,86 @@
 -- inner contracts: what a task and a refusal of the words say
-use Rattle.std.specs.Prelude.{◌≡◌, ℕ, pos, List, Option, Some, Result, Ok, Err, IfSome, IsSome, [], true, codes, is_some, option_map}
-use Rattle.clap.specs.Kinds.{HasKind}
+use Rattle.std.specs.Prelude.{◌≡◌, ℕ, pos, ◌∷◌, List, Some, Result, Ok, Err, IfSome, [], true, codes, is_some, option_map}
+use Rattle.std.specs.Option.{option_map_or}
+use Rattle.clap.specs.Kinds.{HasKind, Kinds, or_else}
 use Rattle.clap.specs.Words.{IsSignedIn, Row, fault_of, one_of, without_minus, subcommand_of, subcommand_rows_of}
+use Rattle.clap.specs.declared.error.kind.ErrorKind.{ErrorKind}
+use Rattle.clap.specs.declared.error.kind.ErrorKind.TheVariants.{ArgumentConflict, MissingRequiredArgument}
 use Rattle.clap.specs.declared.parser.matches.ArgMatches.{ArgMatches}
 use Rattle.jiff_fmt.specs.Temporal.{date_parts}
 use Rattle.casa_filing.specs.Text.{Text}
-use Rattle.casa_cli.specs.Words.{Request, WrongValue, run, report, load, summary, why, serve, wrong_reg, wrong_key, wrong_day, whole_app, request_of}
+use Rattle.casa_cli.specs.Words.{Clash, Request, Service, WrongValue, needs, excludes, no_port, no_address, too_many_seats, clashing, run, report, load, summary, why, serve, stay, wrong_reg, wrong_key, wrong_day, whole_app, request_of}
+use Rattle.casa_cli.specs.declared.serving.Clash.{Clash as FoundClash}
+use Rattle.casa_cli.specs.declared.serving.Clash.TheVariants.{Needs, Excludes, NoPort, NoAddress, TooManySeats}
+use Rattle.casa_cli.specs.declared.tasks.Service.{Service as TaskService}
 use Rattle.casa_cli.specs.declared.tasks.Task.{Task}
-use Rattle.casa_cli.specs.declared.tasks.Task.TheVariants.{Run, Report, Load, Summary, Why, Serve}
+use Rattle.casa_cli.specs.declared.tasks.Task.TheVariants.{Run, Report, Load, Summary, Why, Serve, Stay}
 use Rattle.casa_cli.specs.declared.tasks.TaskFault.{TaskFault}
 use Rattle.casa_cli.specs.declared.tasks.TaskFault.TheVariants.{Words, BadReg, BadKey, BadDay}
+
+-- to believe: what a server that stays is to do, as the words tell it
+abbrev pub service : TaskService → Service
+service task = record {
+  port = task.port;
+  socket = option_map (λ socket. (socket.path.now, socket.group)) task.socket;
+  seats = task.seats;
+  idle = task.idle;
+  quiet = task.quiet;
+  clock = option_map (λ clock. (date_parts clock.day, clock.every)) task.clock;
+}
 
 -- to believe: the request that a task is, as the words tell it
 abbrev pub request : Task → Request
 request Run = run
-request (Report reg day) = report reg (date_parts day)
-request (Load reg day step) = load reg (date_parts day) step
-request (Summary day) = summary (date_parts day)
-request (Why key day) = why key (date_parts day)
+request (Report reg day strict) = report reg (date_parts day) strict
+request (Load reg day step strict) = load reg (date_parts day) step strict
+request (Summary day strict) = summary (date_parts day) strict
+request (Why key day strict) = why key (date_parts day) strict
 request (Serve port connections turns day) = serve port connections turns (option_map date_parts day)
+request (Stay task) = stay (service task)
 
 -- to believe: the words ask for this task
 abbrev pub Asks : List Text → Task → Type 0
 Asks words task = request_of words ≡ Some (Ok (request task))
 
--- to believe: they are refused by this fault: by clap for what is wrong with them, or since it has no memory; or for a value
+-- to believe: clap's kind of fault for options that do not go together
+abbrev pub kind_of_clash : Clash → ErrorKind
+kind_of_clash (needs option other) = MissingRequiredArgument
+kind_of_clash (excludes option other) = ArgumentConflict
+kind_of_clash no_port = MissingRequiredArgument
+kind_of_clash no_address = MissingRequiredArgument
+kind_of_clash too_many_seats = ArgumentConflict
+
+-- to believe: that of what is wrong, if it is such a clash
+abbrev pub clash_kinds : Result Request WrongValue → Kinds
+clash_kinds (Err (clashing clash)) = kind_of_clash clash ∷ []
+clash_kinds _ = []
+
+-- to believe: the kinds of fault of the words: clap's own, or where it has none that of a clash
+abbrev pub fault_kinds : List Text → Kinds
+fault_kinds words = or_else (fault_of whole_app words) (option_map_or clash_kinds (request_of words) [])
+
+-- to believe: they are refused by this fault: by clap's for what is wrong with them, or for no memory; or for a value
 abbrev pub AreRefused : List Text → TaskFault → Type 0
-AreRefused words (Words error) = HasKind (fault_of whole_app words) error
+AreRefused words (Words error) = HasKind (fault_kinds words) error
 AreRefused words BadReg = request_of words ≡ Some (Err wrong_reg)
 AreRefused words BadKey = request_of words ≡ Some (Err wrong_key)
 AreRefused words BadDay = request_of words ≡ Some (Err wrong_day)
 
 -- the outcome is what the values of a subcommand's options give
-abbrev pub IsOutcome : Option (Result Request WrongValue) → Result Task TaskFault → Type 0
-IsOutcome asked (Ok task) = asked ≡ Some (Ok (request task))
-IsOutcome asked (Err (Words error)) = ⊥
-IsOutcome asked (Err BadReg) = asked ≡ Some (Err wrong_reg)
-IsOutcome asked (Err BadKey) = asked ≡ Some (Err wrong_key)
-IsOutcome asked (Err BadDay) = asked ≡ Some (Err wrong_day)
+abbrev pub IsOutcome : Result Request WrongValue → Result Task TaskFault → Type 0
+IsOutcome asked (Ok task) = asked ≡ Ok (request task)
+IsOutcome asked (Err (Words error)) = HasKind (clash_kinds asked) error
+IsOutcome asked (Err BadReg) = asked ≡ Err wrong_reg
+IsOutcome asked (Err BadKey) = asked ≡ Err wrong_key
+IsOutcome asked (Err BadDay) = asked ≡ Err wrong_day
+
+-- the clash that was found, as the words have it
+abbrev pub clash_found : FoundClash → Clash
+clash_found (Needs option other) = needs option.now other.now
+clash_found (Excludes option other) = excludes option.now other.now
+clash_found NoPort = no_port
+clash_found NoAddress = no_address
+clash_found TooManySeats = too_many_seats
 
 -- what stands after the option, where there is something, is what clap takes for a number in these bounds
 abbrev pub IsNumber : ℕ → ℕ → Text → List Row → Type 0
@@ -56,6 +99,9 @@ IsStepped rows = IsNumber 1 1440 (codes "step") rows
 
 -- what clap has seen to of the options of `serve`
 pub record AreChecked (rows : List Row) : Type 0 where
-  pub port : IsSome (one_of (codes "port") rows) × IsNumber 1 65535 (codes "port") rows
+  pub port : IsNumber 1 65535 (codes "port") rows
   pub connections : IsNumber 0 4294967295 (codes "connections") rows
   pub turns : IsNumber 0 4294967295 (codes "turns") rows
+  pub seats : IsNumber 1 1000 (codes "seats") rows
+  pub idle : IsNumber 1 86400 (codes "idle") rows
+  pub every : IsNumber 1 3600 (codes "every") rows

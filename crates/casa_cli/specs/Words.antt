@@ -1,16 +1,24 @@
 -- to believe: the words of the command line, and what they ask for
-use Rattle.std.specs.Prelude.{ℕ, pos, ◌==◌, ◌&&◌, ◌||◌, Bool, true, if◌then◌else◌, List, length, Option, Some, None, is_some, option_and_then, option_map, unwrap_or, codes, bytes_eq, nat_le, slice_index, Result, Ok, Err}
+use Rattle.std.specs.Prelude.{ℕ, pos, ◌==◌, ◌&&◌, ◌||◌, not, Bool, true, false, if◌then◌else◌, List, [], ◌∷◌, length, find, Option, Some, None, is_some, option_and_then, option_map, unwrap_or, codes, bytes_eq, nat_le, nat_lt, slice_index, Result, Ok, Err}
 use Rattle.std.specs.List.{list_all, slice_range}
+use Rattle.std.specs.Option.{option_map_or}
 use Rattle.std.specs.Str.Parse.{digits_value, without_leading_plus}
 use Rattle.clap.specs.Walk.{is_empty}
 use Rattle.clap.specs.Words.{App, Row, Rule, fault_of, first_of, new_app, new_rule, one_of, subcommand_of, with_rule, with_subcommand}
+use Rattle.clap.specs.declared.builder.action.ArgAction.TheVariants.{SetTrue}
 use Rattle.clap.specs.declared.builder.value_parser.ValueParser.TheVariants.{Signed}
+use Rattle.clap.specs.declared.parser.matches.ValueSource.{ValueSource}
+use Rattle.clap.specs.declared.parser.matches.ValueSource.TheVariants.{CommandLine}
 use Rattle.jiff_fmt.specs.Temporal.{DateParts, parse_date}
 use Rattle.casa_filing.specs.Text.{Text, is_name}
 
 -- `--name VALUE`
 abbrev pub option_rule : Text → Rule
 option_rule name = record (new_rule name) { long = Some name; value_names = 1 }
+
+-- `--name`, which takes no value
+abbrev pub flag_rule : Text → Rule
+flag_rule name = record (new_rule name) { long = Some name; action = Some SetTrue }
 
 -- the option must be there
 abbrev pub needed : Rule → Rule
@@ -21,7 +29,7 @@ abbrev pub number_between : ℕ → ℕ → Rule → Rule
 number_between low high rule = record rule { parser = Some (Signed (pos low) (pos high)) }
 
 -- `run` takes no words; `report` takes `--reg` and `--day`, `load` the same, and it may take `--step`; `summary` takes
--- `--day`, and `why` takes `--key` and `--day`; `serve` takes `--port`, and may take the others
+-- `--day`, and `why` takes `--key` and `--day`; these four may take `--strict`; `serve` may take each of its options
 abbrev pub run_app : App
 run_app = new_app (codes "run")
 
@@ -29,31 +37,57 @@ run_app = new_app (codes "run")
 abbrev pub taking_day : App → App
 taking_day app = with_rule app (needed (option_rule (codes "day")))
 
+-- and one that may be strict
+abbrev pub maybe_strict : App → App
+maybe_strict app = with_rule app (flag_rule (codes "strict"))
+
 abbrev pub report_app : App
-report_app = taking_day (with_rule (new_app (codes "report")) (needed (option_rule (codes "reg"))))
+report_app = maybe_strict (taking_day (with_rule (new_app (codes "report")) (needed (option_rule (codes "reg")))))
 
 abbrev pub load_app : App
 load_app =
-    with_rule (taking_day (with_rule (new_app (codes "load")) (needed (option_rule (codes "reg")))))
-    (number_between 1 1440 (option_rule (codes "step")))
+    maybe_strict (with_rule (taking_day (with_rule (new_app (codes "load")) (needed (option_rule (codes "reg")))))
+    (number_between 1 1440 (option_rule (codes "step"))))
 
 abbrev pub summary_app : App
-summary_app = taking_day (new_app (codes "summary"))
+summary_app = maybe_strict (taking_day (new_app (codes "summary")))
 
 abbrev pub why_app : App
-why_app = taking_day (with_rule (new_app (codes "why")) (needed (option_rule (codes "key"))))
+why_app = maybe_strict (taking_day (with_rule (new_app (codes "why")) (needed (option_rule (codes "key")))))
 
+-- `serve` with what a server that ends may take
 abbrev pub serve_without_clock : App
 serve_without_clock =
     with_rule (with_rule (new_app (codes "serve"))
-    (needed (number_between 1 65535 (option_rule (codes "port")))))
+    (number_between 1 65535 (option_rule (codes "port"))))
     (number_between 0 4294967295 (option_rule (codes "connections")))
 
-abbrev pub serve_app : App
-serve_app =
+abbrev pub serve_ending : App
+serve_ending =
     with_rule (with_rule serve_without_clock
     (option_rule (codes "day")))
     (number_between 0 4294967295 (option_rule (codes "turns")))
+
+-- and with what one that stays may take besides: where it listens, how it keeps its desks, how its clock is moved
+abbrev pub serve_listening : App
+serve_listening =
+    with_rule (with_rule (with_rule serve_ending
+    (flag_rule (codes "stay")))
+    (option_rule (codes "socket")))
+    (flag_rule (codes "group"))
+
+abbrev pub serve_keeping : App
+serve_keeping =
+    with_rule (with_rule (with_rule serve_listening
+    (number_between 1 1000 (option_rule (codes "seats"))))
+    (number_between 1 86400 (option_rule (codes "idle"))))
+    (flag_rule (codes "quiet"))
+
+abbrev pub serve_app : App
+serve_app =
+    with_rule (with_rule serve_keeping
+    (flag_rule (codes "clock")))
+    (number_between 1 3600 (option_rule (codes "every")))
 
 -- `casa` has a version; one of its subcommands must be named, and help is shown where there are no words
 abbrev pub casa_alone : App
@@ -68,17 +102,41 @@ casa_of_lists = with_subcommand (with_subcommand (with_subcommand casa_alone run
 abbrev pub whole_app : App
 whole_app = with_subcommand (with_subcommand (with_subcommand casa_of_lists summary_app.top) why_app.top) serve_app.top
 
+-- where a server that stays listens, how it keeps its desks, and how its clock is moved
+pub record Service : Type 0 where
+  pub port : Option ℕ
+  -- the path, and whether its group may connect
+  pub socket : Option (Text × Bool)
+  -- at each address
+  pub seats : ℕ
+  -- the seconds until a silent connection is given up, if it is
+  pub idle : Option ℕ
+  pub quiet : Bool
+  -- the day, and the seconds from one move to the next
+  pub clock : Option (DateParts × ℕ)
+
 -- what the words can ask for
 pub data Request : Type 0 where
   run : Request
-  report : Text → DateParts → Request
-  load : Text → DateParts → (step : ℕ) → Request
-  summary : DateParts → Request
-  why : Text → DateParts → Request
+  report : Text → DateParts → (strict : Bool) → Request
+  load : Text → DateParts → (step : ℕ) → (strict : Bool) → Request
+  summary : DateParts → (strict : Bool) → Request
+  why : Text → DateParts → (strict : Bool) → Request
   serve : (port connections turns : ℕ) → (day : Option DateParts) → Request
+  stay : Service → Request
 
--- and which value can be wrong, in the order of the checks
+-- options that do not go together: one without the one that it needs, two that exclude each other, no port, no port and
+-- no socket for a server that stays, or too many seats at two addresses
+pub data Clash : Type 0 where
+  needs : (option other : Text) → Clash
+  excludes : (option other : Text) → Clash
+  no_port : Clash
+  no_address : Clash
+  too_many_seats : Clash
+
+-- and what can be wrong, in the order of the checks
 pub data WrongValue : Type 0 where
+  clashing : Clash → WrongValue
   wrong_reg : WrongValue
   wrong_key : WrongValue
   wrong_day : WrongValue
@@ -129,6 +187,17 @@ day_in rows = option_and_then day_of (first_of (codes "day") rows)
 abbrev pub number_of : Text → List Row → Option ℕ
 number_of name rows = option_map (λ text. digits_value 10 (without_leading_plus text)) (one_of name rows)
 
+-- whether the words give the option or the flag
+abbrev pub is_of_words : Option ValueSource → Bool
+is_of_words (Some CommandLine) = true
+is_of_words _ = false
+
+abbrev pub is_given : Text → List Row → Bool
+is_given name rows = is_of_words (option_and_then (λ row. row.source) (find (λ row. bytes_eq row.id name) rows))
+
+abbrev pub is_strict : List Row → Bool
+is_strict rows = is_given (codes "strict") rows
+
 -- the minutes of a step
 abbrev pub step_of : List Row → ℕ
 step_of rows = unwrap_or (number_of (codes "step") rows) 20
@@ -137,30 +206,66 @@ abbrev pub report_of : List Row → Result Request WrongValue
 report_of rows = do
   reg ← or_wrong wrong_reg (named_in (codes "reg") rows)
   day ← or_wrong wrong_day (day_in rows)
-  Ok (report reg day)
+  Ok (report reg day (is_strict rows))
 
 abbrev pub load_of : List Row → Result Request WrongValue
 load_of rows = do
   reg ← or_wrong wrong_reg (named_in (codes "reg") rows)
   day ← or_wrong wrong_day (day_in rows)
-  Ok (load reg day (step_of rows))
+  Ok (load reg day (step_of rows) (is_strict rows))
 
 abbrev pub summary_of : List Row → Result Request WrongValue
 summary_of rows = do
   day ← or_wrong wrong_day (day_in rows)
-  Ok (summary day)
+  Ok (summary day (is_strict rows))
 
 abbrev pub why_of : List Row → Result Request WrongValue
 why_of rows = do
   key ← or_wrong wrong_key (named_in (codes "key") rows)
   day ← or_wrong wrong_day (day_in rows)
-  Ok (why key day)
+  Ok (why key day (is_strict rows))
 
 abbrev pub connections_of : List Row → ℕ
 connections_of rows = unwrap_or (number_of (codes "connections") rows) 1
 
 abbrev pub turns_of : List Row → ℕ
 turns_of rows = unwrap_or (number_of (codes "turns") rows) 0
+
+abbrev pub seats_of : List Row → ℕ
+seats_of rows = unwrap_or (number_of (codes "seats") rows) 64
+
+abbrev pub every_of : List Row → ℕ
+every_of rows = unwrap_or (number_of (codes "every") rows) 1
+
+abbrev pub socket_of : List Row → Option (Text × Bool)
+socket_of rows = option_map (λ path. (path, is_given (codes "group") rows)) (first_of (codes "socket") rows)
+
+-- the options that only a server that stays may take
+abbrev pub staying_options : List Text
+staying_options =
+    codes "socket" ∷ codes "group" ∷ codes "seats" ∷ codes "idle" ∷ codes "quiet" ∷
+    codes "clock" ∷ codes "every" ∷ []
+
+-- it takes no `--connections` and no `--turns`, and needs an address; a group is that of a socket, and seconds are
+-- those of a clock; at each of two addresses it has at most 500 seats
+abbrev pub clash_of_staying : List Row → Option Clash
+clash_of_staying rows =
+    if is_given (codes "connections") rows then Some (excludes (codes "stay") (codes "connections"))
+    else if is_given (codes "turns") rows then Some (excludes (codes "stay") (codes "turns"))
+    else if not (is_given (codes "port") rows) && not (is_given (codes "socket") rows) then Some no_address
+    else if is_given (codes "group") rows && not (is_given (codes "socket") rows)
+    then Some (needs (codes "group") (codes "socket"))
+    else if is_given (codes "every") rows && not (is_given (codes "clock") rows)
+    then Some (needs (codes "every") (codes "clock"))
+    else if is_given (codes "port") rows && (is_given (codes "socket") rows && nat_lt 500 (seats_of rows))
+    then Some too_many_seats
+    else None
+
+-- the first clash of options; that the port is missing is found after these
+abbrev pub clash_of : List Row → Option Clash
+clash_of rows =
+    if is_given (codes "stay") rows then clash_of_staying rows
+    else option_map (λ option. needs option (codes "stay")) (find (λ option. is_given option rows) staying_options)
 
 -- a day that is given must be one
 abbrev pub checked_day : Option Text → Result (Option DateParts) WrongValue
@@ -171,22 +276,47 @@ checked_day (Some text) = or_wrong wrong_day (option_map (λ day. Some day) (day
 abbrev pub day_for : ℕ → Option DateParts → Result (Option DateParts) WrongValue
 day_for turns day = if turns == 0 || is_some day then Ok day else Err wrong_day
 
-abbrev pub serve_at : List Row → ℕ → Result Request WrongValue
-serve_at rows port = do
+-- a clock that a server that stays moves needs it too
+abbrev pub clock_for : Bool → ℕ → Option DateParts → Result (Option (DateParts × ℕ)) WrongValue
+clock_for moves every day =
+    if moves then or_wrong wrong_day (option_map (λ midnight. Some (midnight, every)) day) else Ok None
+
+abbrev pub serve_at : List Row → Result Request WrongValue
+serve_at rows = do
+  port ← or_wrong (clashing no_port) (number_of (codes "port") rows)
   given ← checked_day (first_of (codes "day") rows)
   day ← day_for (turns_of rows) given
   Ok (serve port (connections_of rows) (turns_of rows) day)
 
-abbrev pub named_request : Text × List Row → Option (Result Request WrongValue)
+abbrev pub stay_at : List Row → Result Request WrongValue
+stay_at rows = do
+  given ← checked_day (first_of (codes "day") rows)
+  clock ← clock_for (is_given (codes "clock") rows) (every_of rows) given
+  Ok (stay (record {
+    port = number_of (codes "port") rows;
+    socket = socket_of rows;
+    seats = seats_of rows;
+    idle = number_of (codes "idle") rows;
+    quiet = is_given (codes "quiet") rows;
+    clock = clock;
+  }))
+
+-- a clash comes before what else can be wrong
+abbrev pub serve_of : List Row → Result Request WrongValue
+serve_of rows =
+    option_map_or (λ clash. Err (clashing clash)) (clash_of rows)
+    (if is_given (codes "stay") rows then stay_at rows else serve_at rows)
+
+abbrev pub named_request : Text × List Row → Result Request WrongValue
 named_request (name, rows) =
-    if bytes_eq name (codes "run") then Some (Ok run)
-    else if bytes_eq name (codes "serve") then option_map (serve_at rows) (number_of (codes "port") rows)
-    else if bytes_eq name (codes "load") then Some (load_of rows)
-    else if bytes_eq name (codes "summary") then Some (summary_of rows)
-    else if bytes_eq name (codes "why") then Some (why_of rows)
-    else Some (report_of rows)
+    if bytes_eq name (codes "run") then Ok run
+    else if bytes_eq name (codes "serve") then serve_of rows
+    else if bytes_eq name (codes "load") then load_of rows
+    else if bytes_eq name (codes "summary") then summary_of rows
+    else if bytes_eq name (codes "why") then why_of rows
+    else report_of rows
 
 -- what the words ask for, where clap finds no fault in them and they name a subcommand
 abbrev pub request_of : List Text → Option (Result Request WrongValue)
 request_of words =
-    if is_empty (fault_of whole_app words) then option_and_then named_request (subcommand_of whole_app words) else None
+    if is_empty (fault_of whole_app words) then option_map named_request (subcommand_of whole_app words) else None

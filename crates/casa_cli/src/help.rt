@@ -16,6 +16,7 @@ Examples:
   casa summary --day 2025-06-01 < examples/first.jsonl
   casa why --key A --day 2025-06-01 < examples/first.jsonl
   casa serve --port 4750 --connections 8
+  casa serve --port 4750 --stay
 
 Commands are lines of JSON, on standard input or over a connection; docs/COMMANDS.md describes each, and its reply.";
 
@@ -92,7 +93,12 @@ pub const DAY_HELP: &str = "The day, for the heading: as 2025-06-01";
 
 /// What `serve` does.
 pub const SERVE_ABOUT: &str =
-    "Answers desks over connections to 127.0.0.1, each with its own command lines";
+    "Answers desks over connections to 127.0.0.1 or to a socket, each with its own command lines";
+
+/// How `serve` is called: until it has answered its connections, or until it is ended.
+pub const SERVE_USAGE: &str = "\
+casa serve [OPTIONS] --port <P>
+       casa serve [OPTIONS] --stay <--port <P>|--socket <PATH>>";
 
 /// What stands below the options of `serve`.
 pub const SERVE_AFTER_HELP: &str = "\
@@ -100,12 +106,14 @@ Examples:
   casa serve --port 4750
   casa serve --port 4750 --connections 8
   casa serve --port 4750 --connections 8 --day 2025-06-01 --turns 86400
+  casa serve --port 4750 --stay
+  casa serve --socket /run/casa/desk --stay --clock --day 2025-06-01
 
 All desks work on one set of regulations and flights, and a connection is one desk: it sends the lines that
 `casa run` reads and gets the same replies. docs/PROTOCOL.md describes what else there is to know.";
 
 /// What stands after `--port`.
-pub const PORT_HELP: &str = "The port to listen on: 1 to 65535";
+pub const PORT_HELP: &str = "The port to listen on: 1 to 65535; needed unless --socket is given";
 
 /// What stands after `--connections`.
 pub const CONNECTIONS_HELP: &str =
@@ -113,8 +121,40 @@ pub const CONNECTIONS_HELP: &str =
 
 /// What stands after `--day` of `serve`.
 pub const CLOCK_DAY_HELP: &str =
-    "The day from whose midnight UTC the clock counts, as 2025-06-01; needed with --turns above 0";
+    "The day from whose midnight UTC the clock counts, as 2025-06-01; --turns and --clock need it";
 
 /// What stands after `--turns`.
 pub const TURNS_HELP: &str =
     "How many times to move the clock, once a second: 0 to 4294967295, 0 if not given";
+
+/// What stands after `--stay`.
+pub const STAY_HELP: &str =
+    "Answer until casa is ended, by the options below in place of --connections and --turns";
+
+/// What stands after `--socket`.
+pub const SOCKET_HELP: &str = "The path of a socket to listen on, in place of --port or besides";
+
+/// What stands after `--group`.
+pub const GROUP_HELP: &str = "Let the group of the socket connect too";
+
+/// What stands after `--seats`.
+pub const SEATS_HELP: &str =
+    "How many connections at a time: 1 to 1000, 64 if not given; up to 500 at each of two addresses";
+
+/// What stands after `--idle`.
+pub const IDLE_HELP: &str =
+    "After how many seconds of silence to give a connection up: 1 to 86400, never if not given";
+
+/// What stands after `--quiet`.
+pub const QUIET_HELP: &str = "Say nothing of connections on standard error";
+
+/// What stands after `--clock`.
+pub const CLOCK_HELP: &str = "Move the clock to the present second, counted from --day";
+
+/// What stands after `--every`.
+pub const EVERY_HELP: &str =
+    "The seconds from one move of the clock to the next: 1 to 3600, 1 if not given";
+
+/// What stands after `--strict`.
+pub const STRICT_HELP: &str =
+    "Print nothing and end with status 1 if a line is faulty or a call is refused";

@@ -1,13 +1,14 @@
 //! The law of the definition of what words ask for, on a function that does nothing.
 
-ghost use Rattle.std.specs.Prelude.{◌≡◌, List, [], Ok, None, Some, codes};
+ghost use Rattle.std.specs.Prelude.{◌≡◌, List, [], Ok, Err, None, Some, true, false, codes};
 ghost use Rattle.clap.specs.Words.{Row, fault_of};
 ghost use Rattle.casa_filing.specs.Text.{Text};
-ghost use Rattle.casa_cli.specs.Checks.{AreRead, first_wrong, load_request, report_checks, report_request, serve_checks, serve_request, summary_checks, summary_request, unless_wrong, why_checks, why_request};
-ghost use Rattle.casa_cli.specs.Words.{whole_app, request_of, run};
+ghost use Rattle.casa_cli.specs.Checks.{AreRead, AreServed, first_wrong, load_request, report_checks, report_request, serve_checks, serve_request, stay_checks, stay_request, summary_checks, summary_request, unless_wrong, why_checks, why_request};
+ghost use Rattle.casa_cli.specs.Words.{Clash, clash_of, clashing, whole_app, request_of, run};
 
-/// Words in which clap finds a fault ask for nothing. Of words that it reads, the value that is wrong is that of the
-/// first check that holds, in the order of the subcommand's list; where none holds, they ask for what its options say.
+/// Words in which clap finds a fault ask for nothing. Of words that it reads, what is wrong is a clash of options;
+/// where there is none, it is that of the first check that holds, in the order of the subcommand's list; where none
+/// holds, they ask for what its options say.
 pub fn words_have_the_first_wrong_value()
     ensures unread { (words : List Text) → (fault_of whole_app words ≡ [] → ⊥)
         → request_of words ≡ None }
@@ -21,6 +22,10 @@ pub fn words_have_the_first_wrong_value()
         request_of words ≡ unless_wrong (first_wrong (summary_checks rows)) (summary_request rows) }
     ensures why { (words : List Text) (rows : List Row) → AreRead words (codes "why") rows →
         request_of words ≡ unless_wrong (first_wrong (why_checks rows)) (why_request rows) }
-    ensures serve { (words : List Text) (rows : List Row) → AreRead words (codes "serve") rows →
+    ensures clash { (words : List Text) (rows : List Row) (clash : Clash) → AreRead words (codes "serve") rows
+        → clash_of rows ≡ Some clash → request_of words ≡ Some (Err (clashing clash)) }
+    ensures serve { (words : List Text) (rows : List Row) → AreServed words false rows →
         request_of words ≡ unless_wrong (first_wrong (serve_checks rows)) (serve_request rows) }
+    ensures stay { (words : List Text) (rows : List Row) → AreServed words true rows →
+        request_of words ≡ unless_wrong (first_wrong (stay_checks rows)) (stay_request rows) }
 {}

@@ -1,11 +1,14 @@
 //! The words of the command line: what they ask for, and what the program ends with.
 #![tactic(auto)]
 
+mod commands;
 mod help;
 mod laws;
+mod serving;
 mod tasks;
+mod values;
 mod words;
 
 pub use laws::words_have_the_first_wrong_value;
-pub use tasks::{Task, TaskFault};
+pub use tasks::{Service, Socket, Task, TaskFault, Ticking};
 pub use words::task;

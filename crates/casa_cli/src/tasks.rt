@@ -4,11 +4,18 @@ use thiserror::Error;
 
 /// What the words of the command line ask for.
 #[derive(Clone, Copy, PartialEq, Eq, Debug)]
-pub enum Task {
+pub enum Task<'a> {
     /// `casa run`: a session on standard input and output.
     Run,
     /// `casa report`: the list of a regulation as a table, under a heading with the day.
-    Report(RegId, Date),
+    Report {
+        /// The regulation.
+        reg: RegId,
+        /// The day, for the heading.
+        day: Date,
+        /// Whether `--strict` was given.
+        strict: bool,
+    },
     /// `casa load`: the demand on a regulation and its capacity, under a heading with the day.
     Load {
         /// The regulation.
@@ -17,12 +24,26 @@ pub enum Task {
         day: Date,
         /// The length of a step in minutes, 1 to 1,440.
         step: u32,
+        /// Whether `--strict` was given.
+        strict: bool,
     },
     /// `casa summary`: what each open regulation costs, under a heading with the day.
-    Summary(Date),
+    Summary {
+        /// The day, for the heading.
+        day: Date,
+        /// Whether `--strict` was given.
+        strict: bool,
+    },
     /// `casa why`: why a flight waits, under a heading with the day.
-    Why(Key, Date),
-    /// `casa serve`: the desks of a day, each over a connection of its own.
+    Why {
+        /// The flight.
+        key: Key,
+        /// The day, for the heading.
+        day: Date,
+        /// Whether `--strict` was given.
+        strict: bool,
+    },
+    /// `casa serve` without `--stay`: the desks of a day, each over a connection of its own.
     Serve {
         /// The port to listen on, 1 to 65,535.
         port: u16,
@@ -33,12 +54,50 @@ pub enum Task {
         /// The day from whose midnight UTC the clock counts; it is there where the clock is to be moved.
         day: Option<Date>,
     },
+    /// `casa serve --stay`: desks that come and go until the server is ended.
+    Stay(Service<'a>),
+}
+
+/// What a server that stays is to do. It has a port or a socket, or both; with both at most 500 seats.
+#[derive(Clone, Copy, PartialEq, Eq, Debug)]
+pub struct Service<'a> {
+    /// The port to listen on, 1 to 65,535.
+    pub port: Option<u16>,
+    /// The socket to listen on.
+    pub socket: Option<Socket<'a>>,
+    /// How many connections it has at a time at each address, 1 to 1,000.
+    pub seats: u32,
+    /// After how many seconds of silence it gives a connection up, 1 to 86,400; none: never.
+    pub idle: Option<u32>,
+    /// Whether it is to say nothing of what it does.
+    pub quiet: bool,
+    /// How its clock is moved, if it is.
+    pub clock: Option<Ticking>,
+}
+
+/// A socket in the file system.
+#[derive(Clone, Copy, PartialEq, Eq, Debug)]
+pub struct Socket<'a> {
+    /// Its path.
+    pub path: &'a str,
+    /// Whether the socket's group may connect too.
+    pub group: bool,
+}
+
+/// How the clock of a server that stays is moved.
+#[derive(Clone, Copy, PartialEq, Eq, Debug)]
+pub struct Ticking {
+    /// The day from whose midnight UTC the clock counts.
+    pub day: Date,
+    /// The seconds from one move to the next, 1 to 3,600.
+    pub every: u32,
 }
 
 /// Why the words ask for nothing, in the order of the checks.
 #[derive(Debug, Drop, Error)]
 pub enum TaskFault {
-    /// The words are none that the program knows, ask for help or the version, or there is no memory to read them.
+    /// The words are none that the program knows, have options that do not go together, ask for help or the version, or
+    /// there is no memory to read them.
     #[error("{0}")]
     Words(clap::Error),
     /// What stands after `--reg` is no identifier: 1 to 10 characters of A to Z and 0 to 9.

@@ -1,4 +1,4 @@
-use Rattle.casa_cli.proofs.FirstWrong.{nothing_asked, run_asked, report_asked, load_asked, summary_asked, why_asked, serve_asked}
+use Rattle.casa_cli.proofs.FirstWrong.{nothing_asked, run_asked, report_asked, load_asked, summary_asked, why_asked, clash_asked, serve_asked, stay_asked}
 use Rattle.casa_cli.proofs.laws.words_have_the_first_wrong_value.Goals as goal
 
 pub returns-clause-unread : goal.returns-clause-unread
@@ -19,5 +19,11 @@ returns-clause-summary c = summary_asked
 pub returns-clause-why : goal.returns-clause-why
 returns-clause-why c = why_asked
 
+pub returns-clause-clash : goal.returns-clause-clash
+returns-clause-clash c = clash_asked
+
 pub returns-clause-serve : goal.returns-clause-serve
 returns-clause-serve c = serve_asked
+
+pub returns-clause-stay : goal.returns-clause-stay
+returns-clause-stay c = stay_asked

@@ -1,8 +1,10 @@
-use Rattle.std.proofs.Common.{rules, ◌≡◌, ◌∙◌, Some, map, sym, codes, true, Bor, List, ℕ}
+use Rattle.std.proofs.Common.{rules, ◌≡◌, ◌∙◌, Some, Err, map, sym, codes, true, Bor, List, ℕ}
 use Rattle.std.specs.Str.{bytes_eq}
 use Rattle.clap.specs.Walk.{rows_of}
 use Rattle.clap.specs.Words.{found_of, subcommand_rows_of}
 use Rattle.casa_cli.proofs.Served.{load_checked, serve_checked}
+use Rattle.casa_cli.specs.declared.tasks.TaskFault.TheVariants.{Words}
+use Rattle.casa_cli.proofs.Refused.{refused_by_clap}
 use Rattle.casa_cli.proofs.words.task.Goals as goal
 
 pub serve_task-requires : goal.serve_task-requires
@@ -20,3 +22,10 @@ load_task-requires c =
     let entered : subcommand_rows_of c.in_ok-matches.matches ≡ Some (c.in-Some.name.now, rows_of (found_of c.in-Some.values.now)) = search rules in
     let named : bytes_eq c.in-Some.name.now (codes "load") ≡ true = search rules in
     load_checked words c.in-Some.name.now (rows_of (found_of c.in-Some.values.now)) read.0 (sym read.1 ∙ entered) named
+
+pub returns-in_err-matches-clause-err : goal.returns-in_err-matches-clause-err
+returns-in_err-matches-clause-err c =
+    let words = map (λ (word : Bor (List ℕ)). word.now) c.args.words.now in
+    let (error, of_clap, kinds) = c.in_err-matches.ensures.err in
+    let is : c.from_residual.result ≡ Err (Words error) = search rules in
+    refused_by_clap words error c.from_residual.result is kinds

@@ -3,7 +3,7 @@ use Rattle.std.specs.Str.Parse.{ExplainsUnsignedError, HasUnsignedDigitsIfOk, Pa
 use Rattle.clap.specs.Words.{found_of, one_of, rows_of}
 use Rattle.clap.proofs.WalkLemmas.{one_text-rows}
 use Rattle.casa_cli.proofs.Numbers.{number_read}
-use Rattle.casa_cli.proofs.words.number_in.Goals as goal
+use Rattle.casa_cli.proofs.values.number_in.Goals as goal
 
 pub returns : goal.returns
 returns c =

@@ -1,0 +1,253 @@
+//! `casa` with its subcommands and their options, as clap is told of them.
+
+ghost use Rattle.std.specs.Prelude.{◌≡◌, ℕ, false, codes, IfOk};
+ghost use Rattle.clap.specs.Words.{app_of, new_app, rule_of};
+ghost use Rattle.clap.specs.declared.builder.command.Command.TheViews.{out-Command as fields_of};
+ghost use Rattle.casa_cli.specs.Words.{casa_alone, casa_of_lists, flag_rule, load_app, needed, number_between, option_rule, report_app, run_app, serve_app, serve_ending, serve_keeping, serve_listening, serve_without_clock, summary_app, whole_app, why_app};
+
+use crate::help;
+use clap::{Arg, ArgAction, Command, value_parser};
+use std::alloc::{AllocError, Global};
+
+/// `casa` with its subcommands.
+pub fn casa_command<'a>(alloc: Global) -> Result<Command<'a>, AllocError>
+    ensures app { IfOk result (λ command. app_of command ≡ whole_app) }
+    ensures local { IfOk result (λ command. (fields_of command).has_globals ≡ false) }
+{
+    casa_of_lists(alloc)?
+        .subcommand(summary_command(alloc)?)?
+        .subcommand(why_command(alloc)?)?
+        .subcommand(serve_command(alloc)?)
+}
+
+/// `casa` with the subcommands that answer each line or ask for one regulation.
+fn casa_of_lists<'a>(alloc: Global) -> Result<Command<'a>, AllocError>
+    ensures app { IfOk result (λ command. app_of command ≡ casa_of_lists) }
+    ensures local { IfOk result (λ command. (fields_of command).has_globals ≡ false) }
+{
+    casa_alone(alloc)?
+        .subcommand(run_command(alloc))?
+        .subcommand(report_command(alloc)?)?
+        .subcommand(load_command(alloc)?)
+}
+
+/// `casa` without its subcommands, under this name whatever the program's file is called.
+fn casa_alone<'a>(alloc: Global) -> Result<Command<'a>, AllocError>
+    ensures app { IfOk result (λ command. app_of command ≡ casa_alone) }
+    ensures local { IfOk result (λ command. (fields_of command).has_globals ≡ false) }
+{
+    Command::new(alloc, "casa")
+        .version(help::VERSION)
+        .about(help::ABOUT)
+        .after_help(help::AFTER_HELP)
+        .subcommand_required(true)
+        .arg_required_else_help(true)
+        .bin_name("casa")
+}
+
+/// `casa run`.
+fn run_command<'a>(alloc: Global) -> Command<'a>
+    ensures app { app_of result ≡ run_app }
+    ensures local { (fields_of result).has_globals ≡ false }
+{
+    described(alloc, "run", help::RUN_ABOUT, help::RUN_AFTER_HELP)
+}
+
+/// `casa report` with its options.
+fn report_command<'a>(alloc: Global) -> Result<Command<'a>, AllocError>
+    ensures app { IfOk result (λ command. app_of command ≡ report_app) }
+    ensures local { IfOk result (λ command. (fields_of command).has_globals ≡ false) }
+{
+    described(alloc, "report", help::REPORT_ABOUT, help::REPORT_AFTER_HELP)
+        .arg(reg_option(alloc))?
+        .arg(day_option(alloc))?
+        .arg(strict_flag(alloc))
+}
+
+/// `casa load` with its options.
+fn load_command<'a>(alloc: Global) -> Result<Command<'a>, AllocError>
+    ensures app { IfOk result (λ command. app_of command ≡ load_app) }
+    ensures local { IfOk result (λ command. (fields_of command).has_globals ≡ false) }
+{
+    described(alloc, "load", help::LOAD_ABOUT, help::LOAD_AFTER_HELP)
+        .arg(reg_option(alloc))?
+        .arg(day_option(alloc))?
+        .arg(step_option(alloc))?
+        .arg(strict_flag(alloc))
+}
+
+/// `casa summary` with its options.
+fn summary_command<'a>(alloc: Global) -> Result<Command<'a>, AllocError>
+    ensures app { IfOk result (λ command. app_of command ≡ summary_app) }
+    ensures local { IfOk result (λ command. (fields_of command).has_globals ≡ false) }
+{
+    let summary = described(
+        alloc,
+        "summary",
+        help::SUMMARY_ABOUT,
+        help::SUMMARY_AFTER_HELP,
+    );
+    summary.arg(day_option(alloc))?.arg(strict_flag(alloc))
+}
+
+/// `casa why` with its options.
+fn why_command<'a>(alloc: Global) -> Result<Command<'a>, AllocError>
+    ensures app { IfOk result (λ command. app_of command ≡ why_app) }
+    ensures local { IfOk result (λ command. (fields_of command).has_globals ≡ false) }
+{
+    let key = value_option(alloc, "key", "K", help::KEY_HELP).required(true);
+    described(alloc, "why", help::WHY_ABOUT, help::WHY_AFTER_HELP)
+        .arg(key)?
+        .arg(day_option(alloc))?
+        .arg(strict_flag(alloc))
+}
+
+/// `casa serve` with its options.
+pub fn serve_command<'a>(alloc: Global) -> Result<Command<'a>, AllocError>
+    ensures app { IfOk result (λ command. app_of command ≡ serve_app) }
+    ensures local { IfOk result (λ command. (fields_of command).has_globals ≡ false) }
+{
+    let clock = flag(alloc, "clock", help::CLOCK_HELP);
+    let every = number_option(alloc, "every", "SECONDS", help::EVERY_HELP, 3600);
+    serve_keeping(alloc)?.arg(clock)?.arg(every)
+}
+
+/// `casa serve` but for how the clock of a server that stays is moved.
+fn serve_keeping<'a>(alloc: Global) -> Result<Command<'a>, AllocError>
+    ensures app { IfOk result (λ command. app_of command ≡ serve_keeping) }
+    ensures local { IfOk result (λ command. (fields_of command).has_globals ≡ false) }
+{
+    let seats = number_option(alloc, "seats", "S", help::SEATS_HELP, 1000);
+    let idle = number_option(alloc, "idle", "SECONDS", help::IDLE_HELP, 86400);
+    serve_listening(alloc)?
+        .arg(seats)?
+        .arg(idle)?
+        .arg(flag(alloc, "quiet", help::QUIET_HELP))
+}
+
+/// `casa serve` with the options of one that ends, and where one that stays listens.
+fn serve_listening<'a>(alloc: Global) -> Result<Command<'a>, AllocError>
+    ensures app { IfOk result (λ command. app_of command ≡ serve_listening) }
+    ensures local { IfOk result (λ command. (fields_of command).has_globals ≡ false) }
+{
+    serve_ending(alloc)?
+        .arg(flag(alloc, "stay", help::STAY_HELP))?
+        .arg(value_option(alloc, "socket", "PATH", help::SOCKET_HELP))?
+        .arg(flag(alloc, "group", help::GROUP_HELP))
+}
+
+/// `casa serve` with the options of one that ends.
+fn serve_ending<'a>(alloc: Global) -> Result<Command<'a>, AllocError>
+    ensures app { IfOk result (λ command. app_of command ≡ serve_ending) }
+    ensures local { IfOk result (λ command. (fields_of command).has_globals ≡ false) }
+{
+    let day = value_option(alloc, "day", "YYYY-MM-DD", help::CLOCK_DAY_HELP);
+    let turns = count_option(alloc, "turns", "T", help::TURNS_HELP);
+    serve_without_clock(alloc)?.arg(day)?.arg(turns)
+}
+
+/// `casa serve` with the options of its connections.
+fn serve_without_clock<'a>(alloc: Global) -> Result<Command<'a>, AllocError>
+    ensures app { IfOk result (λ command. app_of command ≡ serve_without_clock) }
+    ensures local { IfOk result (λ command. (fields_of command).has_globals ≡ false) }
+{
+    let connections = count_option(alloc, "connections", "N", help::CONNECTIONS_HELP);
+    described(alloc, "serve", help::SERVE_ABOUT, help::SERVE_AFTER_HELP)
+        .override_usage(help::SERVE_USAGE)
+        .arg(port_option(alloc))?
+        .arg(connections)
+}
+
+/// A subcommand that takes no words, with what stands above its options and below them in its help.
+fn described<'a>(alloc: Global, name: &'a str, about: &'a str, after: &'a str) -> Command<'a>
+    ensures app { app_of result ≡ new_app name.entry.now }
+    ensures local { (fields_of result).has_globals ≡ false }
+{
+    Command::new(alloc, name).about(about).after_help(after)
+}
+
+/// An option with a value.
+fn value_option<'a>(alloc: Global, name: &'a str, value: &'a str, text: &'a str) -> Arg<'a>
+    ensures rule { rule_of result ≡ option_rule name.entry.now }
+    ensures local { result.global ≡ false }
+{
+    Arg::new(alloc, name)
+        .long(name)
+        .value_name(value)
+        .help(text)
+}
+
+/// An option with a number of 32 bits.
+fn count_option<'a>(alloc: Global, name: &'a str, value: &'a str, text: &'a str) -> Arg<'a>
+    ensures rule { rule_of result ≡ number_between 0 4294967295 (option_rule name.entry.now) }
+    ensures local { result.global ≡ false }
+{
+    value_option(alloc, name, value, text).value_parser(value_parser!(u32))
+}
+
+/// An option with a number from 1 to this one.
+fn number_option<'a>(
+    alloc: Global,
+    name: &'a str,
+    value: &'a str,
+    text: &'a str,
+    most: u32,
+) -> Arg<'a>
+    ensures rule { rule_of result ≡ number_between 1 most (option_rule name.entry.now) }
+    ensures local { result.global ≡ false }
+{
+    value_option(alloc, name, value, text).value_parser(value_parser!(u32).range(
+        1..=i64::from(most),
+    ))
+}
+
+/// A flag.
+fn flag<'a>(alloc: Global, name: &'a str, text: &'a str) -> Arg<'a>
+    ensures rule { rule_of result ≡ flag_rule name.entry.now }
+    ensures local { result.global ≡ false }
+{
+    Arg::new(alloc, name)
+        .long(name)
+        .action(ArgAction::SetTrue)
+        .help(text)
+}
+
+/// `--strict`.
+fn strict_flag<'a>(alloc: Global) -> Arg<'a>
+    ensures rule { rule_of result ≡ flag_rule (codes "strict") }
+    ensures local { result.global ≡ false }
+{
+    flag(alloc, "strict", help::STRICT_HELP)
+}
+
+/// `--port`.
+fn port_option<'a>(alloc: Global) -> Arg<'a>
+    ensures rule { rule_of result ≡ number_between 1 65535 (option_rule (codes "port")) }
+    ensures local { result.global ≡ false }
+{
+    value_option(alloc, "port", "P", help::PORT_HELP).value_parser(value_parser!(u16).range(1..))
+}
+
+/// `--reg`, which must be given.
+fn reg_option<'a>(alloc: Global) -> Arg<'a>
+    ensures rule { rule_of result ≡ needed (option_rule (codes "reg")) }
+    ensures local { result.global ≡ false }
+{
+    value_option(alloc, "reg", "R", help::REG_HELP).required(true)
+}
+
+/// `--day`, which must be given.
+fn day_option<'a>(alloc: Global) -> Arg<'a>
+    ensures rule { rule_of result ≡ needed (option_rule (codes "day")) }
+    ensures local { result.global ≡ false }
+{
+    value_option(alloc, "day", "YYYY-MM-DD", help::DAY_HELP).required(true)
+}
+
+/// `--step`, in minutes.
+fn step_option<'a>(alloc: Global) -> Arg<'a>
+    ensures rule { rule_of result ≡ number_between 1 1440 (option_rule (codes "step")) }
+    ensures local { result.global ≡ false }
+{
+    number_option(alloc, "step", "MINUTES", help::STEP_HELP, 1440)
+}
