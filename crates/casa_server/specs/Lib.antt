@@ -1,6 +1,10 @@
 pub mod Begun
 pub mod Faults
+pub mod Guards
+pub mod Looks
 pub mod Moments
+pub mod Requests
+pub mod Seats
 pub mod Serving
 pub mod Sources
 pub mod Ticks

@@ -56,7 +56,7 @@ pub(crate) fn answer<
 }
 
 /// Answers the lines of a reader at a writer by the desk of this pass, as every session does. Gives the pass back.
-fn session<K: Store, L: EngineName, G: Gate<Board<K>>, R: Wait, I: Read, O: Write>(
+pub(crate) fn session<K: Store, L: EngineName, G: Gate<Board<K>>, R: Wait, I: Read, O: Write>(
     rt: &R,
     alloc: Global,
     engine: &Engine<K, L, G>,

@@ -31,6 +31,29 @@ impl ServeFault {
     }
 }
 
+/// Why a seat can't be had, in the order of the checks.
+#[derive(Clone, Copy, PartialEq, Eq, Debug, Error)]
+pub enum SeatFault {
+    /// The engine gave the seat no desk, since 1,024 are open.
+    #[error("no desk is left")]
+    NoDesk,
+    /// The system gave no thread for it.
+    #[error("no thread could be started")]
+    NoThread,
+    /// There is no memory for it.
+    #[error("there is no memory")]
+    NoMemory,
+}
+
+impl From<DeskFault> for SeatFault {
+    fn from(fault: DeskFault) -> SeatFault {
+        match fault {
+            DeskFault::TooManyDesks => SeatFault::NoDesk,
+            DeskFault::NoMemory => SeatFault::NoMemory,
+        }
+    }
+}
+
 /// Why a timer ended before its clock or its turns did, in the order of the checks.
 #[derive(Clone, Copy, PartialEq, Eq, Debug, Error)]
 pub enum TimerFault {

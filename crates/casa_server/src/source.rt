@@ -1,5 +1,5 @@
-ghost use Rattle.std.specs.Prelude.{◌∷◌, List, [], Option, None, IfOk};
-ghost use Rattle.casa_server.specs.Sources.{Gives};
+ghost use Rattle.std.specs.Prelude.{◌∷◌, List, [], Option, None, IfOk, OnErr};
+ghost use Rattle.casa_server.specs.Sources.{Gives, IsExhausted};
 
 use crate::fault::ServeFault;
 use std::alloc::Global;
@@ -22,10 +22,12 @@ pub trait Connections {
     /// The next connection: where to read and where to write. It may wait for one to come. A connection is closed when both
     /// ends of it are dropped.
     ///
-    /// `AcceptFailed` where there is none, `NoMemory` where there is no memory for it.
+    /// `AcceptFailed` where there is none, `NoMemory` where there is no memory for it. Where it is known what comes, it fails
+    /// only when none is left.
     fn next(&mut self, alloc: Global) -> Result<(Self::Reader, Self::Writer), ServeFault>
-        ensures { IfOk result (λ connection. Gives (coming self.old) (coming self.new)
-            (connection ∷ [])) };
+        ensures given { IfOk result (λ connection. Gives (coming self.old) (coming self.new)
+            (connection ∷ [])) }
+        ensures ended { OnErr result (IsExhausted (coming self.old)) };
 }
 
 /// One end of a connection over TCP, which is closed when its two ends are dropped.

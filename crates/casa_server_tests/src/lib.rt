@@ -11,3 +11,5 @@ mod lost;
 mod memory;
 #[cfg(test)]
 mod serving;
+#[cfg(test)]
+mod staying;

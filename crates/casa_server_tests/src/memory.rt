@@ -21,9 +21,9 @@ use std::thread::Threads;
 
 /// What each connection sends, and how many have come.
 #[derive(Clone, Copy)]
-struct Sent<'a> {
-    lines: &'a [&'a str],
-    come: usize,
+pub struct Sent<'a> {
+    pub lines: &'a [&'a str],
+    pub come: usize,
 }
 
 impl<'a> Connections for Sent<'a> {

@@ -15,7 +15,7 @@ accepting-preserved g c =
     rw more (
       omega (arith, length-append c.accepting.all.items (begun ∷ []), seen.0),
       rw (map-append connection_of c.accepting.all.items (begun ∷ []))
-          (gives_more _ _ _ _ _ seen.1 (rw c.in_ok-begun.ensures c.in_ok-ends.ensures)),
+          (gives_more _ _ _ _ _ seen.1 (rw c.in_ok-begun.ensures c.in_ok-ends.ensures.given)),
     )
 
 pub returns-clause-first : goal.returns-clause-first
