@@ -3,14 +3,18 @@
 //! `casa serve` answers the desks that connect.
 #![tactic(auto)]
 
-use casa_app::{ProgramFault, Timing, load, outcome, report, serve_desks, summary, why};
+use casa_app::{
+    Input, ProgramFault, Timing, load, outcome, report, serve_desks, stand_in, stay_desks, summary,
+    why,
+};
 use casa_cli::{Task, TaskFault, task};
 use casa_session::Lone;
 use clap::Command;
 use clap::error::ErrorKind;
 use jiff::civil::Date;
 use std::alloc::Global;
-use std::io::{Read, Write};
+use std::fs::{File, Files};
+use std::io::{Eprint, Read, Write};
 use std::net::{Net, TcpListener, TcpStream};
 use std::process::ExitCode;
 use std::sync::Wait;
@@ -19,10 +23,18 @@ use std::time::Clock;
 use std::{env, io};
 
 fn main(rt: HostRuntime) -> ExitCode {
-    let done = match asked(&rt) {
-        Ok(task) => {
-            let (mut reader, mut writer) = (rt.reader(), io::writer(&rt));
-            carry_out(&rt, rt.alloc(), &task, &mut reader, &mut writer)
+    let done = match words(&rt) {
+        Ok(words) => {
+            let (mut input, mut writer) = (Input::new(rt.reader()), io::writer(&rt));
+            let mut errors = rt.stderr();
+            answer(
+                &rt,
+                rt.alloc(),
+                &words,
+                &mut input,
+                &mut writer,
+                &mut errors,
+            )
         }
         Err(fault) => Err(fault),
     };
@@ -32,35 +44,82 @@ fn main(rt: HostRuntime) -> ExitCode {
     }
 }
 
-/// Does what the words of the command line ask for, by this reader and writer where these are needed.
-fn carry_out<
-    N: Net<Listener = TcpListener, Stream = TcpStream> + Threads + Wait + Clock + Sync,
-    R: Read,
+/// Does what the words of the command line ask for, by this input and writer where these are needed. What is said of
+/// faulty lines is written to `errors`.
+fn answer<
+    N: Net<Listener = TcpListener, Stream = TcpStream>
+        + Files<File = File>
+        + Threads
+        + Wait
+        + Clock
+        + Eprint
+        + Sync,
+    R: Read + Drop,
     W: Write,
->(rt: &N, alloc: Global, task: &Task, reader: &mut R, writer: &mut W) -> Result<(), ProgramFault> {
-    match *task {
-        Task::Run => answer_lines(alloc, reader, writer),
-        Task::Report(reg, day) => report(alloc, &reg, day, reader, writer),
-        Task::Load { reg, day, step } => load(alloc, &reg, day, step, reader, writer),
-        Task::Summary(day) => summary(rt, alloc, day, reader, writer),
-        Task::Why(key, day) => why(alloc, &key, day, reader, writer),
+    E: Write,
+>(
+    rt: &N,
+    alloc: Global,
+    words: &[String],
+    input: &mut Input<R>,
+    writer: &mut W,
+    errors: &mut E,
+) -> Result<(), ProgramFault> {
+    let words: Vec<&str> = words.iter().map(String::as_str).collect(alloc)?;
+    match task(alloc, &words) {
+        Ok(task) => carry_out(rt, alloc, &task, input, writer, errors),
+        Err(fault) => Err(ProgramFault::Task(fault)),
+    }
+}
+
+/// Does a task, by this input and writer where these are needed.
+fn carry_out<
+    N: Net<Listener = TcpListener, Stream = TcpStream>
+        + Files<File = File>
+        + Threads
+        + Wait
+        + Clock
+        + Eprint
+        + Sync,
+    R: Read + Drop,
+    W: Write,
+    E: Write,
+>(
+    rt: &N,
+    alloc: Global,
+    task: &Task,
+    input: &mut Input<R>,
+    writer: &mut W,
+    errors: &mut E,
+) -> Result<(), ProgramFault> {
+    match task {
+        Task::Run => answer_lines(alloc, input, writer),
+        Task::Report { reg, day, strict } => {
+            report(alloc, reg, *day, *strict, input, writer, errors)
+        }
+        Task::Load {
+            reg,
+            day,
+            step,
+            strict,
+        } => load(alloc, reg, *day, *step, *strict, input, writer, errors),
+        Task::Summary { day, strict } => summary(rt, alloc, *day, *strict, input, writer, errors),
+        Task::Why { key, day, strict } => why(alloc, key, *day, *strict, input, writer, errors),
         Task::Serve {
             port,
             connections,
             turns,
             day,
         } => {
-            serve_desks(rt, alloc, port, connections, timing(turns, day))?;
+            let _standing_in = stand_in(rt, alloc);
+            serve_desks(rt, alloc, *port, *connections, timing(*turns, *day))?;
             Ok(())
         }
+        Task::Stay(service) => {
+            let _standing_in = stand_in(rt, alloc);
+            stay_desks(rt, alloc, service)
+        }
     }
-}
-
-/// What the words of the command line ask for.
-fn asked(rt: &HostRuntime) -> Result<Task, ProgramFault> {
-    let given = words(rt)?;
-    let words: Vec<&str> = given.iter().map(String::as_str).collect(rt.alloc())?;
-    task(rt.alloc(), &words).map_err(ProgramFault::Task)
 }
 
 /// The words of the command line, the program's name first.
@@ -102,12 +161,17 @@ fn timing(turns: u32, day: Option<Date>) -> Option<Timing> {
     Some(Timing { day, turns })
 }
 
-/// Says why the program did not do what it was asked for, and with which status it ends.
+/// Says why the program did not do what it was asked for, and with which status it ends: 1 and not 0 where help can't be
+/// written.
 fn ended_by(rt: &HostRuntime, fault: &ProgramFault) -> ExitCode {
     let (status, name) = outcome(fault);
-    let _ = match fault {
+    let said = match fault {
         ProgramFault::Task(TaskFault::Words(error)) => error.print(rt),
+        ProgramFault::BindFailed(fault) => eprintln!(rt; "casa: {name}\n{fault}"),
         _ => eprintln!(rt; "casa: {name}"),
     };
-    ExitCode::from(status)
+    match said {
+        Ok(()) => ExitCode::from(status),
+        Err(_) => ExitCode::from(status.max(1)),
+    }
 }

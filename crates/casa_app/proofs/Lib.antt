@@ -1,3 +1,10 @@
+pub mod Empty
+pub mod FirstBytes
+pub mod Noted
+pub mod Marked
+pub mod Words
+pub mod Told
+pub mod Remarked
 pub mod ListTimes
 pub mod LastReply
 pub mod Reported

@@ -1,4 +1,9 @@
 pub mod Outcomes
+pub mod Remarks
+pub mod Notes
+pub mod Told
+pub mod Inputs
+pub mod Remarked
 pub mod Listed
 pub mod Reports
 pub mod Summaries

@@ -14,7 +14,7 @@ use Rattle.casa_report.specs.Heading.{heading_line}
 use Rattle.casa_report.specs.LoadTable.{load_table}
 use Rattle.casa_session.specs.Played.{state_after}
 use Rattle.casa_app.specs.declared.fault.ProgramFault.{ProgramFault}
-use Rattle.casa_app.specs.declared.fault.ProgramFault.TheVariants.{Task, Session, Report, NoRegulation, NoFlight, BindFailed, Serve, NoMemory}
+use Rattle.casa_app.specs.declared.fault.ProgramFault.TheVariants.{Task, Session, Report, NoRegulation, NoFlight, BindFailed, Serve, FaultyLines, NoMemory}
 use Rattle.casa_app.specs.Reports.{IsBroken, IsUnlisted, IsWhole, SessionEnds, list_after}
 
 -- a regulation is open and has these periods
@@ -39,8 +39,8 @@ load_text reg day minutes periods list =
     heading_line reg day ++ load_table (steps periods list.rows minutes) (length list.rows) (length (slots periods))
 
 -- how it ends, of an input with r to s left: with that text for the regulation after all lines, and nothing else; with
--- nothing written where the session ended by a fault, where the regulation is not open after all lines, or where memory
--- was refused; after the first bytes of its text where a write failed
+-- nothing written where the session ended by a fault, where lines that have faults or are refused are not to be, where the
+-- regulation is not open after all lines, or where memory was refused; after the first bytes of its text where a write failed
 abbrev pub LoadEnds : {X : Type 0} → Text → Date → ℕ → Result X ProgramFault → (r s v w : Option (List ℕ)) → Type 0
 LoadEnds reg day minutes (Ok done) r s v w =
     IsOpen reg r (λ periods list. Appends v w (load_text reg day minutes periods list))
@@ -48,8 +48,9 @@ LoadEnds reg day minutes (Err (Session fault)) r s v w = SessionEnds fault r s �
 LoadEnds reg day minutes (Err NoRegulation) r s v w = IsUnlisted reg r × (w ≡ v)
 LoadEnds reg day minutes (Err (Report fault)) r s v w =
     IsOpen reg r (λ periods list. IsBroken fault v w (load_text reg day minutes periods list))
+LoadEnds reg day minutes (Err FaultyLines) r s v w = w ≡ v
 LoadEnds reg day minutes (Err NoMemory) r s v w = w ≡ v
 LoadEnds reg day minutes (Err (Task fault)) r s v w = ⊥
 LoadEnds reg day minutes (Err NoFlight) r s v w = ⊥
-LoadEnds reg day minutes (Err BindFailed) r s v w = ⊥
+LoadEnds reg day minutes (Err (BindFailed fault)) r s v w = ⊥
 LoadEnds reg day minutes (Err (Serve fault)) r s v w = ⊥

@@ -18,7 +18,7 @@ use Rattle.casa_session.specs.Lines.{lines_of, has_too_long}
 use Rattle.casa_session.specs.Played.{state_after}
 use Rattle.casa_session.specs.Transcript.{calls}
 use Rattle.casa_app.specs.declared.fault.ProgramFault.{ProgramFault}
-use Rattle.casa_app.specs.declared.fault.ProgramFault.TheVariants.{Task, Session, Report, NoRegulation, NoFlight, BindFailed, Serve, NoMemory}
+use Rattle.casa_app.specs.declared.fault.ProgramFault.TheVariants.{Task, Session, Report, NoRegulation, NoFlight, BindFailed, Serve, FaultyLines, NoMemory}
 use Rattle.casa_app.specs.Listed.{list_in}
 
 -- the list that the sequential allocator tells of a regulation after these calls; none where the regulation is not open
@@ -52,20 +52,21 @@ abbrev pub IsBroken : ReportFault → (v w : Option (List ℕ)) → Text → Typ
 IsBroken WriteFailed v w text = IsCutOff v w text
 IsBroken NoMemoryForHeading v w text = w ≡ v
 
--- the session over an input with r to s left ended by this fault; of its replies, which nobody keeps, nothing is said
+-- the session over an input with r to s left ended by this fault
 abbrev pub SessionEnds : SessionFault → (r s : Option (List ℕ)) → Type 0
-SessionEnds fault r s = (answered : List Call) × LoneEnds [] answered (Err fault) r s None None
+SessionEnds fault r s = (answered : List Call) × (replies : List ℕ) × LoneEnds [] answered (Err fault) r s (Some []) (Some replies)
 
 -- how a report ends, of an input with r to s left: with its text for the list after all lines, and nothing else; with
--- nothing written where the session ended by a fault, where the regulation is not open after all lines, or where memory
--- was refused; after the first bytes of its text where a write failed
+-- nothing written where the session ended by a fault, where lines that have faults or are refused are not to be, where the
+-- regulation is not open after all lines, or where memory was refused; after the first bytes of its text where a write failed
 abbrev pub ReportEnds : {X : Type 0} → Text → Date → Result X ProgramFault → (r s v w : Option (List ℕ)) → Type 0
 ReportEnds reg day (Ok done) r s v w = IsListed reg r (λ list. Appends v w (report_text reg day list))
 ReportEnds reg day (Err (Session fault)) r s v w = SessionEnds fault r s × (w ≡ v)
 ReportEnds reg day (Err NoRegulation) r s v w = IsUnlisted reg r × (w ≡ v)
 ReportEnds reg day (Err (Report fault)) r s v w = IsListed reg r (λ list. IsBroken fault v w (report_text reg day list))
+ReportEnds reg day (Err FaultyLines) r s v w = w ≡ v
 ReportEnds reg day (Err NoMemory) r s v w = w ≡ v
 ReportEnds reg day (Err (Task fault)) r s v w = ⊥
 ReportEnds reg day (Err NoFlight) r s v w = ⊥
-ReportEnds reg day (Err BindFailed) r s v w = ⊥
+ReportEnds reg day (Err (BindFailed fault)) r s v w = ⊥
 ReportEnds reg day (Err (Serve fault)) r s v w = ⊥

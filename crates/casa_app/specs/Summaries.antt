@@ -9,7 +9,7 @@ use Rattle.casa_inquiry.specs.Summary.{lists_told}
 use Rattle.casa_report.specs.SummaryTable.{day_line, summary_table}
 use Rattle.casa_session.specs.Played.{state_after}
 use Rattle.casa_app.specs.declared.fault.ProgramFault.{ProgramFault}
-use Rattle.casa_app.specs.declared.fault.ProgramFault.TheVariants.{Task, Session, Report, NoRegulation, NoFlight, BindFailed, Serve, NoMemory}
+use Rattle.casa_app.specs.declared.fault.ProgramFault.TheVariants.{Task, Session, Report, NoRegulation, NoFlight, BindFailed, Serve, FaultyLines, NoMemory}
 use Rattle.casa_app.specs.Reports.{IsBroken, IsWhole, SessionEnds}
 
 -- the list of each open regulation that the sequential allocator tells after these calls
@@ -27,15 +27,16 @@ abbrev pub summary_text : Date → List ListReply → Text
 summary_text day lists = day_line day ++ summary_table lists
 
 -- how a summary ends, of an input with r to s left: with its text for the lists after all lines, and nothing else; with
--- nothing written where the session ended by a fault, or where memory was refused; after the first bytes of its text where
--- a write failed
+-- nothing written where the session ended by a fault, where lines that have faults or are refused are not to be, or where
+-- memory was refused; after the first bytes of its text where a write failed
 abbrev pub SummaryEnds : {X : Type 0} → Date → Result X ProgramFault → (r s v w : Option (List ℕ)) → Type 0
 SummaryEnds day (Ok done) r s v w = AreListed r (λ lists. Appends v w (summary_text day lists))
 SummaryEnds day (Err (Session fault)) r s v w = SessionEnds fault r s × (w ≡ v)
 SummaryEnds day (Err (Report fault)) r s v w = AreListed r (λ lists. IsBroken fault v w (summary_text day lists))
+SummaryEnds day (Err FaultyLines) r s v w = w ≡ v
 SummaryEnds day (Err NoMemory) r s v w = w ≡ v
 SummaryEnds day (Err (Task fault)) r s v w = ⊥
 SummaryEnds day (Err NoRegulation) r s v w = ⊥
 SummaryEnds day (Err NoFlight) r s v w = ⊥
-SummaryEnds day (Err BindFailed) r s v w = ⊥
+SummaryEnds day (Err (BindFailed fault)) r s v w = ⊥
 SummaryEnds day (Err (Serve fault)) r s v w = ⊥

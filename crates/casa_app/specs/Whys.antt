@@ -9,7 +9,7 @@ use Rattle.casa_inquiry.specs.declared.why.Reasons.{Reasons}
 use Rattle.casa_report.specs.WhyText.{why_text}
 use Rattle.casa_session.specs.Played.{state_after}
 use Rattle.casa_app.specs.declared.fault.ProgramFault.{ProgramFault}
-use Rattle.casa_app.specs.declared.fault.ProgramFault.TheVariants.{Task, Session, Report, NoRegulation, NoFlight, BindFailed, Serve, NoMemory}
+use Rattle.casa_app.specs.declared.fault.ProgramFault.TheVariants.{Task, Session, Report, NoRegulation, NoFlight, BindFailed, Serve, FaultyLines, NoMemory}
 use Rattle.casa_app.specs.Reports.{IsBroken, IsWhole, SessionEnds}
 
 -- why the flight under a key stands as it does after these calls of the sequential allocator; none where there is no such
@@ -32,15 +32,16 @@ pub record IsAbsent (key : Text) (r : Option (List ℕ)) : Type 0 where
   pub untold : why_after answered key ≡ None
 
 -- how it ends, of an input with r to s left: with the text for the flight after all lines, and nothing else; with nothing
--- written where the session ended by a fault, where there is no such flight after all lines, or where memory was refused;
--- after the first bytes of the text where a write failed
+-- written where the session ended by a fault, where lines that have faults or are refused are not to be, where there is no
+-- such flight after all lines, or where memory was refused; after the first bytes of the text where a write failed
 abbrev pub WhyEnds : {X : Type 0} → Text → Date → Result X ProgramFault → (r s v w : Option (List ℕ)) → Type 0
 WhyEnds key day (Ok done) r s v w = IsExplained key r (λ why. Appends v w (why_text day why))
 WhyEnds key day (Err (Session fault)) r s v w = SessionEnds fault r s × (w ≡ v)
 WhyEnds key day (Err NoFlight) r s v w = IsAbsent key r × (w ≡ v)
 WhyEnds key day (Err (Report fault)) r s v w = IsExplained key r (λ why. IsBroken fault v w (why_text day why))
+WhyEnds key day (Err FaultyLines) r s v w = w ≡ v
 WhyEnds key day (Err NoMemory) r s v w = w ≡ v
 WhyEnds key day (Err (Task fault)) r s v w = ⊥
 WhyEnds key day (Err NoRegulation) r s v w = ⊥
-WhyEnds key day (Err BindFailed) r s v w = ⊥
+WhyEnds key day (Err (BindFailed fault)) r s v w = ⊥
 WhyEnds key day (Err (Serve fault)) r s v w = ⊥

@@ -2,9 +2,12 @@
 
 ghost use Rattle.std.specs.Prelude.{◌≡◌, IfErr, IfOk};
 ghost use Rattle.casa_inquiry.specs.Summary.{total_delay};
+ghost use Rattle.casa_app.specs.Inputs.{is_marked};
+ghost use Rattle.casa_app.specs.Remarked.{Says};
 ghost use Rattle.casa_app.specs.Summaries.{SummaryEnds, lists_after};
 
 use crate::fault::ProgramFault;
+use crate::input::Input;
 use crate::reports::{answer_lines, listed};
 use casa_engine::{audit_shared, push_shared};
 use casa_flight::ListReply;
@@ -15,23 +18,30 @@ use std::alloc::{AllocError, Global};
 use std::io::{Read, Write};
 use std::thread::Threads;
 
-/// Answers the command lines of the reader as a session does, without its replies, and then writes what each open
-/// regulation costs as a table under a heading with the day, and what all of them cost together.
+/// Answers the command lines of the input as a session does, without its replies, says at `errors` which lines had
+/// faults or were refused, and then writes what each open regulation costs as a table under a heading with the day, and
+/// what all of them cost together.
 ///
-/// The session's fault comes first, and nothing is written at it; then a fault of the report, with the beginning of it
-/// written at `WriteFailed` and nothing at its `NoMemory`. `NoMemory` where there is none for the desk, for the lists or
-/// for the sum of the delays, and then nothing is written.
-pub fn summary<T: Threads + Sync, R: Read, W: Write>(
+/// The session's fault comes first, then `FaultyLines` where there were such lines and `strict` is true, and nothing is
+/// written at either; then a fault of the report, with the beginning of it written at `WriteFailed` and nothing at its
+/// `NoMemory`. `NoMemory` where there is none for the desk, for the lists or for the sum of the delays, and then nothing
+/// is written. Where `errors` fails, nothing else changes.
+pub fn summary<T: Threads + Sync, R: Read + Drop, W: Write, E: Write>(
     rt: &T,
     alloc: Global,
     day: Date,
-    reader: &mut R,
+    strict: bool,
+    input: &mut Input<R>,
     writer: &mut W,
+    errors: &mut E,
 ) -> Result<(), ProgramFault>
-    ensures { SummaryEnds day result (R.remaining reader.old) (R.remaining reader.new)
-        (W.contents writer.old) (W.contents writer.new) }
+    ensures ends { SummaryEnds day result (R.remaining input.old.source)
+        (R.remaining input.new.source) (W.contents writer.old) (W.contents writer.new) }
+    ensures says { Says strict (is_marked input.new.first.items) result
+        (R.remaining input.old.source) (R.remaining input.new.source)
+        (E.contents errors.old) (E.contents errors.new) }
 {
-    let mut lone = answer_lines(alloc, reader)?;
+    let mut lone = answer_lines(alloc, strict, input, errors)?;
     let delay = audited(rt, alloc, &lone)?;
     let lists = all_listed(alloc, &mut lone)?;
     day_heading(alloc, day, writer)?;

@@ -7,9 +7,12 @@ ghost use Rattle.casa_flight.specs.Listing.{delay_of, governing_list};
 ghost use Rattle.casa_flight.specs.Entry.{offer, offers, situation};
 ghost use Rattle.casa_inquiry.specs.Why.{holdings, why};
 ghost use Rattle.casa_session.specs.Played.{state_after};
+ghost use Rattle.casa_app.specs.Inputs.{is_marked};
+ghost use Rattle.casa_app.specs.Remarked.{Says};
 ghost use Rattle.casa_app.specs.Whys.{WhyEnds, why_after};
 
 use crate::fault::ProgramFault;
+use crate::input::Input;
 use crate::reports::answer_lines;
 use casa_flight::{FlightReply, Key, Offer, Plan, Regulation, Row, SharedSlice};
 use casa_inquiry::{Holding, Reasons, delay_in, holdings, offer, rule_of};
@@ -20,24 +23,31 @@ use jiff::civil::Date;
 use std::alloc::{AllocError, Global};
 use std::io::{Read, Write};
 
-/// Answers the command lines of the reader as a session does, without its replies, and then writes why the flight with
-/// this key stands as it does: what it is shown with, the rule by which a regulation governs it, what each regulation to
-/// which it is subject would offer it, and who holds the slots that it waits for.
+/// Answers the command lines of the input as a session does, without its replies, says at `errors` which lines had
+/// faults or were refused, and then writes why the flight with this key stands as it does: what it is shown with, the
+/// rule by which a regulation governs it, what each regulation to which it is subject would offer it, and who holds the
+/// slots that it waits for.
 ///
-/// The session's fault comes first, then `NoFlight` where there is no such flight after all lines, and nothing is written
-/// at either; then a fault of the report, with the beginning of the text written at `WriteFailed` and nothing at its
-/// `NoMemory`. `NoMemory` where there is none for the desk or for the answer, and then nothing is written.
-pub fn why<R: Read, W: Write>(
+/// The session's fault comes first, then `FaultyLines` where there were such lines and `strict` is true, then `NoFlight`
+/// where there is no such flight after all lines, and nothing is written at any of them; then a fault of the report,
+/// with the beginning of the text written at `WriteFailed` and nothing at its `NoMemory`. `NoMemory` where there is none
+/// for the desk or for the answer, and then nothing is written. Where `errors` fails, nothing else changes.
+pub fn why<R: Read + Drop, W: Write, E: Write>(
     alloc: Global,
     key: &Key,
     day: Date,
-    reader: &mut R,
+    strict: bool,
+    input: &mut Input<R>,
     writer: &mut W,
+    errors: &mut E,
 ) -> Result<(), ProgramFault>
-    ensures { WhyEnds key.now day result (R.remaining reader.old) (R.remaining reader.new)
-        (W.contents writer.old) (W.contents writer.new) }
+    ensures ends { WhyEnds key.now day result (R.remaining input.old.source)
+        (R.remaining input.new.source) (W.contents writer.old) (W.contents writer.new) }
+    ensures says { Says strict (is_marked input.new.first.items) result
+        (R.remaining input.old.source) (R.remaining input.new.source)
+        (E.contents errors.old) (E.contents errors.new) }
 {
-    let lone = answer_lines(alloc, reader)?;
+    let lone = answer_lines(alloc, strict, input, errors)?;
     let reasons = explained(alloc, &lone, key)?;
     why_text(alloc, day, &reasons, writer)?;
     Ok(())

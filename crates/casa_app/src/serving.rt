@@ -5,7 +5,10 @@ ghost use Rattle.std.specs.Arc.{arc_value};
 ghost use Rattle.casa_front.specs.Openings.{history_name};
 ghost use Rattle.casa_engine.specs.Ledgers.{IsBlankOf};
 
-use crate::fault::ProgramFault;
+use crate::door::{Entrance, OpenDoor};
+use crate::fault::{BindFault, ProgramFault};
+use crate::log::Log;
+use crate::streams::Listener;
 use casa_engine::{Blank, Engine, EngineName, blank};
 use casa_plan::Recalling;
 use casa_server::{DayClock, ServeFault, Served, moment_at, serve, serve_with_timer};
@@ -15,8 +18,10 @@ use casa_view::Store;
 use jiff::Timestamp;
 use jiff::civil::Date;
 use std::alloc::Global;
+use std::io::Eprint;
 use std::marker::Brand;
 use std::net::{Ipv4Addr, Net, TcpListener, TcpStream};
+use std::sync::atomic::AtomicBool;
 use std::sync::{Arc, Wait};
 use std::thread;
 use std::thread::Threads;
@@ -60,10 +65,13 @@ impl<'a, R: Clock> DayClock for EachSecond<'a, R> {
 /// Listens on this port of 127.0.0.1, accepts that many connections, and answers the lines of each by a desk of its own,
 /// while the timer moves the clock. Ends when the sessions and the timer have ended, and says what became of them.
 ///
+/// What keeps it from accepting a connection is said on standard error, and tried again until it passes. Once that many were
+/// accepted, it listens no more.
+///
 /// `BindFailed` where the port cannot be had, as where another program listens on it; then `NoMemory` where there is none
 /// for the board; then the server's fault. A fault of the timer ends the timer alone.
 pub fn serve_desks<
-    R: Net<Listener = TcpListener, Stream = TcpStream> + Threads + Wait + Clock + Sync,
+    R: Net<Listener = TcpListener, Stream = TcpStream> + Threads + Wait + Clock + Eprint + Sync,
 >(
     rt: &R,
     alloc: Global,
@@ -73,25 +81,41 @@ pub fn serve_desks<
 ) -> Result<Served, ProgramFault>
     ensures { IfOk result (λ served. served.sessions ≡ connections) }
 {
-    let Ok(listener) = TcpListener::bind(rt, (Ipv4Addr::LOCALHOST, port)) else {
-        return Err(ProgramFault::BindFailed);
+    let listener = match TcpListener::bind(rt, (Ipv4Addr::LOCALHOST, port)) {
+        Ok(listener) => listener,
+        Err(error) => {
+            let port = Some(port);
+            return Err(ProgramFault::BindFailed(BindFault { port, error }));
+        }
     };
     let Ok(shelf) = Arc::new(alloc, boxcar::Vec::new(alloc)?) else {
         return Err(ProgramFault::NoMemory);
     };
-    serve_on::<Brand, Brand, R>(rt, alloc, &listener, &shelf, blank(), connections, timing)
+    let Ok(listener) = Arc::new(alloc, Listener::Tcp(listener)) else {
+        return Err(ProgramFault::NoMemory);
+    };
+    let (log, is_put_off) = (Log::new(rt, true), AtomicBool::new(false));
+    let door = OpenDoor(Entrance {
+        rt,
+        log: &log,
+        listener,
+        is_put_off: &is_put_off,
+        seat: 0,
+        idle: None,
+    });
+    serve_on::<Brand, Brand, R>(rt, alloc, door, &shelf, blank(), connections, timing)
 }
 
-/// Serves the connections of this listener on a new engine, whose ledger and history are these, and whose versions have
+/// Serves the connections of this door on a new engine, whose ledger and history are these, and whose versions have
 /// their positions on this shelf.
 fn serve_on<
     V: Shelving + Send + Sync,
     L: EngineName + Send + Sync,
-    R: Net<Listener = TcpListener, Stream = TcpStream> + Threads + Wait + Clock + Sync,
+    R: Net<Listener = TcpListener, Stream = TcpStream> + Threads + Wait + Clock + Eprint + Sync,
 >(
     rt: &R,
     alloc: Global,
-    listener: &TcpListener,
+    door: OpenDoor<R>,
     shelf: &Arc<Seals>,
     blank: Blank,
     connections: u32,
@@ -105,19 +129,19 @@ fn serve_on<
     let shelf: Shelf<V, R> = Shelf::new(shelf, rt);
     let gate = Recalling::new(alloc);
     let engine = Engine::<Shelf<V, R>, L, Recalling>::new(alloc, shelf, blank, ENGINE, gate)?;
-    Ok(serve_by(rt, alloc, listener, &engine, connections, timing)?)
+    Ok(serve_by(rt, alloc, door, &engine, connections, timing)?)
 }
 
-/// Serves the connections of this listener by the desks of this engine, while the timer moves its clock, if it is to be
+/// Serves the connections of this door by the desks of this engine, while the timer moves its clock, if it is to be
 /// moved.
 fn serve_by<
     K: Store<Version: Send + Sync> + Send,
     L: EngineName + Send + Sync,
-    R: Threads + Wait + Clock + Sync,
+    R: Threads + Wait + Clock + Eprint + Sync,
 >(
     rt: &R,
     alloc: Global,
-    listener: &TcpListener,
+    door: OpenDoor<R>,
     engine: &Engine<K, L, Recalling>,
     connections: u32,
     timing: Option<Timing>,
@@ -125,10 +149,10 @@ fn serve_by<
     ensures { IfOk result (λ served. served.sessions ≡ connections) }
 {
     let Some(Timing { day, turns }) = timing else {
-        return serve(rt, alloc, listener, engine, connections);
+        return serve(rt, alloc, door, engine, connections);
     };
     let mut clock = EachSecond { rt, day };
     // What the timer could not do is nobody's loss but the clock's, so the server goes on.
-    let (served, _) = serve_with_timer(rt, alloc, listener, engine, connections, &mut clock, turns);
+    let (served, _) = serve_with_timer(rt, alloc, door, engine, connections, &mut clock, turns);
     served
 }

@@ -1,6 +1,8 @@
 use Rattle.std.proofs.KnownBytes.{Appends-trans}
 use Rattle.casa_report.specs.Heading.{heading_line}
 use Rattle.casa_report.specs.Table.{table}
+use Rattle.casa_app.specs.declared.fault.ProgramFault.TheVariants.{Report}
+use Rattle.casa_app.proofs.Remarked.{says_at, says_unlisted}
 use Rattle.casa_app.proofs.Reported.{broken_first, broken_second, ends_broken, ends_unlisted}
 use Rattle.casa_app.proofs.reports.report.Goals as goal
 
@@ -11,7 +13,7 @@ returns-in_err-list-clause-ends g c =
 pub returns-in_err-heading-clause-ends : goal.returns-in_err-heading-clause-ends
 returns-in_err-heading-clause-ends g c =
     let fault = c.in_err-heading.field-0.0 in
-    ends_broken c.args.reg.now c.args.day c.from_residual-in_err-heading.result fault _ (g.R.Read.remaining c.answer_lines.new.reader) _ _ c.from_residual-in_err-heading.ensures.1 record {
+    ends_broken c.args.reg.now c.args.day c.from_residual-in_err-heading.result fault _ (g.R.Read.remaining c.answer_lines.new.input.source) _ _ c.from_residual-in_err-heading.ensures.1 record {
       answered = c.in_ok-lone.lone;
       whole = c.in_ok-lone.ensures.whole;
       list = c.in_ok-list.list;
@@ -22,7 +24,7 @@ returns-in_err-heading-clause-ends g c =
 pub returns-in_err-list_table-clause-ends : goal.returns-in_err-list_table-clause-ends
 returns-in_err-list_table-clause-ends g c =
     let fault = c.in_err-list_table.field-0.0 in
-    ends_broken c.args.reg.now c.args.day c.from_residual-in_err-list_table.result fault _ (g.R.Read.remaining c.answer_lines.new.reader) _ _ c.from_residual-in_err-list_table.ensures.1 record {
+    ends_broken c.args.reg.now c.args.day c.from_residual-in_err-list_table.result fault _ (g.R.Read.remaining c.answer_lines.new.input.source) _ _ c.from_residual-in_err-list_table.ensures.1 record {
       answered = c.in_ok-lone.lone;
       whole = c.in_ok-lone.ensures.whole;
       list = c.in_ok-list.list;
@@ -39,3 +41,22 @@ returns-clause-ends g c =
       told = c.in_ok-list.ensures.told;
       is_so = Appends-trans _ (g.W.Write.contents c.heading.new.writer) (g.W.Write.contents c.list_table.new.writer) (heading_line c.args.reg.now c.args.day) (table c.in_ok-list.list.rows) c.in_ok-heading.ensures.ok c.in_ok-list_table.ensures.ok;
     }
+
+pub returns-in_err-lone-clause-says : goal.returns-in_err-lone-clause-says
+returns-in_err-lone-clause-says g c =
+    says_at c.args.strict _ c.from_residual.result c.in_err-lone.field-0.0 _ _ _ _ c.from_residual.ensures.1 c.in_err-lone.ensures.says
+
+pub returns-in_err-list-clause-says : goal.returns-in_err-list-clause-says
+returns-in_err-list-clause-says g c =
+    says_unlisted _ c.args.strict _ c.from_residual-in_err-list.result c.in_err-list.field-0.0 _ _ _ _ c.from_residual-in_err-list.ensures.1 c.in_err-list.ensures.untold c.in_ok-lone.ensures.says
+
+pub returns-in_err-heading-clause-says : goal.returns-in_err-heading-clause-says
+returns-in_err-heading-clause-says g c =
+    says_at c.args.strict _ c.from_residual-in_err-heading.result (Report c.in_err-heading.field-0.0) _ _ _ _ c.from_residual-in_err-heading.ensures.1 c.in_ok-lone.ensures.says
+
+pub returns-in_err-list_table-clause-says : goal.returns-in_err-list_table-clause-says
+returns-in_err-list_table-clause-says g c =
+    says_at c.args.strict _ c.from_residual-in_err-list_table.result (Report c.in_err-list_table.field-0.0) _ _ _ _ c.from_residual-in_err-list_table.ensures.1 c.in_ok-lone.ensures.says
+
+pub returns-clause-says : goal.returns-clause-says
+returns-clause-says g c = c.in_ok-lone.ensures.says
