@@ -2,8 +2,11 @@ pub mod Hands
 pub mod Passes
 pub mod Workers
 pub mod Happening
+pub mod Turns
 pub mod Seats
+pub mod Had
 pub mod Past
 pub mod One
 pub mod Causes
 pub mod OneThread
+pub mod Boards

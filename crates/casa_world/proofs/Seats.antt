@@ -1,4 +1,4 @@
-use Rattle.std.proofs.Common.{◌≡◌, ◌≢◌, ◌⊎◌, ℕ, ◌<◌, ◌≤◌, Some, None, Option, List, take, drop, [], ◌∷◌, ◌++◌, length, set, get_or, sym, ap, subst, ◌∙◌, refl, inl, inr, arith, get_or-set_same, get_or-set_other, zero, suc}
+use Rattle.std.proofs.Common.{◌≡◌, ◌≢◌, ◌⊎◌, ℕ, ◌<◌, ◌≤◌, Some, None, List, take, drop, [], ◌∷◌, ◌++◌, length, set, get_or, sym, ap, subst, ◌∙◌, refl, inl, inr, arith, get_or-set_same, get_or-set_other, zero, suc}
 use Rattle.std.specs.Prelude.{slice_get}
 use Rattle.std.proofs.Math.ListN.{length-set}
 use Rattle.std.proofs.Math.Seq.{take-append_seam}
@@ -12,7 +12,6 @@ use Rattle.casa_world.specs.declared.desk.Held.TheVariants.{Nothing, View, Answe
 use Rattle.casa_world.specs.declared.desk.Desk.{Desk}
 use Rattle.casa_world.specs.Scenes.{Hand, nothing, view, answer, Worker, Scene, opening_scene}
 use Rattle.casa_world.specs.Desks.{Holds, IsWorker, IsScene, AreSeated, IsForHeld, IsOfHeld, AreFresh}
-use Rattle.casa_world.specs.Runs.{outcome_of, outcome_at}
 
 -- what stands in a list of which one element was changed
 pub at_set : {X : Type 0} → (xs : List X) (i : ℕ) (y : X) (k : ℕ) (x : X) → slice_get (set xs i y) k ≡ Some x
@@ -154,23 +153,10 @@ seated Known IsView IsAnswer IsFor IsOf es ds m seen of scene w d at =
     )
 
 -- what is not there is beyond the end
-none_past : {X : Type 0} → (xs : List X) (k : ℕ) → slice_get xs k ≡ None → length xs ≤ k
+pub none_past : {X : Type 0} → (xs : List X) (k : ℕ) → slice_get xs k ≡ None → length xs ≤ k
 none_past [] k none = omega arith
 none_past (x ∷ xs) zero none = absurd (cc)
 none_past (x ∷ xs) (suc k) none = let rest : length xs ≤ k = none_past xs k none in omega (arith, rest)
-
--- desks that stand for a scene were told what its workers were
-pub scene_outcome : {C R V P : Type 0} → (Known : Pass C R → Type 0)
-    (IsView : C → List (Entry C R) → V → Type 0) (IsAnswer : C → List (Entry C R) → P → Type 0)
-    (es : List (Entry C R)) (ds : List (Desk C R V P)) (m : Scene C R) → IsScene Known IsView IsAnswer es ds m
-    → (w : ℕ) → outcome_at ds w ≡ (m.workers w).outcome
-scene_outcome {C} {R} {V} {P} Known IsView IsAnswer es ds m scene w =
-    let told : (o : Option (Desk C R V P)) → slice_get ds w ≡ o → outcome_of o ≡ (m.workers w).outcome =
-    elim [
-      | None ↦ λ is. sym (ap (λ (x : Worker C R). x.outcome) (scene.2 w (none_past ds w is)))
-      | Some d ↦ λ is. (scene.1 w d is).2.1
-    ] in
-    told (slice_get ds w) refl
 
 -- a slice that is written back is the whole list
 pub written_back : {X : Type 0} → (n : ℕ) (xs ys : List X) → length xs ≡ n → take n (xs ++ drop (length xs) ys) ≡ xs

@@ -1,5 +1,5 @@
 -- inner contracts: a room with its desks, and the scene for which it stands
-use Rattle.std.specs.Prelude.{List}
+use Rattle.std.specs.Prelude.{◌≡◌, List, length}
 use Rattle.casa_history.specs.declared.entry.Entry.{Entry}
 use Rattle.casa_commit.specs.declared.world.World.{Ghosts as WorldOf}
 use Rattle.casa_commit.specs.declared.prepared.Prepared.{Prepared}
@@ -9,7 +9,8 @@ use Rattle.casa_commit.specs.Prepared.{call_of, view_of, reply_of}
 use Rattle.casa_commit.specs.Rooms.{Admits, world_of, entries_of}
 use Rattle.casa_world.specs.declared.desk.Desk.{Desk}
 use Rattle.casa_world.specs.declared.stamped.Stamped.{Ghosts as StampedOf}
-use Rattle.casa_world.specs.Scenes.{Worker, Scene}
+use Rattle.casa_world.specs.Scenes.{Worker, Scene, opening_scene, Leads, most_workers}
+use Rattle.casa_world.specs.declared.event.Event.{Event}
 use Rattle.casa_world.specs.Desks.{IsViewTaken, IsReplyOnView, IsWorker, IsScene, AreSeated}
 
 -- the reply to a call after a history
@@ -43,3 +44,10 @@ IsRoomScene world stamped room desks m =
 abbrev pub AreOfRoom : {W C V D R : Type 0} (world : WorldOf W C V D R) → Room W C V D R world
     → List (Desk C R V (Prepared W C V D R world)) → Type 0
 AreOfRoom world room desks = AreSeated (Admits room) world.is_for (λ p. world.is_of (view_of p) (world_of room)) desks
+
+-- these events led to the scene for which the room with its desks stands
+abbrev pub HasHad : {W C V D R : Type 0} (world : WorldOf W C V D R) → StampedOf W C V D R → List (Event C) → Room W C V D R world
+    → List (Desk C R V (Prepared W C V D R world)) → Type 0
+HasHad world stamped events room desks =
+    (length desks ≡ most_workers)
+    × ((n : Scene _ _) × Leads (reply_after world) stamped.is_unmoved events opening_scene n × IsRoomScene world stamped room desks n)

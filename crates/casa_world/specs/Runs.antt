@@ -1,30 +1,34 @@
--- to believe: what a run leaves: history, world, outcomes
+-- to believe: what is seen of a run: its events, and what they left
 use Rattle.std.specs.Prelude.{ℕ, List, Option, None, Some, slice_get}
 use Rattle.casa_history.specs.declared.entry.Entry.{Entry}
-use Rattle.casa_commit.specs.declared.world.World.{Ghosts as WorldOf}
-use Rattle.casa_commit.specs.Rooms.{world_of, entries_of}
-use Rattle.casa_world.specs.declared.desk.Desk.{Desk}
+use Rattle.casa_world.specs.declared.event.Event.{Event}
 use Rattle.casa_world.specs.declared.event.Outcome.{Outcome}
-use Rattle.casa_world.specs.declared.run.Run.{Run}
 
--- the outcome of the last commit at this desk, if there is a desk
-abbrev pub outcome_of : {C R V P : Type 0} → Option (Desk C R V P) → Option Outcome
-outcome_of None = None
-outcome_of (Some d) = d.outcome
+-- a run: the events that it has had, and what they left: the history, the world, and the outcome of each worker's last commit
+pub record Played (W C R : Type 0) : Type 0 where
+  pub events : List (Event C)
+  pub history : List (Entry C R)
+  pub world : W
+  pub outcomes : List (Option Outcome)
 
--- the outcome of the last commit at a desk, if there is one
-abbrev pub outcome_at : {C R V P : Type 0} → List (Desk C R V P) → ℕ → Option Outcome
-outcome_at {C} {R} {V} {P} ds w = outcome_of (slice_get ds w)
+-- the outcome that was found, if there is one
+abbrev pub outcome_found : Option (Option Outcome) → Option Outcome
+outcome_found None = None
+outcome_found (Some outcome) = outcome
 
-module _ {W C V D R : Type 0} {world : WorldOf W C V D R} where
+module _ {W C R : Type 0} where
+  -- the events that a run has had, the first of them first
+  abbrev pub run_events : Played W C R → List (Event C)
+  run_events run = run.events
+
   -- the history of a run
-  abbrev pub run_history : Run W C V D R world → List (Entry C R)
-  run_history run = entries_of run.room
+  abbrev pub run_history : Played W C R → List (Entry C R)
+  run_history run = run.history
 
   -- the world as it is left
-  abbrev pub run_world : Run W C V D R world → W
-  run_world run = world_of run.room
+  abbrev pub run_world : Played W C R → W
+  run_world run = run.world
 
   -- the outcome of each worker's last commit
-  abbrev pub run_outcomes : Run W C V D R world → ℕ → Option Outcome
-  run_outcomes run = outcome_at run.desks.items
+  abbrev pub run_outcomes : Played W C R → ℕ → Option Outcome
+  run_outcomes run w = outcome_found (slice_get run.outcomes w)

@@ -2,7 +2,7 @@
 
 ghost use Rattle.std.specs.Prelude.{◌≡◌, ◌≢◌, ◌+◌, ◌∷◌, [], ◌++◌, ◌⊎◌, ℕ, length, vec_len, IfOk, OnOk, Some};
 ghost use Rattle.casa_commit.specs.Rooms.{world_of, history_of, entries_of, open_desks as opened};
-ghost use Rattle.casa_world.specs.Scenes.{Scene, opening_scene, Happens, Leads, most_workers};
+ghost use Rattle.casa_world.specs.Scenes.{Scene, opening_scene, Happens, most_workers};
 ghost use Rattle.casa_world.specs.Rooms.{reply_after, IsRoomScene, AreOfRoom};
 
 use crate::desk::{Desk, Held};
@@ -66,26 +66,5 @@ where
         return Ok(());
     }
     act(alloc, room, &mut desks[at], event)?;
-    Ok(())
-}
-
-/// What these events do, one after the other.
-pub(crate) fn happen_all<W: Stamped>(
-    alloc: Global,
-    room: &mut Room<W>,
-    desks: &mut [Desk<W::Call, W::Reply, W::View, Prepared<W>>],
-    events: &[Event<W::Call>],
-) -> Result<(), AllocError>
-where
-    Direct: Gate<W>,
-    requires scene { IsRoomScene W.World W.Stamped.own room.old desks.old opening_scene }
-    requires all { length desks.old ≡ most_workers }
-    ensures leads { OnOk result ((n : Scene W.Call W.Reply)
-        × Leads (reply_after W.World) W.is_unmoved events.now opening_scene n
-        × IsRoomScene W.World W.Stamped.own room.new desks.new n) }
-{
-    for event in events {
-        happen(alloc, room, desks, event)?;
-    }
     Ok(())
 }

@@ -13,6 +13,9 @@ mod stamped;
 mod worker;
 
 pub use event::{Event, Outcome};
-pub use laws::{events_lead_to_one_scene, refused_commits_have_causes, runs_are_of_one_thread};
+pub use laws::{
+    events_lead_to_one_scene, refused_commits_have_causes, runs_are_of_one_thread,
+    turns_are_accepted,
+};
 pub use playing::play;
 pub use run::Run;

@@ -1,15 +1,15 @@
 //! Playing a list of events on a board.
 
-ghost use Rattle.std.specs.Prelude.{◌≡◌, IfOk};
+ghost use Rattle.std.specs.Prelude.{◌≡◌, [], ◌∷◌, ◌++◌, IfOk};
 ghost use Rattle.casa_history.specs.Entries.{entries};
 ghost use Rattle.casa_footprint.specs.Stamps.{state_after};
 ghost use Rattle.casa_plan.specs.Rooms.{IsSequential, IsBoardAfter, IsServedAs};
 ghost use Rattle.casa_world.specs.Scenes.{IsRun};
 ghost use Rattle.casa_world.specs.Board.{sequential_reply, HasSameStamps};
-ghost use Rattle.casa_world.specs.Runs.{run_history, run_world, run_outcomes};
+ghost use Rattle.casa_world.specs.Runs.{run_events, run_history, run_world, run_outcomes};
 
 use crate::event::{Event, Outcome};
-use crate::run::{Run, play_on};
+use crate::run::{Run, begin, go_on};
 use casa_commit::World;
 use casa_flight::{Assigned, Call, RegId, Reply};
 use casa_history::History;
@@ -18,6 +18,32 @@ use casa_view::{Board, Store};
 use std::alloc::{AllocError, Global};
 
 impl<K: Store> Run<Board<K>> {
+    /// A run of no event, on the empty board over this store. `AllocError` where there is no memory for it.
+    pub fn open(alloc: Global, store: K) -> Result<Run<Board<K>>, AllocError>
+        ensures events { IfOk result (λ run. run_events run ≡ []) }
+        ensures run { IfOk result (λ run. IsRun sequential_reply HasSameStamps (run_events run)
+            (run_history run) (run_outcomes run)) }
+        ensures stands { IfOk result (λ run. IsBoardAfter (run_history run)
+            (⟦<Board<K> as World>⟧.state (run_world run))) }
+    {
+        let board = Board::new(alloc, store)?;
+        let begun = begin(alloc, board)?;
+        Ok(begun)
+    }
+
+    /// The run with one event more. Workers are numbered from 0 to 1,023; an event of another worker, or out of its place,
+    /// changes nothing. `AllocError` where there is no memory for it, and then the run is given up.
+    pub fn next(self, alloc: Global, event: &Event<Call>) -> Result<Run<Board<K>>, AllocError>
+        ensures events { IfOk result (λ run. run_events run ≡ run_events self ++ event.now ∷ []) }
+        ensures run { IfOk result (λ run. IsRun sequential_reply HasSameStamps (run_events run)
+            (run_history run) (run_outcomes run)) }
+        ensures stands { IfOk result (λ run. IsBoardAfter (run_history run)
+            (⟦<Board<K> as World>⟧.state (run_world run))) }
+    {
+        let next = go_on(alloc, self, event)?;
+        Ok(next)
+    }
+
     /// The history: one of a single thread.
     pub fn history(&self) -> &History<Call, Reply>
         ensures same { entries result.now ≡ run_history self.now }
@@ -70,7 +96,9 @@ pub fn play<K: Store>(
     ensures stands { IfOk result (λ run. IsBoardAfter (run_history run)
         (⟦<Board<K> as World>⟧.state (run_world run))) }
 {
-    let board = Board::new(alloc, store)?;
-    let played = play_on(alloc, board, events)?;
-    Ok(played)
+    let mut run = Run::open(alloc, store)?;
+    for event in events {
+        run = run.next(alloc, event)?;
+    }
+    Ok(run)
 }

@@ -5,7 +5,7 @@ ghost use Rattle.casa_commit.specs.Legal.{replay};
 use casa_commit::World;
 
 /// A world whose marks follow the stamps of its items.
-pub(crate) trait Stamped: World {
+pub trait Stamped: World {
     /// What the call reads after the first history has the same stamps after the second.
     ghost is_unmoved: { List (Entry Self.Call Self.Reply) → Self.Call → List (Entry Self.Call Self.Reply) → Type 0 };
 

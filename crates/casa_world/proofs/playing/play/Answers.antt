@@ -1,40 +1,32 @@
-use Rattle.std.proofs.Common.{◌≡◌, ℕ, List, Option, subst}
+use Rattle.std.proofs.Common.{◌≡◌, ◌<◌, ◌≤◌, ◌+◌, List, [], ◌∷◌, ◌++◌, take, length, sym, ap, subst, ◌∙◌, rules}
+use Rattle.std.proofs.lemmas.List.{take_more, take_all}
 use Rattle.casa_flight.specs.declared.call.Call.{Call}
-use Rattle.casa_flight.specs.declared.reply.Reply.{Reply}
-use Rattle.casa_flight.specs.Replies.{reply}
-use Rattle.casa_history.specs.declared.entry.Entry.{Entry}
-use Rattle.casa_commit.specs.Legal.{replay}
-use Rattle.casa_commit.proofs.Replays.{good_state}
-use Rattle.casa_view.specs.BoardState.{IsGoodBoard, opening, after}
-use Rattle.casa_view.specs.GoodBoard.{opening_is_good, after_is_good}
-use Rattle.casa_plan.proofs.Replayed.{state_replayed, stands}
 use Rattle.casa_world.specs.declared.event.Event.{Event}
-use Rattle.casa_world.specs.declared.event.Outcome.{Outcome}
 use Rattle.casa_world.specs.Scenes.{IsRun}
 use Rattle.casa_world.specs.Board.{sequential_reply, HasSameStamps}
-use Rattle.casa_world.specs.Runs.{run_history, run_outcomes}
+use Rattle.casa_world.specs.Runs.{run_events, run_history, run_outcomes}
 use Rattle.casa_world.proofs.playing.play.Goals as goal
 
-abbrev Replying : Type 0
-Replying = List (Entry Call Reply) → Call → Reply
-
--- the reply of a board after a history is that of the sequential allocator
-same_reply : (λ before call. reply (replay after opening before).state call) ≡ sequential_reply
-same_reply i before call = reply (state_replayed before i) call
-
--- a run, with the reply of the sequential allocator
-ran : (events : List (Event Call)) (history : List (Entry Call Reply)) (outcomes : ℕ → Option Outcome)
-    → IsRun (λ before call. reply (replay after opening before).state call) HasSameStamps events history outcomes
-    → IsRun sequential_reply HasSameStamps events history outcomes
-ran events history outcomes is = subst (λ (r : Replying). IsRun r HasSameStamps events history outcomes) same_reply is
+pub loop-event-preserved : goal.loop-event-preserved
+loop-event-preserved g c =
+    let i = c.loop-event.event-index in
+    let es = c.args.events.now in
+    let e = c.event-item.result in
+    let within : i < length es = search rules in
+    let more : take (i + 1) es ≡ take i es ++ e ∷ [] =
+    take_more es i e within ∙ ap (λ x. take i es ++ x ∷ []) (sym c.event-item.is) in
+    let next = c.in_ok-run-2.ensures in
+    record {
+      events = next.events ∙ ap (λ xs. xs ++ e ∷ []) c.loop-event.invariant.events ∙ sym more;
+      run = next.run;
+      stands = next.stands;
+    }
 
 pub returns-clause-run : goal.returns-clause-run
 returns-clause-run g c =
-    let run = c.in_ok-played.played in
-    ran c.args.events.now (run_history run) (run_outcomes run) c.in_ok-played.ensures.run
-
-pub returns-clause-stands : goal.returns-clause-stands
-returns-clause-stands g c =
-    let history = run_history c.in_ok-played.played in
-    let is = c.in_ok-played.ensures.state in
-    stands history _ is (good_state IsGoodBoard after after_is_good opening opening_is_good history _ is)
+    let run = c.loop-event.run in
+    let inv = c.loop-event.invariant in
+    let es = c.args.events.now in
+    let past : length es ≤ c.loop-event.event-index = search rules in
+    let all : run_events run ≡ es = inv.events ∙ take_all c.loop-event.event-index es past in
+    subst (λ (xs : List (Event Call)). IsRun sequential_reply HasSameStamps xs (run_history run) (run_outcomes run)) all inv.run
