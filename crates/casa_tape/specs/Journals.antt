@@ -1,0 +1,23 @@
+-- to believe: a file of lines on a tape, and what a crash leaves of it
+use Rattle.std.specs.Prelude.{◌≡◌, ◌⊎◌, ℕ, ◌≤◌, List}
+use Rattle.casa_tape.specs.declared.tape.Tape.{Ghosts as TapeOf}
+use Rattle.casa_tape.specs.Tape.{IsSynced}
+use Rattle.casa_tape.specs.Lines.{AreLines, journal_of}
+
+-- a read returns these bytes and no others
+abbrev pub HoldsOnly : {D : Type 0} → TapeOf D → D → List ℕ → Type 0
+HoldsOnly T tape bytes = (xs : List ℕ) → T.holds tape xs → bytes ≡ xs
+
+-- the file is these lines, all of it on the disk
+pub record IsSettled {D : Type 0} (T : TapeOf D) (tape : D) (lines : List (List ℕ)) : Type 0 where
+  pub are : AreLines lines
+  pub synced : IsSynced T.holds T.may_leave tape
+  pub held : HoldsOnly T tape (journal_of lines)
+  pub durable : (c : List ℕ) → T.may_leave tape c → c ≡ journal_of lines
+
+-- A crash at any moment since old leaves a file that has P.
+pub record LeavesOnly {D : Type 0} (T : TapeOf D) (old new : D) (P : List ℕ → Type 0) : Type 0 where
+  pub later : T.moment old ≤ T.moment new
+  pub each : (c : List ℕ) → T.left_since new (T.moment old) c → P c
+  -- for a run that began earlier
+  pub before : (t : ℕ) (c : List ℕ) → t ≤ T.moment old → T.left_since new t c → T.left_since old t c ⊎ P c

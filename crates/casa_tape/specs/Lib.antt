@@ -1,0 +1,6 @@
+pub mod Tape
+pub mod Lines
+pub mod Journals
+pub mod Recovery
+pub mod Past
+pub mod Memory
