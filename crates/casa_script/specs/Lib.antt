@@ -1,0 +1,5 @@
+pub mod Sums
+pub mod Lines
+pub mod Sayable
+pub mod Said
+pub mod Texts
