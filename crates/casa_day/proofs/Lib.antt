@@ -1,0 +1,9 @@
+pub mod Lists
+pub mod Saying
+pub mod Keeping
+pub mod Flushing
+pub mod Following
+pub mod Replaying
+pub mod Restoring
+pub mod Coursing
+pub mod Living

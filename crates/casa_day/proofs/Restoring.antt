@@ -1,0 +1,19 @@
+-- A journal that is read and mended.
+use Rattle.std.proofs.Common.{inr, ⊎_elim, ℕ, ◌≤◌, List, ◌∙◌, arith}
+use Rattle.casa_tape.specs.declared.tape.Tape.{Ghosts as TapeOf}
+use Rattle.casa_tape.specs.Lines.{StandsAs}
+use Rattle.casa_tape.specs.Journals.{LeavesOnly}
+
+-- what stands for the same lines after one part of it, does so after the next
+pub stands_on : {D : Type 0} → (T : TapeOf D) (old mid new : D) → ((t : ℕ) (c : List ℕ) → t ≤ T.moment mid → T.may_leave mid c → T.left_since mid t c)
+    → LeavesOnly T old mid (StandsAs (T.may_leave old)) → LeavesOnly T mid new (StandsAs (T.may_leave mid)) → LeavesOnly T old new (StandsAs (T.may_leave old))
+stands_on T old mid new counts first then = record {
+  later = omega (arith, first.later, then.later);
+  each = λ c left. ⊎_elim (first.each c) (same c) (then.before (T.moment old) c first.later left);
+  before = λ t c le left. ⊎_elim (first.before t c le) (λ now. inr (same c now)) (then.before t c (omega (arith, le, first.later)) left);
+}
+  where
+    same : (c : List ℕ) → StandsAs (T.may_leave mid) c → StandsAs (T.may_leave old) c
+    same c stands =
+        let before = first.each stands.0 (counts (T.moment old) stands.0 first.later stands.1) in
+        (before.0, before.1, stands.2 ∙ before.2)

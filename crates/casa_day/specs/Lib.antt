@@ -1,0 +1,6 @@
+pub mod Scripts
+pub mod Refusals
+pub mod Days
+pub mod Courses
+pub mod Lives
+pub mod Faults

@@ -1,0 +1,134 @@
+//! The day.
+
+ghost use Rattle.std.specs.Prelude.{◌≡◌, ◌≤◌, ◌++◌, ◌∷◌, [], List, ℕ, length, take, IfOk, OnOk, OnErr, IsErrOf};
+ghost use Rattle.casa_commit.specs.Legal.{IsLegal};
+ghost use Rattle.casa_commit.specs.Rooms.{entries_of, open_desks};
+
+use crate::event::{DayFault, Event};
+use crate::script::Script;
+use crate::text::text_behind;
+use casa_commit::{Gate, Room, World};
+use casa_tape::{Tape, append};
+use std::alloc::Global;
+use std::snapshot::Snapshot;
+
+/// A reply that was told, or the beginning of the day: a position, and when. `at` has no bytes.
+#[derive(Drop)]
+pub struct Told<T> {
+    pub position: usize,
+    pub at: Snapshot<T>,
+}
+
+/// A room with its journal: the tape, the script of its lines, how many entries the journal has, and what was told.
+#[derive(Drop)]
+pub struct Day<W: World, S, T> {
+    pub room: Room<W>,
+    pub script: S,
+    pub tape: T,
+    pub journaled: usize,
+    pub told: Vec<Told<T>>,
+}
+
+impl<W: World, S: Script<W::Call, W::Reply>, T: Tape> Day<W, S, T> {
+    ghost use Rattle.casa_day.specs.Courses.{course_of, step, steps};
+    ghost use Rattle.casa_day.specs.Days.{IsRunning, WentOn};
+
+    /// What happens, one event after the other. At each end, and so at each moment since the day began, the history is legal,
+    /// and a crash at any moment since a reply was told leaves a file that has its entry, at its position.
+    ///
+    /// `NotWritten` where the tape fails, `NoMemory` where there is no memory; at both the day is to be opened again.
+    pub fn live<G: Gate<W>>(
+        &mut self,
+        alloc: Global,
+        gate: &G,
+        events: &[Event<W::Call>],
+    ) -> Result<(), DayFault>
+        requires { IsRunning S.Script T.Tape self.old }
+        ensures went_on { WentOn S.Script T.Tape self.old self.new result }
+        ensures legal { IsLegal W.after W.reply W.opening (entries_of self.new.room) }
+        // What happened is what the events say.
+        ensures course { OnOk result (course_of self.new
+            ≡ steps (open_desks self.old.room) events.now (course_of self.old)) }
+    {
+        for event in events {
+            self.happen(alloc, gate, event)?;
+        }
+        Ok(())
+    }
+
+    /// What one event asks for. `NotWritten` where the tape fails, `NoMemory` where there is no memory.
+    pub fn happen<G: Gate<W>>(
+        &mut self,
+        alloc: Global,
+        gate: &G,
+        event: &Event<W::Call>,
+    ) -> Result<(), DayFault>
+        requires { IsRunning S.Script T.Tape self.old }
+        ensures went_on { WentOn S.Script T.Tape self.old self.new result }
+        ensures course { OnOk result (course_of self.new
+            ≡ step (open_desks self.old.room) event.now (course_of self.old)) }
+    {
+        match event {
+            Event::Answer(desk, call) => self.answer(alloc, gate, *desk, call),
+            Event::Flush => self.flush(alloc),
+            Event::Tell(position) => self.tell(*position),
+        }
+    }
+
+    /// A desk's call is answered, where the desk is open. `NoMemory` where there is no memory for it; the day can go on.
+    pub fn answer<G: Gate<W>>(
+        &mut self,
+        alloc: Global,
+        gate: &G,
+        desk: u32,
+        call: &W::Call,
+    ) -> Result<(), DayFault>
+        requires { IsRunning S.Script T.Tape self.old }
+        ensures went_on { WentOn S.Script T.Tape self.old self.new result }
+        ensures running { IsRunning S.Script T.Tape self.new }
+        ensures course { OnOk result (course_of self.new
+            ≡ step (open_desks self.old.room) (Event.Answer desk call.now) (course_of self.old)) }
+        ensures not_written { IsErrOf result DayFault.NotWritten → ⊥ }
+    {
+        if desk < self.room.desks() {
+            self.room.answer(alloc, desk, call, gate)?;
+        }
+        Ok(())
+    }
+
+    /// Writes the entries that the journal does not have, and puts them on the disk. `NotWritten` where the tape fails,
+    /// `NoMemory` where there is no memory; at both the day is to be opened again.
+    pub fn flush(&mut self, alloc: Global) -> Result<(), DayFault>
+        requires { IsRunning S.Script T.Tape self.old }
+        ensures went_on { WentOn S.Script T.Tape self.old self.new result }
+        ensures course { OnOk result (course_of self.new
+            ≡ step (open_desks self.old.room) Event.Flush (course_of self.old)) }
+    {
+        let history = self.room.history();
+        let count = history.len();
+        let text = text_behind(alloc, &self.script, history, self.journaled)?;
+        append(&mut self.tape, &text)?;
+        self.journaled = count;
+        Ok(())
+    }
+
+    /// The reply at this position, counted from 1, is told, where the journal has its entry. `NoMemory` where there is no
+    /// memory to note that; the day can go on.
+    pub fn tell(&mut self, position: usize) -> Result<(), DayFault>
+        requires { IsRunning S.Script T.Tape self.old }
+        ensures went_on { WentOn S.Script T.Tape self.old self.new result }
+        ensures running { IsRunning S.Script T.Tape self.new }
+        ensures course { OnOk result (course_of self.new
+            ≡ step (open_desks self.old.room) (Event.Tell position) (course_of self.old)) }
+        ensures not_written { IsErrOf result DayFault.NotWritten → ⊥ }
+    {
+        if position == 0 || position > self.journaled {
+            return Ok(());
+        }
+        let at = Snapshot::of(&self.tape);
+        if self.told.push(Told { position, at }).is_err() {
+            return Err(DayFault::NoMemory);
+        }
+        Ok(())
+    }
+}

@@ -1,0 +1,22 @@
+//! A day that outlasts the program: a room, and a journal of the calls that it has answered.
+//!
+//! Entries stand in the room's history first. A flush writes those that the journal does not have, and syncs. A reply is
+//! told only where the journal has its entry on the disk. So a crash at any moment leaves the entries of a beginning of the
+//! history, and each one whose reply was told. A line has an entry's call, and vouches for its reply: who answers the
+//! calls again finds the same replies, or the line at which they differ.
+#![tactic(auto)]
+
+mod day;
+mod event;
+mod laws;
+mod opening;
+mod script;
+mod text;
+mod whole_day;
+
+pub use day::{Day, Told};
+pub use event::{DayFault, Event, OpenFault};
+pub use laws::{nothing_told_is_lost, replies_follow_from_calls, what_is_kept_is_read};
+pub use script::Script;
+pub use text::text_behind;
+pub use whole_day::live_in_memory;
