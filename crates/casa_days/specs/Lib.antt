@@ -1,0 +1,5 @@
+pub mod Deeds
+pub mod Journals
+pub mod Courses
+pub mod Lives
+pub mod Openings

@@ -1,0 +1,111 @@
+//! A life: a journal is opened, and then things happen.
+
+ghost use Rattle.std.specs.Prelude.{◌≡◌, ◌↔◌, ◌∷◌, ◌++◌, [], List, ℕ, length, IfErr, IfOk, IsErrOf};
+ghost use Rattle.casa_flight.specs.declared.call.Call.{Call};
+ghost use Rattle.casa_flight.specs.declared.reply.Reply.{Reply};
+ghost use Rattle.casa_history.specs.declared.entry.Entry.{Entry};
+ghost use Rattle.casa_plan.specs.Rooms.{IsSequential};
+ghost use Rattle.casa_tape.specs.Lines.{whole_lines};
+ghost use Rattle.casa_day.specs.Days.{Grows, Keeps};
+ghost use Rattle.casa_day.specs.Refusals.{IsOfLines};
+ghost use Rattle.casa_world.specs.Runs.{run_events, run_history};
+ghost use Rattle.casa_days.specs.Deeds.{deeds_in};
+ghost use Rattle.casa_days.specs.Courses.{course_of, GoesOn};
+ghost use Rattle.casa_days.specs.Journals.{told_of, IsSafe};
+ghost use Rattle.casa_days.specs.Openings.{IsGoing};
+ghost use Rattle.casa_days.specs.Lives.{IsLived, WentOn};
+
+use crate::event::DayEvent;
+use crate::journal::Journal;
+use crate::opening::open;
+use casa_day::{DayFault, OpenFault, Script};
+use casa_flight::{Call, Reply};
+use casa_tape::Tape;
+use casa_view::{Board, Store};
+use casa_world::Run;
+use std::alloc::Global;
+
+/// How a life ended: the run of its board, or why it could not go on; and the journal that it left.
+pub type Life<K, S, T> = (Result<Run<Board<K>>, DayFault>, Journal<S, T>);
+
+/// Lives on a tape, as a crash may have left it, with a board over this store: the calls of the journal's whole lines are
+/// answered again, by worker 0, and what stands behind them is cut; and then these events happen, one after the other.
+///
+/// The errors are those of `open`, and hand the tape back. A life ends before its events do where the tape fails
+/// (`NotWritten`), or where there is no memory (`NoMemory`).
+pub fn live<K: Store, S: Script<Call, Reply> + Drop, T: Tape + Drop>(
+    alloc: Global,
+    store: K,
+    script: S,
+    tape: T,
+    events: &[DayEvent<Call>],
+) -> Result<Life<K, S, T>, (OpenFault, T)>
+    // What workers did is a run; what was told, the events say; and nothing that was told is lost.
+    ensures lived { IfOk result (λ life. (xs : List ℕ) → T.holds tape xs
+        → IsLived S.Script T.Tape (whole_lines xs) events.now life.0 life.1) }
+    // No file that a life left is refused.
+    ensures accepted { IfErr result (λ e. (history : List (Entry Call Reply)) (least : ℕ)
+        (xs : List ℕ) → IsSequential history → T.holds tape xs → Keeps S.Script history least xs
+        → ¬ (IsOfLines e.0)) }
+    ensures cause { IfErr result (λ e. e.0 ≡ OpenFault.NotRead → T.has_failed e.1) }
+{
+    let (run, journal) = open(alloc, store, script, tape)?;
+    Ok(go_on(alloc, run, journal, events))
+}
+
+/// What happens, one event after the other, until one cannot.
+fn go_on<K: Store, S: Script<Call, Reply>, T: Tape>(
+    alloc: Global,
+    begun: Run<Board<K>>,
+    opened: Journal<S, T>,
+    events: &[DayEvent<Call>],
+) -> Life<K, S, T>
+    requires { IsGoing S.Script T.Tape begun opened }
+    ensures { WentOn S.Script T.Tape (run_history begun) (course_of (run_events begun) opened)
+        events.now result.0 result.1 }
+{
+    let mut run = begun;
+    let mut journal = opened;
+    for event in events {
+        match happen(alloc, run, &mut journal, event) {
+            Ok(next) => run = next,
+            Err(fault) => return (Err(fault), journal),
+        }
+    }
+    (Ok(run), journal)
+}
+
+/// What one event asks for. `NotWritten` where the tape fails, `NoMemory` where there is no memory.
+fn happen<K: Store, S: Script<Call, Reply>, T: Tape>(
+    alloc: Global,
+    run: Run<Board<K>>,
+    journal: &mut Journal<S, T>,
+    event: &DayEvent<Call>,
+) -> Result<Run<Board<K>>, DayFault>
+    requires { IsGoing S.Script T.Tape run journal.old }
+    ensures going { IfOk result (λ next. IsGoing S.Script T.Tape next journal.new) }
+    ensures grows { IfOk result (λ next. Grows (run_history run) (run_history next)) }
+    ensures deeds { IfOk result (λ next. run_events next
+        ≡ run_events run ++ deeds_in (event.now ∷ [])) }
+    ensures course { IfOk result (λ next. GoesOn event.now (course_of (run_events run) journal.old)
+        (course_of (run_events next) journal.new)) }
+    ensures safe { IfErr result (λ _. IsSafe S.Script T.Tape (run_history run) journal.new) }
+    ensures stays { IfErr result (λ _. (journal.new.journaled ≡ journal.old.journaled)
+        × (told_of journal.new ≡ told_of journal.old)) }
+    ensures cause { IsErrOf result DayFault.NotWritten → T.has_failed journal.new.tape }
+{
+    match event {
+        DayEvent::Do(deed) => {
+            let next = run.next(alloc, deed)?;
+            Ok(next)
+        }
+        DayEvent::Flush => {
+            journal.flush(alloc, run.history())?;
+            Ok(run)
+        }
+        DayEvent::Tell(position) => {
+            journal.tell(*position)?;
+            Ok(run)
+        }
+    }
+}

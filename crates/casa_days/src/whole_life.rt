@@ -1,0 +1,42 @@
+//! A whole life, on a file in memory.
+
+ghost use Rattle.std.specs.Prelude.{◌≡◌, ℕ, List, IfErr, IfOk, IsErrOf};
+ghost use Rattle.casa_flight.specs.declared.call.Call.{Call};
+ghost use Rattle.casa_flight.specs.declared.reply.Reply.{Reply};
+ghost use Rattle.casa_history.specs.declared.entry.Entry.{Entry};
+ghost use Rattle.casa_plan.specs.Rooms.{IsSequential};
+ghost use Rattle.casa_tape.specs.Lines.{whole_lines};
+ghost use Rattle.casa_day.specs.Days.{Keeps};
+ghost use Rattle.casa_day.specs.Refusals.{IsOfLines};
+ghost use Rattle.casa_days.specs.Lives.{IsLived};
+
+use crate::event::DayEvent;
+use crate::living::{Life, live};
+use casa_day::{DayFault, OpenFault, Script};
+use casa_flight::{Call, Reply};
+use casa_tape::{MemoryTape, Tape};
+use casa_view::Store;
+use std::alloc::Global;
+
+/// A life on a file in memory with these bytes, whatever a crash made of them, with a board over this store. The errors are
+/// those of `open`, but for `NotRead`; a life ends before its events do where there is no memory.
+pub fn live_in_memory<K: Store, S: Script<Call, Reply> + Drop>(
+    alloc: Global,
+    store: K,
+    script: S,
+    found: Vec<u8>,
+    events: &[DayEvent<Call>],
+) -> Result<Life<K, S, MemoryTape>, OpenFault>
+    ensures lived { IfOk result (λ life. IsLived S.Script ⟦<MemoryTape as Tape>⟧
+        (whole_lines found.items) events.now life.0 life.1) }
+    ensures accepted { IfErr result (λ fault. (history : List (Entry Call Reply)) (least : ℕ)
+        → IsSequential history → Keeps S.Script history least found.items → ¬ (IsOfLines fault)) }
+    ensures never_fails { IsErrOf result OpenFault.NotRead → ⊥ }
+    ensures never_fails_on { IfOk result (λ life. IsErrOf life.0 DayFault.NotWritten → ⊥) }
+{
+    let tape = MemoryTape::new(alloc, found);
+    match live(alloc, store, script, tape, events) {
+        Ok(life) => Ok(life),
+        Err((fault, _)) => Err(fault),
+    }
+}
