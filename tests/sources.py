@@ -496,7 +496,8 @@ def promised_by(function):
 def full_name(source, name):
     """The name of a type in a file of src/, or of the one that it abbreviates."""
     declared = source.types.get(name)
-    return re.search(r"= (?:\w+::)*(\w+)", " ".join(declared.lines))[1] if declared and declared.kind == "type" else name
+    aliased = declared and declared.kind == "type" and re.search(r"= (?:\w+::)*(\w+)", " ".join(declared.lines))
+    return aliased[1] if aliased else name
 
 
 @functools.cache
