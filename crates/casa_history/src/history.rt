@@ -46,7 +46,7 @@ impl<C, R> History<C, R> {
     }
 
     /// The entries, oldest first.
-    pub(crate) fn entries(&self) -> &[SharedEntry<C, R>]
+    pub fn entries(&self) -> &[SharedEntry<C, R>]
         ensures { result.now ≡ entries self.now }
     {
         self.entries.as_slice()

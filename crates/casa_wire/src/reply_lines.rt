@@ -44,8 +44,19 @@ pub fn push_reply(out: &mut Vec<u8>, receipt: &Receipt<Call, Reply>) -> Result<(
         (out.new.items ≡ out.old.items ++ reply_line receipt.now.entry.reply receipt.now.position) }
     ensures err { OnErr result (out.new.items ≡ out.old.items) }
 {
+    push_reply_at(out, &receipt.entry.reply, receipt.position)
+}
+
+/// Writes the line of a reply, its line end included, behind the bytes that stand there: of the reply to the call at this
+/// position in the history, counted from 1.
+///
+/// `AllocError` where there is no memory for it; then the bytes are as they were.
+pub fn push_reply_at(out: &mut Vec<u8>, reply: &Reply, position: usize) -> Result<(), AllocError>
+    ensures ok { OnOk result (out.new.items ≡ out.old.items ++ reply_line reply.now position) }
+    ensures err { OnErr result (out.new.items ≡ out.old.items) }
+{
     let before = out.len();
-    match push_reply_line(out, &receipt.entry.reply, receipt.position) {
+    match push_reply_line(out, reply, position) {
         Ok(()) => Ok(()),
         Err(error) => {
             out.truncate(before);
