@@ -1,31 +1,30 @@
 -- A flush writes the entries that the journal does not have.
-use Rattle.std.proofs.Common.{◌≡◌, ℕ, ◌+◌, List, ◌++◌, length, drop, Some}
+use Rattle.std.proofs.Common.{◌≡◌, ℕ, ◌+◌, List, ◌++◌, length, drop, sym, subst}
 use Rattle.std.specs.List.{AllByRecursion}
 use Rattle.casa_history.specs.declared.entry.Entry.{Entry}
 use Rattle.casa_tape.specs.declared.tape.Tape.{Ghosts as TapeOf}
-use Rattle.casa_tape.specs.Lines.{IsLine, AreLines, IsBetween, journal_of}
+use Rattle.casa_tape.specs.Lines.{AreLines, IsBetween, journal_of}
 use Rattle.casa_tape.specs.Journals.{IsSettled, LeavesOnly}
 use Rattle.casa_day.specs.declared.script.Script.{Ghosts as ScriptOf}
-use Rattle.casa_day.specs.declared.day.Told.{Told}
-use Rattle.casa_day.specs.Scripts.{texts_from}
-use Rattle.casa_day.specs.Days.{IsKept, IsJournaled}
-use Rattle.casa_day.proofs.Saying.{say_texts, are_texts}
-use Rattle.casa_day.proofs.Keeping.{written_safe, journaled_all}
+use Rattle.casa_day.specs.declared.journal.Journal.{Journal}
+use Rattle.casa_day.specs.Scripts.{IsTextOf}
+use Rattle.casa_day.specs.Journals.{IsKept, IsRunning}
+use Rattle.casa_day.proofs.Keeping.{written_safe, written_all}
 
-module _ {S C R D : Type 0} (script : ScriptOf S C R) (T : TapeOf D) (is_line : (k : ℕ) (e : Entry C R) → IsLine (script.text k e))
-    (back : (k : ℕ) (e : Entry C R) → script.says k (script.text k e) ≡ Some e.call) (vouched : (k : ℕ) (e : Entry C R) → script.vouches_for (script.text k e) e.reply)
-    (es : List (Entry C R)) (old new : D) (journaled : ℕ) (told : List (Told D)) (text : List ℕ) (is : text ≡ journal_of (texts_from script (journaled + 1) (drop journaled es)))
-    (r : IsJournaled script T es old journaled told) where
-  pub flush_safe : ((lines added : List (List ℕ)) → AreLines added → text ≡ journal_of added → IsSettled T old lines → LeavesOnly T old new (IsBetween lines added))
-      → AllByRecursion (IsKept script T es old) told → AllByRecursion (IsKept script T es new) told
-  flush_safe leaves safe =
-      let added = texts_from script (journaled + 1) (drop journaled es) in
-      written_safe script T es old new journaled added told r (say_texts script back vouched (journaled + 1) (drop journaled es))
-      (leaves r.lines added (are_texts script is_line (journaled + 1) (drop journaled es)) is r.settled) safe
+-- the text of what stands behind in a history
+pub text_is : {S C R : Type 0} → (script : ScriptOf S C R) (journaled : ℕ) (es behind : List (Entry C R)) (text shown : List ℕ) → drop journaled es ≡ behind → shown ≡ text
+    → IsTextOf script (journaled + 1) behind text → IsTextOf script (journaled + 1) (drop journaled es) shown
+text_is script journaled es behind text shown same is of =
+    subst (λ (x : List (Entry _ _) × List ℕ). IsTextOf script (journaled + 1) x.0 x.1) (λ i. (sym same i, sym is i)) of
 
-  pub flush_journaled : (count : ℕ) → count ≡ length es
-      → ((lines added : List (List ℕ)) → AreLines added → text ≡ journal_of added → IsSettled T old lines → IsSettled T new (lines ++ added)) → IsJournaled script T es new count told
-  flush_journaled count all settles =
-      let added = texts_from script (journaled + 1) (drop journaled es) in
-      journaled_all script T es old new journaled told added count all (say_texts script back vouched (journaled + 1) (drop journaled es)) r
-      (settles r.lines added (are_texts script is_line (journaled + 1) (drop journaled es)) is r.settled)
+module _ {S C R D : Type 0} (script : ScriptOf S C R) (T : TapeOf D) (es : List (Entry C R)) (journal : Journal D) (new : D) (text : List ℕ)
+    (is : IsTextOf script (journal.journaled + 1) (drop journal.journaled es) text) (r : IsRunning script T es journal)
+    (leaves : (lines added : List (List ℕ)) → AreLines added → text ≡ journal_of added → IsSettled T journal.tape lines → LeavesOnly T journal.tape new (IsBetween lines added)) where
+  pub flush_safe : AllByRecursion (IsKept script T es new) journal.told.items
+  flush_safe = written_safe script T es journal new is.lines r is.said (leaves r.lines is.lines is.are is.is r.settled)
+
+  pub flush_running : (count : ℕ) → count ≡ length es
+      → ((lines added : List (List ℕ)) → AreLines added → text ≡ journal_of added → IsSettled T journal.tape lines → IsSettled T new (lines ++ added))
+      → IsRunning script T es (record { tape = new; journaled = count; told = journal.told })
+  flush_running count all settles =
+      written_all script T es journal new is.lines count r all is.said (leaves r.lines is.lines is.are is.is r.settled) (settles r.lines is.lines is.are is.is r.settled)

@@ -113,4 +113,5 @@ module _ {S C R : Type 0} (script : ScriptOf S C R) where
         let state : replay world.after world.opening (take (length p.front) history) ≡ replay world.after world.opening r.before =
         ap (replay world.after world.opening) front ∙ one_state world.after world.reply 1 world.opening p.front r.before (say_calls script 1 r.first p.front r.before p.said r.said) in
         let right : p.here.reply ≡ world.reply (replay world.after world.opening r.before) other.call = legal (length p.front) p.here at ∙ (λ i. world.reply (state i) (call i)) in
-        other.other (subst (script.vouches_for r.line) right p.says.reply)
+        let says : Says script (length r.first + 1) r.line p.here = subst (λ (k : ℕ). Says script k r.line p.here) (omega arith) p.says in
+        other.other (subst (script.vouches_for (length r.first + 1) r.line) right says.reply)

@@ -1,5 +1,5 @@
 -- What was told is kept.
-use Rattle.std.proofs.Common.{◌≡◌, ⊎_elim, ℕ, ◌+◌, ◌-◌, ◌≤◌, List, [], ◌∷◌, ◌++◌, length, take, drop, sym, ◌∙◌, ap, subst, arith, length-append, length-take, length-drop, take-append-drop}
+use Rattle.std.proofs.Common.{◌≡◌, ⊎_elim, ℕ, ◌+◌, ◌-◌, ◌≤◌, List, [], ◌++◌, length, take, drop, sym, ◌∙◌, ap, subst, arith, length-append, length-take, length-drop, take-append-drop}
 use Rattle.std.proofs.lemmas.List.{append-nil, take_all}
 use Rattle.std.specs.List.{AllByRecursion}
 use Rattle.casa_history.specs.declared.entry.Entry.{Entry}
@@ -8,10 +8,11 @@ use Rattle.casa_tape.specs.Lines.{AreLines, journal_of, whole_lines, IsBetween}
 use Rattle.casa_tape.specs.Journals.{IsSettled, LeavesOnly}
 use Rattle.casa_tape.proofs.WholeLines.{lines_again}
 use Rattle.casa_day.specs.declared.script.Script.{Ghosts as ScriptOf}
-use Rattle.casa_day.specs.declared.day.Told.{Told}
+use Rattle.casa_day.specs.declared.journal.Told.{Told}
+use Rattle.casa_day.specs.declared.journal.Journal.{Journal}
 use Rattle.casa_day.specs.Scripts.{Say}
-use Rattle.casa_day.specs.Days.{Keeps, IsKept, IsJournaled}
-use Rattle.casa_day.proofs.Lists.{take_drop, take_front, all_push, all_each, all_both}
+use Rattle.casa_day.specs.Journals.{Keeps, IsKept, IsSafe, IsRunning, IsBegun, IsToldNow}
+use Rattle.casa_day.proofs.Lists.{take_drop, take_front, all_append, all_each, all_both}
 use Rattle.casa_day.proofs.Saying.{say_append, say_length, say_take}
 
 module _ {S C R : Type 0} (script : ScriptOf S C R) where
@@ -47,35 +48,53 @@ module _ {S C R : Type 0} (script : ScriptOf S C R) where
       record { count = journaled; enough = enough; within = within; said = subst (λ (ls : List (List ℕ)). Say script 1 ls (take journaled es)) (sym whole) said }
 
   module _ {D : Type 0} (T : TapeOf D) where
-    pub safe_more : (es more : List (Entry C R)) (tape : D) (told : List (Told D)) → AllByRecursion (IsKept script T es tape) told → AllByRecursion (IsKept script T (es ++ more) tape) told
-    safe_more es more tape told safe =
-        all_each (IsKept script T es tape) (IsKept script T (es ++ more) tape) told
+    -- more entries
+    pub safe_more : (es more : List (Entry C R)) (journal : Journal D) → IsSafe script T es journal → IsSafe script T (es ++ more) journal
+    safe_more es more journal safe =
+        all_each (IsKept script T es journal.tape) (IsKept script T (es ++ more) journal.tape) journal.told.items
         (λ t kept. record { past = kept.past; kept = λ c left. keeps_more es more t.position c (kept.kept c left) }) safe
 
-    pub journaled_more : (es more : List (Entry C R)) (tape : D) (journaled : ℕ) (told : List (Told D)) → IsJournaled script T es tape journaled told
-        → IsJournaled script T (es ++ more) tape journaled told
-    journaled_more es more tape journaled told r = record {
+    pub running_more : (es more : List (Entry C R)) (journal : Journal D) → IsRunning script T es journal → IsRunning script T (es ++ more) journal
+    running_more es more journal r = record {
+      safe = safe_more es more journal r.safe;
       lines = r.lines;
       settled = r.settled;
       within = omega (arith, r.within, length-append es more);
-      said = subst (Say script 1 r.lines) (sym (take_front journaled es more r.within)) r.said;
+      said = subst (Say script 1 r.lines) (sym (take_front journal.journaled es more r.within)) r.said;
       covered = r.covered;
     }
 
     -- a write of new lines keeps all that was told
-    pub written_safe : (es : List (Entry C R)) (old new : D) (journaled : ℕ) (added : List (List ℕ)) (told : List (Told D)) (r : IsJournaled script T es old journaled told)
-        → Say script (journaled + 1) added (drop journaled es) → LeavesOnly T old new (IsBetween r.lines added)
-        → AllByRecursion (IsKept script T es old) told → AllByRecursion (IsKept script T es new) told
-    written_safe es old new journaled added told r news leaves safe =
-        all_both (λ (t : Told D). t.position ≤ journaled) (IsKept script T es old) (IsKept script T es new) told
+    pub written_safe : (es : List (Entry C R)) (journal : Journal D) (new : D) (added : List (List ℕ)) (r : IsRunning script T es journal)
+        → Say script (journal.journaled + 1) added (drop journal.journaled es) → LeavesOnly T journal.tape new (IsBetween r.lines added)
+        → AllByRecursion (IsKept script T es new) journal.told.items
+    written_safe es journal new added r news leaves =
+        all_both (λ (t : Told D). t.position ≤ journal.journaled) (IsKept script T es journal.tape) (IsKept script T es new) journal.told.items
         (λ t enough kept. record {
           past = omega (arith, kept.past, leaves.later);
-          kept = λ c left. ⊎_elim (kept.kept c) (between_keeps es journaled t.position r.lines added c r.within enough r.said news) (leaves.before (T.moment t.at.value) c kept.past left);
+          kept = λ c left.
+              ⊎_elim (kept.kept c) (between_keeps es journal.journaled t.position r.lines added c r.within enough r.said news) (leaves.before (T.moment t.at.value) c kept.past left);
         })
-        r.covered safe
+        r.covered r.safe
+
+    -- after a flush the journal has all entries
+    pub written_all : (es : List (Entry C R)) (journal : Journal D) (new : D) (added : List (List ℕ)) (count : ℕ) (r : IsRunning script T es journal) → count ≡ length es
+        → Say script (journal.journaled + 1) added (drop journal.journaled es) → LeavesOnly T journal.tape new (IsBetween r.lines added) → IsSettled T new (r.lines ++ added)
+        → IsRunning script T es (record { tape = new; journaled = count; told = journal.told })
+    written_all es journal new added count r is news leaves settled =
+        let size : length r.lines ≡ journal.journaled = omega (arith, say_length script 1 r.lines (take journal.journaled es) r.said, length-take journal.journaled es, r.within) in
+        record {
+          safe = written_safe es journal new added r news leaves;
+          lines = r.lines ++ added;
+          settled = settled;
+          within = omega (arith, is);
+          said = subst (Say script 1 (r.lines ++ added)) (take-append-drop journal.journaled es ∙ sym (take_all count es (omega (arith, is))))
+              (say_append script 1 (journal.journaled + 1) r.lines added (take journal.journaled es) (drop journal.journaled es) (omega (arith, size)) r.said news);
+          covered = all_each (λ (t : Told D). t.position ≤ journal.journaled) (λ (t : Told D). t.position ≤ count) journal.told.items (λ t le. omega (arith, le, r.within, is)) r.covered;
+        }
 
     -- what the journal has is kept from now on
-    pub told_now : (es : List (Entry C R)) (tape : D) (journaled : ℕ) (lines : List (List ℕ)) (t : Told D) → ((c : List ℕ) → T.left_since tape (T.moment tape) c → T.may_leave tape c)
+    told_now : (es : List (Entry C R)) (tape : D) (journaled : ℕ) (lines : List (List ℕ)) (t : Told D) → ((c : List ℕ) → T.left_since tape (T.moment tape) c → T.may_leave tape c)
         → IsSettled T tape lines → journaled ≤ length es → Say script 1 lines (take journaled es) → t.at.value ≡ tape → t.position ≤ journaled → IsKept script T es tape t
     told_now es tape journaled lines t only settled within said is enough = record {
       past = omega (arith, ap T.moment is);
@@ -84,39 +103,34 @@ module _ {S C R : Type 0} (script : ScriptOf S C R) where
           (settled.durable c (only c (subst (λ (d : D). T.left_since tape (T.moment d) c) is left)));
     }
 
-    -- and the journal goes on
-    pub journaled_told : (es : List (Entry C R)) (tape : D) (journaled : ℕ) (told : List (Told D)) (t : Told D)
-        → IsJournaled script T es tape journaled told → t.position ≤ journaled → IsJournaled script T es tape journaled (told ++ t ∷ [])
-    journaled_told es tape journaled told t r enough = record {
+    -- so more may be told
+    pub running_told : (es : List (Entry C R)) (old new : Journal D) (positions : List ℕ) → ((c : List ℕ) → T.left_since old.tape (T.moment old.tape) c → T.may_leave old.tape c)
+        → new.tape ≡ old.tape → new.journaled ≡ old.journaled → IsToldNow old new positions → IsRunning script T es old → IsRunning script T es new
+    running_told es old new positions only same count told r = record {
+      safe = subst (λ (x : D × List (Told D)). AllByRecursion (IsKept script T es x.0) x.1) (λ i. (sym same i, sym told.behind i))
+          (all_append (IsKept script T es old.tape) old.told.items told.now r.safe
+          (all_each (λ (t : Told D). (t.position ≤ old.journaled) × (t.at.value ≡ old.tape)) (IsKept script T es old.tape) told.now
+          (λ t is. told_now es old.tape old.journaled r.lines t only r.settled r.within r.said is.1 is.0) told.each));
       lines = r.lines;
-      settled = r.settled;
-      within = r.within;
-      said = r.said;
-      covered = all_push (λ (u : Told D). u.position ≤ journaled) told t r.covered enough;
+      settled = subst (λ (d : D). IsSettled T d r.lines) (sym same) r.settled;
+      within = omega (arith, count, r.within);
+      said = subst (λ (n : ℕ). Say script 1 r.lines (take n es)) (sym count) r.said;
+      covered = subst (λ (x : ℕ × List (Told D)). AllByRecursion (λ (t : Told D). t.position ≤ x.0) x.1) (λ i. (sym count i, sym told.behind i))
+          (all_append (λ (t : Told D). t.position ≤ old.journaled) old.told.items told.now r.covered
+          (all_each (λ (t : Told D). (t.position ≤ old.journaled) × (t.at.value ≡ old.tape)) (λ (t : Told D). t.position ≤ old.journaled) told.now (λ t is. is.0) told.each));
     }
 
-    -- after a flush the journal has all entries
-    pub journaled_all : (es : List (Entry C R)) (old new : D) (journaled : ℕ) (told : List (Told D)) (added : List (List ℕ)) (count : ℕ)
-        → count ≡ length es → Say script (journaled + 1) added (drop journaled es) → (r : IsJournaled script T es old journaled told)
-        → IsSettled T new (r.lines ++ added) → IsJournaled script T es new count told
-    journaled_all es old new journaled told added count is news r settled =
-        let size : length r.lines ≡ journaled = omega (arith, say_length script 1 r.lines (take journaled es) r.said, length-take journaled es, r.within) in
+    -- and a journal at its opening goes on
+    pub running_begun : (es : List (Entry C R)) (tape : D) (count : ℕ) (lines : List (List ℕ)) (journal : Journal D) → ((c : List ℕ) → T.left_since tape (T.moment tape) c → T.may_leave tape c)
+        → IsBegun tape count journal → IsSettled T tape lines → Say script 1 lines es → count ≡ length es → IsRunning script T es journal
+    running_begun es tape count lines journal only begun settled said is =
+        let all : Say script 1 lines (take count es) = subst (Say script 1 lines) (sym (take_all count es (omega (arith, is)))) said in
         record {
-          lines = r.lines ++ added;
-          settled = settled;
-          within = omega (arith, is);
-          said = subst (Say script 1 (r.lines ++ added)) (take-append-drop journaled es ∙ sym (take_all count es (omega (arith, is))))
-              (say_append script 1 (journaled + 1) r.lines added (take journaled es) (drop journaled es) (omega (arith, size)) r.said news);
-          covered = all_each (λ (t : Told D). t.position ≤ journaled) (λ (t : Told D). t.position ≤ count) told (λ t le. omega (arith, le, r.within, is)) r.covered;
+          safe = subst (λ (x : D × List (Told D)). AllByRecursion (IsKept script T es x.0) x.1) (λ i. (sym begun.tape_is i, sym begun.alone i))
+              (told_now es tape count lines begun.opening only settled (omega (arith, is)) all begun.now (omega (arith, begun.all)), tt);
+          lines = lines;
+          settled = subst (λ (d : D). IsSettled T d lines) (sym begun.tape_is) settled;
+          within = omega (arith, begun.journaled, is);
+          said = subst (λ (n : ℕ). Say script 1 lines (take n es)) (sym begun.journaled) all;
+          covered = subst (AllByRecursion (λ (t : Told D). t.position ≤ journal.journaled)) (sym begun.alone) (omega (arith, begun.all, begun.journaled), tt);
         }
-
-    -- and at the opening
-    pub journaled_opened : (es : List (Entry C R)) (tape : D) (count : ℕ) (lines : List (List ℕ)) (t : Told D) → IsSettled T tape lines → Say script 1 lines es → count ≡ length es → t.position ≡ count
-        → IsJournaled script T es tape count (t ∷ [])
-    journaled_opened es tape count lines t settled said is at = record {
-      lines = lines;
-      settled = settled;
-      within = omega (arith, is);
-      said = subst (Say script 1 lines) (sym (take_all count es (omega (arith, is)))) said;
-      covered = (omega (arith, at), tt);
-    }

@@ -2,6 +2,7 @@ pub mod Lists
 pub mod Saying
 pub mod Keeping
 pub mod Flushing
+pub mod Telling
 pub mod Following
 pub mod Replaying
 pub mod Restoring

@@ -2,7 +2,7 @@
 use Rattle.std.proofs.Common.{◌≡◌, ℕ, zero, suc, ◌+◌, ◌≤◌, List, [], ◌∷◌, ◌++◌, length, take, drop, refl, sym, ◌∙◌, ap, arith}
 use Rattle.std.specs.List.{AllByRecursion}
 use Rattle.std.proofs.lemmas.List.{append-nil, append_assoc}
-use Rattle.casa_day.specs.Days.{Grows}
+use Rattle.casa_day.specs.Journals.{Grows}
 
 take_none : {A : Type 0} → (n : ℕ) → take {A = A} n [] ≡ []
 take_none zero = refl
@@ -26,9 +26,9 @@ take_take (suc m) zero xs le = absurd (omega (arith, le))
 take_take (suc m) (suc n) [] le = refl
 take_take (suc m) (suc n) (x ∷ xs) le = ap (λ ys. x ∷ ys) (take_take m n xs (omega (arith, le)))
 
-pub all_push : {A : Type 0} → (P : A → Type 0) (xs : List A) (x : A) → AllByRecursion P xs → P x → AllByRecursion P (xs ++ x ∷ [])
-all_push P [] x all is = (is, all)
-all_push P (y ∷ xs) x all is = (all.0, all_push P xs x all.1 is)
+pub all_append : {A : Type 0} → (P : A → Type 0) (xs ys : List A) → AllByRecursion P xs → AllByRecursion P ys → AllByRecursion P (xs ++ ys)
+all_append P [] ys all also = also
+all_append P (x ∷ xs) ys all also = (all.0, all_append P xs ys all.1 also)
 
 pub all_each : {A : Type 0} → (P Q : A → Type 0) (xs : List A) → ((x : A) → P x → Q x) → AllByRecursion P xs → AllByRecursion Q xs
 all_each P Q [] step all = all

@@ -8,7 +8,7 @@ use Rattle.casa_commit.specs.Legal.{IsLegal}
 use Rattle.casa_tape.specs.Lines.{whole_lines}
 use Rattle.casa_day.specs.declared.script.Script.{Ghosts as ScriptOf}
 use Rattle.casa_day.specs.Scripts.{Say, answers_in}
-use Rattle.casa_day.specs.Days.{Keeps, Grows}
+use Rattle.casa_day.specs.Journals.{Keeps, Grows}
 use Rattle.casa_day.specs.Lives.{Life, AreLived, HasStill, NothingIsLost}
 use Rattle.casa_day.proofs.Lists.{take_front, take_take, grows_not}
 use Rattle.casa_day.proofs.Saying.{say_calls}

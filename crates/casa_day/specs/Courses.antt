@@ -4,11 +4,11 @@ use Rattle.casa_history.specs.declared.entry.Entry.{Entry}
 use Rattle.casa_commit.specs.declared.world.World.{Ghosts as WorldOf}
 use Rattle.casa_commit.specs.Rooms.{entries_of}
 use Rattle.casa_day.specs.declared.script.Script.{Ghosts as ScriptOf}
-use Rattle.casa_day.specs.declared.day.Told.{Told}
 use Rattle.casa_day.specs.declared.day.Day.{Day}
 use Rattle.casa_day.specs.declared.event.Event.{Event}
 use Rattle.casa_day.specs.declared.event.Event.TheVariants.{Answer, Flush, Tell}
 use Rattle.casa_day.specs.Scripts.{Say}
+use Rattle.casa_day.specs.Journals.{told_of}
 
 -- how far a day is: the calls that were answered, each with its desk, how many the journal has, and the positions that were told
 pub record Course (C : Type 0) : Type 0 where
@@ -22,7 +22,7 @@ desks_calls es = map (λ (e : Entry _ _). (e.desk, e.call)) es
 
 -- how far this day is
 abbrev pub course_of : {S W C V G R D : Type 0} {world : WorldOf W C V G R} → Day W S D C V G R world → Course C
-course_of day = record { calls = desks_calls (entries_of day.room); journaled = day.journaled; told = map (λ (t : Told _). t.position) day.told.items }
+course_of day = record { calls = desks_calls (entries_of day.room); journaled = day.journal.journaled; told = told_of day.journal }
 
 -- where so many desks are open: a call is answered; a flush writes all; a reply is told where the journal has its entry
 abbrev pub step : {C : Type 0} → ℕ → Event C → Course C → Course C

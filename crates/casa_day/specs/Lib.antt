@@ -1,4 +1,5 @@
 pub mod Scripts
+pub mod Journals
 pub mod Refusals
 pub mod Days
 pub mod Courses

@@ -7,7 +7,7 @@ use Rattle.casa_commit.specs.Legal.{IsLegal}
 use Rattle.casa_tape.specs.Lines.{whole_lines}
 use Rattle.casa_day.specs.declared.script.Script.{Ghosts as ScriptOf}
 use Rattle.casa_day.specs.Scripts.{Say, answers_in}
-use Rattle.casa_day.specs.Days.{Keeps}
+use Rattle.casa_day.specs.Journals.{Keeps}
 
 -- what was done in a life: its history, how many of the entries its journal had at its opening, and the positions that were told
 pub record Life (C R : Type 0) : Type 0 where

@@ -19,7 +19,7 @@ IsOfLines opening.NoMemory = ⊥
 pub record IsAnsweredOtherwise {S W C V G R : Type 0} (script : ScriptOf S C R) (world : WorldOf W C V G R) (before : List (Entry C R)) (position : ℕ) (line : List ℕ) : Type 0 where
   pub call : C
   pub said : script.says position line ≡ Some call
-  pub other : script.vouches_for line (world.reply (replay world.after world.opening before) call) → ⊥
+  pub other : script.vouches_for position line (world.reply (replay world.after world.opening before) call) → ⊥
 
 -- a line at a position, after these entries, is refused with this fault
 abbrev pub IsRefusedAt : {S W C V G R : Type 0} → ScriptOf S C R → WorldOf W C V G R → List (Entry C R) → ℕ → List ℕ → OpenFault → Type 0

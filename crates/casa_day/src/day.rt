@@ -5,33 +5,23 @@ ghost use Rattle.casa_commit.specs.Legal.{IsLegal};
 ghost use Rattle.casa_commit.specs.Rooms.{entries_of, open_desks};
 
 use crate::event::{DayFault, Event};
+use crate::journal::Journal;
 use crate::script::Script;
-use crate::text::text_behind;
 use casa_commit::{Gate, Room, World};
-use casa_tape::{Tape, append};
+use casa_tape::Tape;
 use std::alloc::Global;
-use std::snapshot::Snapshot;
 
-/// A reply that was told, or the beginning of the day: a position, and when. `at` has no bytes.
-#[derive(Drop)]
-pub struct Told<T> {
-    pub position: usize,
-    pub at: Snapshot<T>,
-}
-
-/// A room with its journal: the tape, the script of its lines, how many entries the journal has, and what was told.
+/// A room with its journal, and the script of the journal's lines.
 #[derive(Drop)]
 pub struct Day<W: World, S, T> {
     pub room: Room<W>,
     pub script: S,
-    pub tape: T,
-    pub journaled: usize,
-    pub told: Vec<Told<T>>,
+    pub journal: Journal<T>,
 }
 
 impl<W: World, S: Script<W::Call, W::Reply>, T: Tape> Day<W, S, T> {
     ghost use Rattle.casa_day.specs.Courses.{course_of, step, steps};
-    ghost use Rattle.casa_day.specs.Days.{IsRunning, WentOn};
+    ghost use Rattle.casa_day.specs.Days.{IsRunningDay, WentOn};
 
     /// What happens, one event after the other. At each end, and so at each moment since the day began, the history is legal,
     /// and a crash at any moment since a reply was told leaves a file that has its entry, at its position.
@@ -43,7 +33,7 @@ impl<W: World, S: Script<W::Call, W::Reply>, T: Tape> Day<W, S, T> {
         gate: &G,
         events: &[Event<W::Call>],
     ) -> Result<(), DayFault>
-        requires { IsRunning S.Script T.Tape self.old }
+        requires { IsRunningDay S.Script T.Tape self.old }
         ensures went_on { WentOn S.Script T.Tape self.old self.new result }
         ensures legal { IsLegal W.after W.reply W.opening (entries_of self.new.room) }
         // What happened is what the events say.
@@ -63,7 +53,7 @@ impl<W: World, S: Script<W::Call, W::Reply>, T: Tape> Day<W, S, T> {
         gate: &G,
         event: &Event<W::Call>,
     ) -> Result<(), DayFault>
-        requires { IsRunning S.Script T.Tape self.old }
+        requires { IsRunningDay S.Script T.Tape self.old }
         ensures went_on { WentOn S.Script T.Tape self.old self.new result }
         ensures course { OnOk result (course_of self.new
             ≡ step (open_desks self.old.room) event.now (course_of self.old)) }
@@ -83,9 +73,9 @@ impl<W: World, S: Script<W::Call, W::Reply>, T: Tape> Day<W, S, T> {
         desk: u32,
         call: &W::Call,
     ) -> Result<(), DayFault>
-        requires { IsRunning S.Script T.Tape self.old }
+        requires { IsRunningDay S.Script T.Tape self.old }
         ensures went_on { WentOn S.Script T.Tape self.old self.new result }
-        ensures running { IsRunning S.Script T.Tape self.new }
+        ensures running { IsRunningDay S.Script T.Tape self.new }
         ensures course { OnOk result (course_of self.new
             ≡ step (open_desks self.old.room) (Event.Answer desk call.now) (course_of self.old)) }
         ensures not_written { IsErrOf result DayFault.NotWritten → ⊥ }
@@ -99,36 +89,24 @@ impl<W: World, S: Script<W::Call, W::Reply>, T: Tape> Day<W, S, T> {
     /// Writes the entries that the journal does not have, and puts them on the disk. `NotWritten` where the tape fails,
     /// `NoMemory` where there is no memory; at both the day is to be opened again.
     pub fn flush(&mut self, alloc: Global) -> Result<(), DayFault>
-        requires { IsRunning S.Script T.Tape self.old }
+        requires { IsRunningDay S.Script T.Tape self.old }
         ensures went_on { WentOn S.Script T.Tape self.old self.new result }
         ensures course { OnOk result (course_of self.new
             ≡ step (open_desks self.old.room) Event.Flush (course_of self.old)) }
     {
-        let history = self.room.history();
-        let count = history.len();
-        let text = text_behind(alloc, &self.script, history, self.journaled)?;
-        append(&mut self.tape, &text)?;
-        self.journaled = count;
-        Ok(())
+        self.journal.flush(alloc, &self.script, self.room.history())
     }
 
     /// The reply at this position, counted from 1, is told, where the journal has its entry. `NoMemory` where there is no
     /// memory to note that; the day can go on.
     pub fn tell(&mut self, position: usize) -> Result<(), DayFault>
-        requires { IsRunning S.Script T.Tape self.old }
+        requires { IsRunningDay S.Script T.Tape self.old }
         ensures went_on { WentOn S.Script T.Tape self.old self.new result }
-        ensures running { IsRunning S.Script T.Tape self.new }
+        ensures running { IsRunningDay S.Script T.Tape self.new }
         ensures course { OnOk result (course_of self.new
             ≡ step (open_desks self.old.room) (Event.Tell position) (course_of self.old)) }
         ensures not_written { IsErrOf result DayFault.NotWritten → ⊥ }
     {
-        if position == 0 || position > self.journaled {
-            return Ok(());
-        }
-        let at = Snapshot::of(&self.tape);
-        if self.told.push(Told { position, at }).is_err() {
-            return Err(DayFault::NoMemory);
-        }
-        Ok(())
+        self.journal.tell(position)
     }
 }

@@ -5,7 +5,7 @@ ghost use Rattle.casa_history.specs.declared.entry.Entry.{Entry};
 ghost use Rattle.casa_commit.specs.Legal.{IsLegal};
 ghost use Rattle.casa_tape.specs.Lines.{whole_lines};
 ghost use Rattle.casa_day.specs.Scripts.{answers_in, calls_in, Say};
-ghost use Rattle.casa_day.specs.Days.{Keeps};
+ghost use Rattle.casa_day.specs.Journals.{Keeps};
 ghost use Rattle.casa_day.specs.Lives.{AreLived, Life, NothingIsLost};
 
 use crate::script::Script;

@@ -8,15 +8,17 @@
 
 mod day;
 mod event;
+mod journal;
 mod laws;
 mod opening;
 mod script;
 mod text;
 mod whole_day;
 
-pub use day::{Day, Told};
+pub use day::Day;
 pub use event::{DayFault, Event, OpenFault};
+pub use journal::{Journal, Told};
 pub use laws::{nothing_told_is_lost, replies_follow_from_calls, what_is_kept_is_read};
 pub use script::Script;
-pub use text::text_behind;
+pub use text::text_of;
 pub use whole_day::live_in_memory;

@@ -8,15 +8,16 @@ ghost use Rattle.casa_tape.specs.Lines.{AreLines, StandsAs, journal_of, whole_li
 ghost use Rattle.casa_tape.specs.Journals.{LeavesOnly};
 ghost use Rattle.casa_day.specs.Scripts.{Says, Say};
 ghost use Rattle.casa_day.specs.Refusals.{IsOfLines, IsRefused, IsRefusedAt};
-ghost use Rattle.casa_day.specs.Days.{IsOpened, IsRestored, IsRunning, Keeps, tape_left};
+ghost use Rattle.casa_day.specs.Days.{IsRestored, IsRunningDay, tape_left};
+ghost use Rattle.casa_day.specs.Journals.{IsBegun, Keeps};
 
-use crate::day::{Day, Told};
+use crate::day::Day;
 use crate::event::OpenFault;
+use crate::journal::Journal;
 use crate::script::Script;
 use casa_commit::{Gate, Room, World};
 use casa_tape::{Tape, first_line, look, mend};
 use std::alloc::Global;
-use std::snapshot::Snapshot;
 
 /// The desk that answers the calls of the journal again.
 const JOURNAL_DESK: u32 = 0;
@@ -37,8 +38,9 @@ impl<W: World + Drop, S: Script<W::Call, W::Reply> + Drop, T: Tape + Drop> Day<W
     ) -> Result<Self, (OpenFault, T)>
         requires empty { entries_of room ≡ [] }
         requires desk { 0 < open_desks room }
-        ensures running { IfOk result (λ day. IsRunning S.Script T.Tape day) }
-        ensures opened { IfOk result (λ day. IsOpened day) }
+        ensures running { IfOk result (λ day. IsRunningDay S.Script T.Tape day) }
+        ensures begun { IfOk result (λ day. IsBegun day.journal.tape
+            (length (entries_of day.room)) day.journal) }
         ensures said { IfOk result (λ day. (xs : List ℕ) → T.holds tape xs
             → Say S.Script 1 (whole_lines xs) (entries_of day.room)) }
         ensures desks { IfOk result (λ day. open_desks day.room ≡ open_desks room) }
@@ -61,19 +63,14 @@ impl<W: World + Drop, S: Script<W::Call, W::Reply> + Drop, T: Tape + Drop> Day<W
             Ok(journaled) => journaled,
             Err(fault) => return Err((fault, tape)),
         };
-        let at = Snapshot::of(&tape);
-        let mut told = Vec::new(alloc);
-        let position = journaled;
-        if told.push(Told { position, at }).is_err() {
-            return Err((OpenFault::NoMemory, tape));
+        match Journal::begin(alloc, tape, journaled) {
+            Ok(journal) => Ok(Day {
+                room,
+                script,
+                journal,
+            }),
+            Err(tape) => Err((OpenFault::NoMemory, tape)),
         }
-        Ok(Day {
-            room,
-            script,
-            tape,
-            journaled,
-            told,
-        })
     }
 }
 
@@ -152,7 +149,7 @@ fn answer_again<W: World, S: Script<W::Call, W::Reply>, G: Gate<W>>(
         return Err(OpenFault::BadLine(position));
     };
     let receipt = room.answer(alloc, JOURNAL_DESK, &call, gate)?;
-    if !script.vouches(line, &receipt.entry.reply) {
+    if !script.vouches(alloc, position, line, &receipt.entry.reply)? {
         return Err(OpenFault::ReplayDiffers(position));
     }
     Ok(())

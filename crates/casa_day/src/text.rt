@@ -1,31 +1,28 @@
 //! The text of many entries.
 
-ghost use Rattle.std.specs.Prelude.{◌≡◌, ◌+◌, ◌≤◌, drop, length, IfOk};
-ghost use Rattle.casa_history.specs.Entries.{entries};
-ghost use Rattle.casa_tape.specs.Lines.{journal_of};
-ghost use Rattle.casa_day.specs.Scripts.{texts_from};
+ghost use Rattle.std.specs.Prelude.{◌≡◌, ◌+◌, ◌<◌, ◌^◌, length, IfOk};
+ghost use Rattle.casa_day.specs.Scripts.{IsTextOf};
 
 use crate::script::Script;
-use casa_history::History;
+use casa_history::SharedEntry;
 use std::alloc::{AllocError, Global};
 
-/// The lines of a history's entries behind the first so many, each with its LF. `AllocError` where there is no memory for
-/// them.
-pub fn text_behind<C, R, S: Script<C, R>>(
+/// The lines of these entries, each with its LF, where so many entries stand before them in the history. `AllocError` where
+/// there is no memory for them.
+pub fn text_of<C, R, S: Script<C, R>>(
     alloc: Global,
     script: &S,
-    history: &History<C, R>,
-    count: usize,
+    before: usize,
+    entries: &[SharedEntry<C, R>],
 ) -> Result<Vec<u8>, AllocError>
-    requires { count ≤ length (entries history.now) }
-    ensures { IfOk result (λ text. text.items
-        ≡ journal_of (texts_from S.Script (count + 1) (drop count (entries history.now)))) }
+    requires { before + length entries.now < 2 ^ 64 }
+    ensures { IfOk result (λ text. IsTextOf S.Script (before + 1) entries.now text.items) }
 {
     let mut text = Vec::new(alloc);
-    let mut written = count;
-    while let Some(entry) = history.entry(written + 1) {
-        written += 1;
-        script.push(&mut text, written, entry)?;
+    let mut position = before;
+    for entry in entries {
+        position += 1;
+        script.push(&mut text, position, entry)?;
         text.push(b'\n')?;
     }
     Ok(text)

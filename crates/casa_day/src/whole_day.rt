@@ -7,7 +7,7 @@ ghost use Rattle.casa_commit.specs.Rooms.{entries_of, open_desks};
 ghost use Rattle.casa_tape.specs.Lines.{whole_lines};
 ghost use Rattle.casa_day.specs.Courses.{course_of, IsCourse};
 ghost use Rattle.casa_day.specs.Refusals.{IsOfLines, IsRefused};
-ghost use Rattle.casa_day.specs.Days.{BeginsAsSaid, IsSafe, Keeps};
+ghost use Rattle.casa_day.specs.Journals.{BeginsAsSaid, IsSafe, Keeps};
 
 use crate::day::Day;
 use crate::event::{DayFault, Event, OpenFault};
@@ -38,7 +38,8 @@ pub fn live_in_memory<W: World + Drop, S: Script<W::Call, W::Reply> + Drop, G: G
     ensures course { IfOk result (λ r. OnOk r.1 (IsCourse S.Script (whole_lines found.items)
         (open_desks room) events.now (course_of r.0))) }
     ensures legal { IfOk result (λ r. IsLegal W.after W.reply W.opening (entries_of r.0.room)) }
-    ensures safe { IfOk result (λ r. IsSafe S.Script ⟦<MemoryTape as Tape>⟧ r.0) }
+    ensures safe { IfOk result (λ r. IsSafe S.Script ⟦<MemoryTape as Tape>⟧
+        (entries_of r.0.room) r.0.journal) }
     ensures refused { IfErr result (λ fault. IsOfLines fault
         → IsRefused S.Script W.World (whole_lines found.items) fault) }
     ensures accepted { IfErr result (λ fault. (history : List (Entry W.Call W.Reply)) (least : ℕ)

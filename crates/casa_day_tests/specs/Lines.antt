@@ -30,7 +30,7 @@ abbrev pub line_says : ℕ → List ℕ → Option Copying
 line_says position (from ∷ to ∷ sum ∷ []) = copy_of (from - 97) (to - 97)
 line_says position line = None
 
--- a line vouches for a reply
-abbrev pub line_vouches : List ℕ → Answer → Type 0
-line_vouches (from ∷ to ∷ sum ∷ []) answer = sum ≡ sum_of answer
-line_vouches line answer = ⊥
+-- a line vouches for a reply, at any position
+abbrev pub line_vouches : ℕ → List ℕ → Answer → Type 0
+line_vouches position (from ∷ to ∷ sum ∷ []) answer = sum ≡ sum_of answer
+line_vouches position line answer = ⊥

@@ -1,8 +1,7 @@
 //! Lines of copies among four cells, as "ab0": the cells as letters, and the last digit of the value.
 
 ghost use Rattle.std.specs.Prelude.{◌≡◌, ◌+◌, ◌-◌, ◌<◌};
-ghost use Rattle.casa_day_tests.specs.Lines.{sum_of, line_of, line_says, line_vouches, copy_of};
-ghost use Rattle.casa_day_tests.specs.Laws.{is_line, reads_back, vouched};
+ghost use Rattle.casa_day_tests.specs.Lines.{sum_of, line_says, line_vouches, copy_of};
 
 use casa_day::Script;
 use casa_history::Entry;
@@ -18,14 +17,6 @@ impl Script<Copying, Answer> for CellLines {
 
     ghost vouches_for = { line_vouches };
 
-    ghost text = { line_of };
-
-    ghost is_line = { is_line };
-
-    ghost reads_back = { reads_back };
-
-    ghost vouched = { vouched };
-
     fn push(
         &self,
         out: &mut Vec<u8>,
@@ -35,7 +26,8 @@ impl Script<Copying, Answer> for CellLines {
         let from = letter(entry.call.from);
         let to = letter(entry.call.to);
         let sum = sum_of(&entry.reply);
-        out.extend_from_slice(&[from, to, sum])
+        out.extend_from_slice(&[from, to, sum])?;
+        Ok(())
     }
 
     fn read(
@@ -50,10 +42,16 @@ impl Script<Copying, Answer> for CellLines {
         }
     }
 
-    fn vouches(&self, line: &[u8], answer: &Answer) -> bool {
+    fn vouches(
+        &self,
+        _alloc: Global,
+        _position: usize,
+        line: &[u8],
+        answer: &Answer,
+    ) -> Result<bool, AllocError> {
         match line {
-            [_, _, sum] => *sum == sum_of(answer),
-            _ => false,
+            [_, _, sum] => Ok(*sum == sum_of(answer)),
+            _ => Ok(false),
         }
     }
 }

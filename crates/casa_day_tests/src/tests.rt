@@ -50,8 +50,8 @@ fn a_day_goes_on_behind_each_crash(rt: HostRuntime) -> Result<(), Fail> {
         events.as_slice(),
     )?;
     assert_eq!(rt; lived, Ok(()));
-    assert_eq!(rt; day.told.len(), 2);
-    let text = day.tape.read(alloc)?;
+    assert_eq!(rt; day.journal.told.len(), 2);
+    let text = day.journal.tape.read(alloc)?;
     assert_eq!(rt; text.as_slice(), b"ab0\nbc1\ncd2\n".as_slice());
     let more = vec![in alloc; Event::Answer(0, Copying::new(0, 3)), Event::Flush]?;
     for kept in 0..13 {
@@ -70,7 +70,7 @@ fn a_day_goes_on_behind_each_crash(rt: HostRuntime) -> Result<(), Fail> {
         let mut wanted = text.as_slice().to_vec(alloc)?;
         wanted.truncate(kept / 4 * 4);
         wanted.extend_from_slice(b"ad0\n")?;
-        let written = again.tape.read(alloc)?;
+        let written = again.journal.tape.read(alloc)?;
         assert_eq!(rt; written.as_slice(), wanted.as_slice());
     }
     Ok(())

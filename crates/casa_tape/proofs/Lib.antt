@@ -2,5 +2,5 @@ mod Moments
 mod Runs
 mod Kept
 pub mod WholeLines
-mod Torn
+pub mod Torn
 mod Standings

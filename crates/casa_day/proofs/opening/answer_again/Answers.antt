@@ -9,6 +9,6 @@ returns-clause-said g c =
     let e = next_entry c.args.room.now 0 c.in-Some.call in
     let extended = c.in_ok-receipt.ensures.accepted.1 in
     let call : script.says c.args.position line ≡ Some e.call = search rules in
-    let vouched : script.vouches_for line c.deref.result.now.reply = search rules in
+    let vouched : script.vouches_for c.args.position line c.deref.result.now.reply = search rules in
     let is : c.deref.result.now ≡ e = c.deref.ensures ∙ ap (λ r. r.entry) extended.receipt_is in
-    (e, record { call = call; reply = subst (λ x. script.vouches_for line x.reply) is vouched }, extended.history)
+    (e, record { call = call; reply = subst (λ x. script.vouches_for c.args.position line x.reply) is vouched }, extended.history)

@@ -16,6 +16,6 @@ returns-clause-course g c =
     (λ leads. record {
       first = es;
       said = c.in-Ok.ensures.said c.args.found.items (sym c.new-tape.ensures.shown);
-      leads = leads ∙ ap (steps (open_desks day.room) c.args.events.now) (course_begun day c.in-Ok.ensures.opened) ∙ ap (λ d. steps d c.args.events.now (begun es)) c.in-Ok.ensures.desks;
+      leads = leads ∙ ap (steps (open_desks day.room) c.args.events.now) (course_begun day c.in-Ok.ensures.begun) ∙ ap (λ d. steps d c.args.events.now (begun es)) c.in-Ok.ensures.desks;
     })
     c.live-lived.ensures.course

@@ -1,4 +1,4 @@
--- for proofs: laws of lines of copies
+-- Laws of lines of copies.
 use Rattle.std.specs.Prelude.{◌≡◌, ◌≢◌, ◌⊎◌, ℕ, ◌+◌, ◌%◌, ◌<◌, ◌≤◌, T, leb, Some, refl}
 use Rattle.std.proofs.Common.{ap, subst, ◌∙◌}
 use Rattle.std.proofs.Math.Facts.{yes_leb}
@@ -40,5 +40,5 @@ pub reads_back : (k : ℕ) (e : Entry Copying Answer) → line_says k (line_of k
 reads_back k e = (λ i. copy_of (add-sub_cancel e.call.from 97 i) (add-sub_cancel e.call.to 97 i)) ∙ copy_is e.call
 
 -- and vouches for the reply
-pub vouched : (k : ℕ) (e : Entry Copying Answer) → line_vouches (line_of k e) e.reply
+pub vouched : (k : ℕ) (e : Entry Copying Answer) → line_vouches k (line_of k e) e.reply
 vouched k e = refl
