@@ -1,12 +1,13 @@
 -- the line of an entry says its call at its position
-use Rattle.std.proofs.Common.{◌≡◌, ◌≢◌, ℕ, ◌*◌, ◌%◌, ◌<◌, ◌^◌, List, [], ◌∷◌, Bool, true, false, cond, Some, None, Ok, refl, ap, arith}
-use Rattle.std.specs.Prelude.{Option, Result, Err, bit_xor, option_and_then}
+use Rattle.std.proofs.Common.{◌≡◌, ◌≢◌, ℕ, suc, ◌*◌, ◌%◌, ◌<◌, ◌≤◌, ◌^◌, List, [], ◌∷◌, Bool, true, false, cond, Some, None, Ok, refl, ap, arith}
+use Rattle.std.specs.Prelude.{All, Option, Result, Err, bit_xor, option_and_then}
 use Rattle.std.specs.List.{fold}
 use Rattle.std.specs.Result.{result_ok}
 use Rattle.std.proofs.lemmas.Bool.Decides.{nat_tests}
 use Rattle.casa_flight.specs.declared.call.Call.{Call}
 use Rattle.casa_flight.specs.declared.reply.Reply.{Reply}
 use Rattle.casa_history.specs.declared.entry.Entry.{Entry}
+use Rattle.casa_tape.specs.Lines.{IsLine}
 use Rattle.casa_wire.specs.declared.fault.WireFault.{WireFault}
 use Rattle.casa_wire.specs.Commands.{line_call, line_value}
 use Rattle.casa_wire.specs.LineTexts.{reply_data}
@@ -18,7 +19,7 @@ use Rattle.casa_script.specs.declared.line.Label.{Label}
 use Rattle.casa_script.specs.Sums.{with_byte}
 use Rattle.casa_script.specs.Lines.{entry_label, entry_text}
 use Rattle.casa_script.specs.Sayable.{IsSayable, IsInRange}
-use Rattle.casa_script.specs.Said.{◌>>=◌, call_at, call_if_at, call_or_fault, is_at, label_of, line_said, or_fault}
+use Rattle.casa_script.specs.Said.{◌>>=◌, call_at, call_if_at, call_or_fault, is_at, label_of, line_said, line_vouches_for, or_fault}
 use Rattle.casa_script.proofs.Readings.{line_read}
 
 -- a sum has 32 bits
@@ -61,3 +62,15 @@ of_parts position (Ok call) (Some d) label found is = of_label (label d) is
 pub call_of_line : (position : ℕ) (line : List ℕ) (call : Call) → call_at position line ≡ Some call → line_call line ≡ Ok call
 unfolding line_said
 call_of_line position line call is = of_parts position (line_call line) (line_value line) label_of call is
+
+-- a text of characters from the space to the tilde is a line
+pub is_line : (text : List ℕ) → All (λ (byte : ℕ). (32 ≤ byte) × (byte ≤ 126)) text → IsLine text
+is_line [] all = tt
+is_line (b ∷ bs) all =
+    let first = all 0 b (omega arith) in
+    ((λ (is : b ≡ 10). absurd (omega (arith, is, first.0)), λ (is : b ≡ 0). absurd (omega (arith, is, first.0))), is_line bs (λ k d lt. all (suc k) d (omega (arith, lt))))
+
+-- the line of an entry vouches for its reply
+pub vouches_there : (position : ℕ) (entry : Entry Call Reply) → line_said (entry_text position entry) ≡ Ok (record { label = entry_label position entry; call = entry.call })
+    → line_vouches_for position (entry_text position entry) entry.reply ≡ true
+vouches_there position entry said = rw said (grind (arith, nat_tests))

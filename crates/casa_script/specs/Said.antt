@@ -1,5 +1,6 @@
 -- to believe: what a line says
-use Rattle.std.specs.Prelude.{◌≡◌, ℕ, ◌==◌, ◌&&◌, if◌then◌else◌, Bool, List, Option, None, Some, Result, Ok, Err, option_and_then, codes}
+use Rattle.std.specs.Prelude.{◌≡◌, ℕ, ◌==◌, ◌&&◌, if◌then◌else◌, Bool, false, List, Option, None, Some, Result, Ok, Err, option_and_then, codes}
+use Rattle.std.specs.Option.{option_map_or}
 use Rattle.std.specs.Result.{result_ok}
 use Rattle.serde_json.specs.Data.{Data}
 use Rattle.casa_flight.specs.declared.call.Call.{Call}
@@ -60,6 +61,10 @@ call_at position bytes = option_and_then (call_if_at position) (result_ok (line_
 -- whether a label vouches for the reply at a position: it has the reply's sum
 abbrev pub vouches_for : Reply → ℕ → Label → Bool
 vouches_for reply position label = label.sum == reply_sum reply position
+
+-- whether a text vouches for the reply at a position: it is a line, and its label does
+abbrev pub line_vouches_for : ℕ → List ℕ → Reply → Bool
+line_vouches_for position bytes reply = option_map_or (λ (line : Line). vouches_for reply position line.label) (result_ok (line_said bytes)) false
 
 abbrev pub Fails : {X : Type 0} → LineFault → Result X LineFault → Type 0
 Fails (NoCall fault) meaning = meaning ≡ Err (NoCall fault)

@@ -7,6 +7,7 @@ mod laws;
 mod line;
 mod object;
 mod reading;
+mod script;
 mod sum;
 mod writing;
 
@@ -17,6 +18,7 @@ pub use laws::{
     lines_tell_calls_apart, read_calls_are_sayable,
 };
 pub use line::{Label, Line, RULES};
-pub use reading::{call_at, read_line};
+pub use reading::{call_at, line_vouches_for, read_line};
+pub use script::CallScript;
 pub use sum::{reply_sum, sum_of};
 pub use writing::{push_entry, push_line};

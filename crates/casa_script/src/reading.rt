@@ -5,13 +5,12 @@ ghost use Rattle.serde_json.specs.View.{view};
 ghost use Rattle.casa_wire.specs.Commands.{line_call, line_value};
 ghost use Rattle.casa_wire.specs.Members.{number_of};
 ghost use Rattle.casa_script.specs.declared.fault.LineFault.TheVariants.{NoPosition};
-ghost use Rattle.casa_script.specs.Said.{Gives, GivesAs, call_at, call_if_at, call_or_fault, is_at, label_of, line_said, or_fault, vouches_for};
+ghost use Rattle.casa_script.specs.Said.{Gives, GivesAs, call_at, call_if_at, call_or_fault, is_at, label_of, line_said, line_vouches_for, or_fault, vouches_for};
 
 use crate::fault::LineFault;
 use crate::line::{Label, Line, RULES};
 use crate::sum::reply_sum;
 use casa_flight::{Call, Reply};
-use casa_history::Receipt;
 use casa_wire::{WireFault, read_call};
 use serde_json::Value;
 use std::alloc::{AllocError, Global};
@@ -44,6 +43,23 @@ pub fn call_at(alloc: Global, position: usize, line: &[u8]) -> Result<Option<Cal
     }
 }
 
+/// Whether a line vouches for the reply to the call at this position: its label has the reply's sum. A text that says nothing
+/// vouches for none. `AllocError` where there is no memory for what it says, or for the line of the reply.
+pub fn line_vouches_for(
+    alloc: Global,
+    position: usize,
+    line: &[u8],
+    reply: &Reply,
+) -> Result<bool, AllocError>
+    ensures { IfOk result (λ vouches. vouches ≡ line_vouches_for position line.now reply.now) }
+{
+    match read_line(alloc, line) {
+        Ok(line) => line.label.vouches_for(alloc, reply, position),
+        Err(LineFault::NoMemory) => Err(AllocError),
+        Err(_) => Ok(false),
+    }
+}
+
 impl Line {
     /// The call, if the label is of this position and of the present rules.
     fn call_if_at(self, position: usize) -> Option<Call>
@@ -65,16 +81,17 @@ impl Label {
         self.position == position && self.rules == RULES
     }
 
-    /// Whether it has the sum of the receipt's reply. `AllocError` where there is no memory for the line of that.
+    /// Whether it has the sum of the reply to the call at this position. `AllocError` where there is no memory for the line
+    /// of that.
     pub fn vouches_for(
         &self,
         alloc: Global,
-        receipt: &Receipt<Call, Reply>,
+        reply: &Reply,
+        position: usize,
     ) -> Result<bool, AllocError>
-        ensures { IfOk result (λ vouches. vouches
-            ≡ vouches_for receipt.now.entry.reply receipt.now.position self.now) }
+        ensures { IfOk result (λ vouches. vouches ≡ vouches_for reply.now position self.now) }
     {
-        Ok(self.sum == reply_sum(alloc, receipt)?)
+        Ok(self.sum == reply_sum(alloc, reply, position)?)
     }
 }
 

@@ -2,9 +2,8 @@ ghost use Rattle.std.specs.Prelude.{◌≡◌, ◌*◌, ◌%◌, ◌^◌, bit_xo
 ghost use Rattle.std.specs.List.{fold};
 ghost use Rattle.casa_script.specs.Sums.{reply_sum, sum_of, with_byte};
 
-use casa_flight::{Call, Reply};
-use casa_history::Receipt;
-use casa_wire::push_reply;
+use casa_flight::Reply;
+use casa_wire::push_reply_at;
 use std::alloc::{AllocError, Global};
 
 /// The sum of no bytes.
@@ -28,27 +27,28 @@ fn with_byte(sum: u32, byte: u8) -> u32
     (sum ^ byte as u32).wrapping_mul(FACTOR)
 }
 
-/// The sum of a receipt's reply: of the bytes of its line, its line end left out.
+/// The sum of the reply to the call at this position in the history, counted from 1: of the bytes of its line, its line end
+/// left out.
 ///
 /// `AllocError` where there is no memory for that line.
-pub fn reply_sum(alloc: Global, receipt: &Receipt<Call, Reply>) -> Result<u32, AllocError>
-    ensures { IfOk result (λ sum. sum ≡ reply_sum receipt.now.entry.reply receipt.now.position) }
+pub fn reply_sum(alloc: Global, reply: &Reply, position: usize) -> Result<u32, AllocError>
+    ensures { IfOk result (λ sum. sum ≡ reply_sum reply.now position) }
 {
     let mut line = Vec::new(alloc);
-    sum_behind(&mut line, receipt)
+    sum_behind(&mut line, reply, position)
 }
 
-/// The sum of a receipt's reply, whose line stands behind the bytes for a while.
+/// The sum of a reply, whose line stands behind the bytes for a while.
 pub(crate) fn sum_behind(
     out: &mut Vec<u8>,
-    receipt: &Receipt<Call, Reply>,
+    reply: &Reply,
+    position: usize,
 ) -> Result<u32, AllocError>
     ensures same { out.new.items ≡ out.old.items }
-    ensures sum { IfOk result (λ sum. sum
-        ≡ reply_sum receipt.now.entry.reply receipt.now.position) }
+    ensures sum { IfOk result (λ sum. sum ≡ reply_sum reply.now position) }
 {
     let before = out.len();
-    push_reply(out, receipt)?;
+    push_reply_at(out, reply, position)?;
     let end = out.len() - 1;
     let sum = sum_of(&out[before..end]);
     out.truncate(before);

@@ -1,13 +1,13 @@
 //! Lines, written behind the bytes of a vector.
 
-ghost use Rattle.std.specs.Prelude.{◌≡◌, [], ◌∷◌, ◌++◌, ◌≤◌, ℕ, All, codes, Ok, Some, OnOk, OnErr};
+ghost use Rattle.std.specs.Prelude.{◌≡◌, [], ◌∷◌, ◌++◌, ◌≤◌, ℕ, All, codes, true, Ok, Some, OnOk, OnErr};
 ghost use Rattle.serde_json.specs.Data.{string};
 ghost use Rattle.serde_json.specs.Written.{compact_text};
 ghost use Rattle.casa_wire.specs.declared.fault.Field.TheVariants.{Key, Periods, Reg, Sts as Status};
 ghost use Rattle.casa_wire.specs.LineTexts.{count, list_of, or_null};
 ghost use Rattle.casa_wire.specs.Parts.{Writes};
 ghost use Rattle.casa_script.specs.Lines.{command, entry_text, field, label_members, line_data, line_text, object_with, period_data, plan_members, status_name};
-ghost use Rattle.casa_script.specs.Said.{call_at, line_said};
+ghost use Rattle.casa_script.specs.Said.{call_at, line_said, line_vouches_for};
 ghost use Rattle.casa_script.specs.Texts.{member_of, value_data};
 
 use crate::calls::sayable;
@@ -16,7 +16,7 @@ use crate::object::{Member, Value, push_object};
 use crate::sum::sum_behind;
 use casa_flight::{Call, Key, Loc, Plan, RegId, Reply, Sts};
 use casa_grid::Profile;
-use casa_history::Receipt;
+use casa_history::Entry;
 use casa_time::Moment;
 use std::alloc::AllocError;
 
@@ -29,28 +29,34 @@ const CROSSING_ROOM: usize = 36;
 /// Room for a period, in bytes.
 const PERIOD_ROOM: usize = 48;
 
-/// Writes the line of a receipt's entry at its position, without a line end, behind the bytes that stand there.
+/// Writes the line of an entry at its position in the history, counted from 1, without a line end, behind the bytes that
+/// stand there.
 ///
-/// It is of the present rules, and has the sum of the entry's reply; at this position it says the entry's call.
-/// `AllocError` as `push_line`, and where there is no memory for the line of the reply, which stands there for a while;
-/// then the bytes are as they were.
-pub fn push_entry(out: &mut Vec<u8>, receipt: &Receipt<Call, Reply>) -> Result<(), AllocError>
-    ensures ok { OnOk result (out.new.items
-        ≡ out.old.items ++ entry_text receipt.now.position receipt.now.entry) }
+/// It is of the present rules, and has the sum of the entry's reply; at this position it says the entry's call, and vouches
+/// for the reply. `AllocError` as `push_line`, and where there is no memory for the line of the reply, which stands there for
+/// a while; then the bytes are as they were.
+pub fn push_entry(
+    out: &mut Vec<u8>,
+    position: usize,
+    entry: &Entry<Call, Reply>,
+) -> Result<(), AllocError>
+    ensures ok { OnOk result (out.new.items ≡ out.old.items ++ entry_text position entry.now) }
     ensures err { OnErr result (out.new.items ≡ out.old.items) }
     ensures characters { OnOk result (All (λ (byte : ℕ). (32 ≤ byte) × (byte ≤ 126))
-        (entry_text receipt.now.position receipt.now.entry)) }
-    ensures again { OnOk result (call_at receipt.now.position
-        (entry_text receipt.now.position receipt.now.entry) ≡ Some receipt.now.entry.call) }
+        (entry_text position entry.now)) }
+    ensures again { OnOk result (call_at position (entry_text position entry.now)
+        ≡ Some entry.now.call) }
+    ensures vouches { OnOk result (line_vouches_for position (entry_text position entry.now)
+        entry.now.reply ≡ true) }
 {
-    let sum = sum_behind(out, receipt)?;
+    let sum = sum_behind(out, &entry.reply, position)?;
     let label = Label {
-        position: receipt.position,
-        desk: receipt.entry.desk,
+        position,
+        desk: entry.desk,
         rules: RULES,
         sum,
     };
-    push_line(out, label, &receipt.entry.call)
+    push_line(out, label, &entry.call)
 }
 
 /// Writes the line of a call with this label, without a line end, behind the bytes that stand there. What it says is the

@@ -26,16 +26,25 @@ fn an_entry_is_said_at_its_position(rt: HostRuntime) {
     let alloc = rt.alloc();
     let told = receipt(&rt, alloc, Refusal::NoFlight);
     let mut line = Vec::new(alloc);
-    push_entry(&mut line, &told).expect(&rt, "memory");
+    push_entry(&mut line, told.position, &told.entry).expect(&rt, "memory");
     let said = read_line(alloc, &line).expect(&rt, "a line");
     assert!(&rt; said.label.position == 7 && said.label.desk == 2 && said.label.rules == RULES);
     assert!(&rt; said.label.sum == sum_of(b"{\"code\":2,\"n\":7,\"refused\":\"NoFlight\"}"));
     let call = call_at(alloc, 7, &line).expect(&rt, "memory");
     assert!(&rt; call == Some(said.call));
     assert!(&rt; call_at(alloc, 8, &line).expect(&rt, "memory").is_none());
-    assert!(&rt; said.label.vouches_for(alloc, &told).expect(&rt, "memory"));
+    assert!(&rt;
+        said.label
+            .vouches_for(alloc, &told.entry.reply, told.position)
+            .expect(&rt, "memory")
+    );
     let other = receipt(&rt, alloc, Refusal::NotIssued);
-    assert!(&rt; !said.label.vouches_for(alloc, &other).expect(&rt, "memory"));
+    assert!(&rt;
+        !said
+            .label
+            .vouches_for(alloc, &other.entry.reply, other.position)
+            .expect(&rt, "memory")
+    );
 }
 
 /// A line of other rules says nothing.
@@ -44,7 +53,7 @@ fn a_line_of_other_rules_says_no_call(rt: HostRuntime) {
     let alloc = rt.alloc();
     let told = receipt(&rt, alloc, Refusal::NoFlight);
     let mut line = Vec::new(alloc);
-    push_entry(&mut line, &told).expect(&rt, "memory");
+    push_entry(&mut line, told.position, &told.entry).expect(&rt, "memory");
     let mut label = read_line(alloc, &line).expect(&rt, "a line").label;
     label.rules = RULES + 1;
     line.clear();
