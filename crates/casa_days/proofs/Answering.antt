@@ -24,6 +24,6 @@ next_entry_at history now e position at is =
     ∙ get_middle history e []
 
 -- a line that does not vouch for the sequential reply does not vouch for that of a board
-pub not_vouched : {S : Type 0} → (script : ScriptOf S Call Reply) (history : List (Entry Call Reply)) (call : Call) (line : List ℕ)
-    → (script.vouches_for line (sequential_reply history call) → ⊥) → script.vouches_for line (reply (replay after opening history).state call) → ⊥
-not_vouched script history call line not vouched = not (subst (script.vouches_for line) (ap (λ m. reply m call) (state_replayed history)) vouched)
+pub not_vouched : {S : Type 0} → (script : ScriptOf S Call Reply) (history : List (Entry Call Reply)) (call : Call) (position : ℕ) (line : List ℕ)
+    → (script.vouches_for position line (sequential_reply history call) → ⊥) → script.vouches_for position line (reply (replay after opening history).state call) → ⊥
+not_vouched script history call position line not vouched = not (subst (script.vouches_for position line) (ap (λ m. reply m call) (state_replayed history)) vouched)

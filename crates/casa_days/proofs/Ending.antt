@@ -8,15 +8,14 @@ use Rattle.casa_tape.specs.declared.tape.Tape.{Ghosts as TapeOf}
 use Rattle.casa_day.specs.declared.script.Script.{Ghosts as ScriptOf}
 use Rattle.casa_day.specs.declared.event.DayFault.{DayFault}
 use Rattle.casa_day.specs.declared.event.DayFault.TheVariants.{NotWritten}
-use Rattle.casa_day.specs.Days.{Grows}
+use Rattle.casa_day.specs.declared.journal.Journal.{Journal}
+use Rattle.casa_day.specs.Journals.{told_of, Grows, IsSafe}
 use Rattle.casa_world.specs.declared.event.Event.{Event}
 use Rattle.casa_world.specs.Scenes.{IsRun}
 use Rattle.casa_world.specs.Board.{sequential_reply, HasSameStamps}
 use Rattle.casa_world.specs.Runs.{Played, run_events, run_history, run_outcomes}
 use Rattle.casa_days.specs.declared.event.DayEvent.{DayEvent}
-use Rattle.casa_days.specs.declared.journal.Journal.{Journal}
 use Rattle.casa_days.specs.Deeds.{deeds_in}
-use Rattle.casa_days.specs.Journals.{told_of, IsSafe}
 use Rattle.casa_days.specs.Courses.{Course, course_of, GoesOn, GoOn}
 use Rattle.casa_days.specs.Openings.{IsGoing}
 use Rattle.casa_days.specs.Lives.{WentOn}
@@ -36,7 +35,7 @@ module _ (before now : List (Event Call)) (es : List (DayEvent Call)) (e : DayEv
 abbrev pub failed : {B : Type 0} → DayFault → Result (Played B Call Reply) DayFault
 failed fault = Err fault
 
-module _ {B S D : Type 0} (script : ScriptOf S Call Reply) (T : TapeOf D) (begun run : Played B Call Reply) (opened journal : Journal S D)
+module _ {B S D : Type 0} (script : ScriptOf S Call Reply) (T : TapeOf D) (begun run : Played B Call Reply) (opened journal : Journal D)
     (events : List (DayEvent Call)) (i : ℕ) (going : IsGoing script T run journal) (grown : Grows (run_history begun) (run_history run))
     (deeds : run_events run ≡ run_events begun ++ deeds_in (take i events))
     (on : GoOn (take i events) (course_of (run_events begun) opened) (course_of (run_events run) journal)) where
@@ -56,7 +55,7 @@ module _ {B S D : Type 0} (script : ScriptOf S Call Reply) (T : TapeOf D) (begun
   }
 
   -- the next one could not
-  pub cut_short : (fault : DayFault) (left : Journal S D) → left.journaled ≡ journal.journaled → told_of left ≡ told_of journal
+  pub cut_short : (fault : DayFault) (left : Journal D) → left.journaled ≡ journal.journaled → told_of left ≡ told_of journal
       → IsSafe script T (run_history run) left → (IsErrOf (failed {B = B} fault) NotWritten → T.has_failed left.tape) → WentOn {B = B} script T (run_history begun) (course_of (run_events begun) opened) events (Err fault) left
   cut_short fault left same told safe cause =
       let ds = run_events begun ++ deeds_in (take i events) in

@@ -3,7 +3,7 @@ use Rattle.std.proofs.Common.{◌≡◌, ℕ, nat_lt, Bool, true, false, if◌th
 use Rattle.std.proofs.lemmas.List.{append-nil}
 use Rattle.casa_history.specs.declared.entry.Entry.{Entry}
 use Rattle.casa_commit.specs.Legal.{entry}
-use Rattle.casa_day.specs.Days.{Grows}
+use Rattle.casa_day.specs.Journals.{Grows}
 use Rattle.casa_day.proofs.Lists.{grows_on}
 use Rattle.casa_world.specs.declared.event.Event.{Event}
 use Rattle.casa_world.specs.declared.event.Event.TheVariants.{Read, Compute, Commit, Abandon}

@@ -13,7 +13,7 @@ use Rattle.casa_plan.proofs.Replayed.{state_replayed}
 use Rattle.casa_tape.specs.Lines.{whole_lines}
 use Rattle.casa_day.specs.declared.script.Script.{Ghosts as ScriptOf}
 use Rattle.casa_day.specs.Scripts.{answers_in, Say}
-use Rattle.casa_day.specs.Days.{Keeps}
+use Rattle.casa_day.specs.Journals.{Keeps}
 use Rattle.casa_day.proofs.Saying.{say_calls}
 use Rattle.casa_day.proofs.Following.{calls_take, answers_follow, right_take}
 use Rattle.casa_world.specs.declared.event.Event.{Event}

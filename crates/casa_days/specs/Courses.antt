@@ -3,16 +3,16 @@ use Rattle.std.specs.Prelude.{◌≡◌, ℕ, nat_lt, nat_le, ◌&&◌, if◌the
 use Rattle.casa_flight.specs.declared.call.Call.{Call}
 use Rattle.casa_flight.specs.declared.reply.Reply.{Reply}
 use Rattle.casa_history.specs.declared.entry.Entry.{Entry}
+use Rattle.casa_day.specs.declared.journal.Journal.{Journal}
 use Rattle.casa_day.specs.Scripts.{calls_in}
+use Rattle.casa_day.specs.Journals.{told_of}
 use Rattle.casa_world.specs.declared.event.Event.{Event}
 use Rattle.casa_world.specs.declared.event.Outcome.{Outcome}
 use Rattle.casa_world.specs.Scenes.{IsRun}
 use Rattle.casa_world.specs.Board.{sequential_reply, HasSameStamps}
 use Rattle.casa_days.specs.declared.event.DayEvent.{DayEvent}
 use Rattle.casa_days.specs.declared.event.DayEvent.TheVariants.{Do, Flush, Tell}
-use Rattle.casa_days.specs.declared.journal.Journal.{Journal}
 use Rattle.casa_days.specs.Deeds.{again}
-use Rattle.casa_days.specs.Journals.{told_of}
 
 -- how far a day is: what its workers have done, how many entries the journal has, and the positions that were told
 pub record Course : Type 0 where
@@ -21,7 +21,7 @@ pub record Course : Type 0 where
   pub told : List ℕ
 
 -- how far the day of these deeds with this journal is
-abbrev pub course_of : {S D : Type 0} → List (Event Call) → Journal S D → Course
+abbrev pub course_of : {D : Type 0} → List (Event Call) → Journal D → Course
 course_of deeds journal = record { deeds = deeds; journaled = journal.journaled; told = told_of journal }
 
 -- at the opening the calls of these entries were answered again, and all of them count as told

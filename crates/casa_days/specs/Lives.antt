@@ -8,20 +8,19 @@ use Rattle.casa_day.specs.declared.script.Script.{Ghosts as ScriptOf}
 use Rattle.casa_day.specs.declared.event.DayFault.{DayFault}
 use Rattle.casa_day.specs.declared.event.DayFault.TheVariants.{NotWritten}
 use Rattle.casa_day.specs.Scripts.{Say}
-use Rattle.casa_day.specs.Days.{Grows}
+use Rattle.casa_day.specs.declared.journal.Journal.{Journal}
+use Rattle.casa_day.specs.Journals.{Grows, IsSafe}
 use Rattle.casa_world.specs.declared.event.Outcome.{Outcome}
 use Rattle.casa_world.specs.Scenes.{IsRun}
 use Rattle.casa_world.specs.Board.{sequential_reply, HasSameStamps}
 use Rattle.casa_world.specs.Runs.{Played, run_history, run_outcomes}
 use Rattle.casa_days.specs.declared.event.DayEvent.{DayEvent}
-use Rattle.casa_days.specs.declared.journal.Journal.{Journal}
 use Rattle.casa_days.specs.Deeds.{deeds_in}
-use Rattle.casa_days.specs.Journals.{IsSafe}
 use Rattle.casa_days.specs.Courses.{Course, course_of, begun, GoOn}
 
 -- From a course with this history on, where these events were asked for, a day came to this end and left this journal.
 pub record WentOn {B S D : Type 0} (script : ScriptOf S Call Reply) (T : TapeOf D) (before : List (Entry Call Reply)) (course : Course)
-    (events : List (DayEvent Call)) (end : Result (Played B Call Reply) DayFault) (journal : Journal S D) : Type 0 where
+    (events : List (DayEvent Call)) (end : Result (Played B Call Reply) DayFault) (journal : Journal D) : Type 0 where
   -- so many of the events happened, and all of them where it ended well
   pub happened : ℕ
   pub all : OnOk end (happened ≡ length events)
@@ -40,7 +39,7 @@ pub record WentOn {B S D : Type 0} (script : ScriptOf S Call Reply) (T : TapeOf 
 
 -- a life on a file of these lines: they say entries, whose calls are answered again, and then the day goes on
 pub record IsLived {B S D : Type 0} (script : ScriptOf S Call Reply) (T : TapeOf D) (lines : List (List ℕ)) (events : List (DayEvent Call))
-    (end : Result (Played B Call Reply) DayFault) (journal : Journal S D) : Type 0 where
+    (end : Result (Played B Call Reply) DayFault) (journal : Journal D) : Type 0 where
   pub first : List (Entry Call Reply)
   pub said : Say script 1 lines first
   pub went_on : WentOn script T first (begun first) events end journal

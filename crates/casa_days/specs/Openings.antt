@@ -6,13 +6,13 @@ use Rattle.casa_tape.specs.declared.tape.Tape.{Ghosts as TapeOf}
 use Rattle.casa_tape.specs.Lines.{whole_lines}
 use Rattle.casa_tape.specs.Journals.{IsSettled}
 use Rattle.casa_day.specs.declared.script.Script.{Ghosts as ScriptOf}
+use Rattle.casa_day.specs.declared.journal.Journal.{Journal}
 use Rattle.casa_day.specs.Scripts.{calls_in, Say}
+use Rattle.casa_day.specs.Journals.{IsRunning}
 use Rattle.casa_world.specs.Scenes.{IsRun}
 use Rattle.casa_world.specs.Board.{sequential_reply, HasSameStamps}
 use Rattle.casa_world.specs.Runs.{Played, run_events, run_history, run_outcomes}
-use Rattle.casa_days.specs.declared.journal.Journal.{Journal}
 use Rattle.casa_days.specs.Deeds.{again}
-use Rattle.casa_days.specs.Journals.{IsRunning}
 use Rattle.casa_days.specs.Courses.{course_of, begun}
 
 module _ {B : Type 0} where
@@ -26,7 +26,7 @@ module _ {B : Type 0} where
     pub is_run : IsBoardRun run
 
   -- a run and its journal at their opening: these lines say the history, which is that of their calls, answered again
-  pub record IsOpened {S D : Type 0} (script : ScriptOf S Call Reply) (T : TapeOf D) (lines : List (List ℕ)) (run : Played B Call Reply) (journal : Journal S D) : Type 0 where
+  pub record IsOpened {S D : Type 0} (script : ScriptOf S Call Reply) (T : TapeOf D) (lines : List (List ℕ)) (run : Played B Call Reply) (journal : Journal D) : Type 0 where
     pub said : Say script 1 lines (run_history run)
     pub is_run : IsBoardRun run
     pub course : course_of (run_events run) journal ≡ begun (run_history run)
@@ -40,6 +40,6 @@ module _ {B : Type 0} where
     pub said : Say script 1 lines (run_history run)
 
   -- a run and its journal that can go on
-  pub record IsGoing {S D : Type 0} (script : ScriptOf S Call Reply) (T : TapeOf D) (run : Played B Call Reply) (journal : Journal S D) : Type 0 where
+  pub record IsGoing {S D : Type 0} (script : ScriptOf S Call Reply) (T : TapeOf D) (run : Played B Call Reply) (journal : Journal D) : Type 0 where
     pub is_run : IsBoardRun run
     pub journaled : IsRunning script T (run_history run) journal

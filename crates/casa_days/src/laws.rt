@@ -7,7 +7,7 @@ ghost use Rattle.casa_history.specs.declared.entry.Entry.{Entry};
 ghost use Rattle.casa_tape.specs.Lines.{whole_lines};
 ghost use Rattle.casa_plan.specs.Rooms.{IsSequential};
 ghost use Rattle.casa_day.specs.Scripts.{answers_in, Say};
-ghost use Rattle.casa_day.specs.Days.{Keeps};
+ghost use Rattle.casa_day.specs.Journals.{Keeps};
 
 use casa_day::Script;
 use casa_flight::{Call, Reply};

@@ -7,14 +7,12 @@
 #![tactic(auto)]
 
 mod event;
-mod journal;
 mod laws;
 mod living;
 mod opening;
 mod whole_life;
 
 pub use event::DayEvent;
-pub use journal::Journal;
 pub use laws::told_replies_come_back;
 pub use living::{Life, live};
 pub use opening::open;

@@ -5,20 +5,19 @@ ghost use Rattle.casa_flight.specs.declared.call.Call.{Call};
 ghost use Rattle.casa_flight.specs.declared.reply.Reply.{Reply};
 ghost use Rattle.casa_history.specs.declared.entry.Entry.{Entry};
 ghost use Rattle.casa_plan.specs.Rooms.{IsSequential};
-ghost use Rattle.casa_tape.specs.Lines.{whole_lines};
-ghost use Rattle.casa_day.specs.Days.{Grows, Keeps};
+ghost use Rattle.casa_tape.specs.Lines.{StandsAs, whole_lines};
+ghost use Rattle.casa_tape.specs.Journals.{LeavesOnly};
+ghost use Rattle.casa_day.specs.Journals.{told_of, Grows, IsSafe, Keeps};
 ghost use Rattle.casa_day.specs.Refusals.{IsOfLines};
 ghost use Rattle.casa_world.specs.Runs.{run_events, run_history};
 ghost use Rattle.casa_days.specs.Deeds.{deeds_in};
 ghost use Rattle.casa_days.specs.Courses.{course_of, GoesOn};
-ghost use Rattle.casa_days.specs.Journals.{told_of, IsSafe};
 ghost use Rattle.casa_days.specs.Openings.{IsGoing};
 ghost use Rattle.casa_days.specs.Lives.{IsLived, WentOn};
 
 use crate::event::DayEvent;
-use crate::journal::Journal;
 use crate::opening::open;
-use casa_day::{DayFault, OpenFault, Script};
+use casa_day::{DayFault, Journal, OpenFault, Script};
 use casa_flight::{Call, Reply};
 use casa_tape::Tape;
 use casa_view::{Board, Store};
@@ -26,20 +25,20 @@ use casa_world::Run;
 use std::alloc::Global;
 
 /// How a life ended: the run of its board, or why it could not go on; and the journal that it left.
-pub type Life<K, S, T> = (Result<Run<Board<K>>, DayFault>, Journal<S, T>);
+pub type Life<K, T> = (Result<Run<Board<K>>, DayFault>, Journal<T>);
 
 /// Lives on a tape, as a crash may have left it, with a board over this store: the calls of the journal's whole lines are
 /// answered again, by worker 0, and what stands behind them is cut; and then these events happen, one after the other.
 ///
 /// The errors are those of `open`, and hand the tape back. A life ends before its events do where the tape fails
 /// (`NotWritten`), or where there is no memory (`NoMemory`).
-pub fn live<K: Store, S: Script<Call, Reply> + Drop, T: Tape + Drop>(
+pub fn live<K: Store, S: Script<Call, Reply>, T: Tape + Drop>(
     alloc: Global,
     store: K,
-    script: S,
+    script: &S,
     tape: T,
     events: &[DayEvent<Call>],
-) -> Result<Life<K, S, T>, (OpenFault, T)>
+) -> Result<Life<K, T>, (OpenFault, T)>
     // What workers did is a run; what was told, the events say; and nothing that was told is lost.
     ensures lived { IfOk result (λ life. (xs : List ℕ) → T.holds tape xs
         → IsLived S.Script T.Tape (whole_lines xs) events.now life.0 life.1) }
@@ -48,18 +47,22 @@ pub fn live<K: Store, S: Script<Call, Reply> + Drop, T: Tape + Drop>(
         (xs : List ℕ) → IsSequential history → T.holds tape xs → Keeps S.Script history least xs
         → ¬ (IsOfLines e.0)) }
     ensures cause { IfErr result (λ e. e.0 ≡ OpenFault.NotRead → T.has_failed e.1) }
+    // A crash at any moment of an opening that fails leaves a file that stands for the same lines.
+    ensures any_moment { IfErr result (λ e. LeavesOnly T.Tape tape e.1
+        (StandsAs (T.may_leave tape))) }
 {
     let (run, journal) = open(alloc, store, script, tape)?;
-    Ok(go_on(alloc, run, journal, events))
+    Ok(go_on(alloc, script, run, journal, events))
 }
 
 /// What happens, one event after the other, until one cannot.
 fn go_on<K: Store, S: Script<Call, Reply>, T: Tape>(
     alloc: Global,
+    script: &S,
     begun: Run<Board<K>>,
-    opened: Journal<S, T>,
+    opened: Journal<T>,
     events: &[DayEvent<Call>],
-) -> Life<K, S, T>
+) -> Life<K, T>
     requires { IsGoing S.Script T.Tape begun opened }
     ensures { WentOn S.Script T.Tape (run_history begun) (course_of (run_events begun) opened)
         events.now result.0 result.1 }
@@ -67,7 +70,7 @@ fn go_on<K: Store, S: Script<Call, Reply>, T: Tape>(
     let mut run = begun;
     let mut journal = opened;
     for event in events {
-        match happen(alloc, run, &mut journal, event) {
+        match happen(alloc, script, run, &mut journal, event) {
             Ok(next) => run = next,
             Err(fault) => return (Err(fault), journal),
         }
@@ -78,8 +81,9 @@ fn go_on<K: Store, S: Script<Call, Reply>, T: Tape>(
 /// What one event asks for. `NotWritten` where the tape fails, `NoMemory` where there is no memory.
 fn happen<K: Store, S: Script<Call, Reply>, T: Tape>(
     alloc: Global,
+    script: &S,
     run: Run<Board<K>>,
-    journal: &mut Journal<S, T>,
+    journal: &mut Journal<T>,
     event: &DayEvent<Call>,
 ) -> Result<Run<Board<K>>, DayFault>
     requires { IsGoing S.Script T.Tape run journal.old }
@@ -100,7 +104,7 @@ fn happen<K: Store, S: Script<Call, Reply>, T: Tape>(
             Ok(next)
         }
         DayEvent::Flush => {
-            journal.flush(alloc, run.history())?;
+            journal.flush(alloc, script, run.history())?;
             Ok(run)
         }
         DayEvent::Tell(position) => {

@@ -9,21 +9,19 @@ ghost use Rattle.casa_tape.specs.Lines.{AreLines, StandsAs, journal_of, whole_li
 ghost use Rattle.casa_tape.specs.Journals.{LeavesOnly};
 ghost use Rattle.casa_day.specs.Scripts.{Says, Say};
 ghost use Rattle.casa_day.specs.Refusals.{IsOfLines, IsRefused, IsRefusedAt};
-ghost use Rattle.casa_day.specs.Days.{Keeps};
+ghost use Rattle.casa_day.specs.Journals.{Keeps};
 ghost use Rattle.casa_plan.specs.Rooms.{IsSequential};
 ghost use Rattle.casa_world.specs.Board.{sequential_reply};
 ghost use Rattle.casa_world.specs.Runs.{run_events, run_history};
 ghost use Rattle.casa_days.specs.Openings.{IsAgain, IsReopened, IsOpened, IsGoing};
 
-use crate::journal::Journal;
 use casa_commit::World;
-use casa_day::{OpenFault, Script, Told};
+use casa_day::{Journal, OpenFault, Script};
 use casa_flight::{Call, Reply};
 use casa_tape::{Tape, first_line, look, mend};
 use casa_view::{Board, Store};
 use casa_world::{Event, Run};
 use std::alloc::{AllocError, Global};
-use std::snapshot::Snapshot;
 
 /// The worker that answers the calls of the journal again.
 const JOURNAL_WORKER: u32 = 0;
@@ -34,12 +32,12 @@ const JOURNAL_WORKER: u32 = 0;
 /// An error hands the tape back: `NotRead` where the tape fails; `BadLine` at the first line that says no call at its
 /// position, or `ReplayDiffers` at the first whose call is now answered otherwise than it vouches, whichever comes first, and
 /// then the file is as it was; `NoMemory` where there is no memory.
-pub fn open<K: Store, S: Script<Call, Reply> + Drop, T: Tape + Drop>(
+pub fn open<K: Store, S: Script<Call, Reply>, T: Tape + Drop>(
     alloc: Global,
     store: K,
-    script: S,
+    script: &S,
     tape: T,
-) -> Result<(Run<Board<K>>, Journal<S, T>), (OpenFault, T)>
+) -> Result<(Run<Board<K>>, Journal<T>), (OpenFault, T)>
     ensures opened { IfOk result (λ opened. (xs : List ℕ) → T.holds tape xs
         → IsOpened S.Script T.Tape (whole_lines xs) opened.0 opened.1) }
     ensures running { IfOk result (λ opened. IsGoing S.Script T.Tape opened.0 opened.1) }
@@ -59,24 +57,15 @@ pub fn open<K: Store, S: Script<Call, Reply> + Drop, T: Tape + Drop>(
         (StandsAs (T.may_leave tape))) }
 {
     let mut tape = tape;
-    let run = match reopen(alloc, store, &script, &mut tape) {
+    let run = match reopen(alloc, store, script, &mut tape) {
         Ok(run) => run,
         Err(fault) => return Err((fault, tape)),
     };
-    let at = Snapshot::of(&tape);
-    let mut told = Vec::new(alloc);
     let journaled = run.history().len();
-    let position = journaled;
-    if told.push(Told { position, at }).is_err() {
-        return Err((OpenFault::NoMemory, tape));
+    match Journal::begin(alloc, tape, journaled) {
+        Ok(journal) => Ok((run, journal)),
+        Err(tape) => Err((OpenFault::NoMemory, tape)),
     }
-    let journal = Journal {
-        script,
-        tape,
-        journaled,
-        told,
-    };
-    Ok((run, journal))
 }
 
 /// Reads a journal, answers the calls of its whole lines again on an empty board, and then cuts what stands behind them.
@@ -152,7 +141,7 @@ fn answer_line<K: Store, S: Script<Call, Reply>>(
     let Some(entry) = next.history().entry(position) else {
         unreachable!();
     };
-    if !script.vouches(line, &entry.reply) {
+    if !script.vouches(alloc, position, line, &entry.reply)? {
         return Err(OpenFault::ReplayDiffers(position));
     }
     Ok(next)

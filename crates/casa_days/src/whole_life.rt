@@ -6,7 +6,7 @@ ghost use Rattle.casa_flight.specs.declared.reply.Reply.{Reply};
 ghost use Rattle.casa_history.specs.declared.entry.Entry.{Entry};
 ghost use Rattle.casa_plan.specs.Rooms.{IsSequential};
 ghost use Rattle.casa_tape.specs.Lines.{whole_lines};
-ghost use Rattle.casa_day.specs.Days.{Keeps};
+ghost use Rattle.casa_day.specs.Journals.{Keeps};
 ghost use Rattle.casa_day.specs.Refusals.{IsOfLines};
 ghost use Rattle.casa_days.specs.Lives.{IsLived};
 
@@ -20,13 +20,13 @@ use std::alloc::Global;
 
 /// A life on a file in memory with these bytes, whatever a crash made of them, with a board over this store. The errors are
 /// those of `open`, but for `NotRead`; a life ends before its events do where there is no memory.
-pub fn live_in_memory<K: Store, S: Script<Call, Reply> + Drop>(
+pub fn live_in_memory<K: Store, S: Script<Call, Reply>>(
     alloc: Global,
     store: K,
-    script: S,
+    script: &S,
     found: Vec<u8>,
     events: &[DayEvent<Call>],
-) -> Result<Life<K, S, MemoryTape>, OpenFault>
+) -> Result<Life<K, MemoryTape>, OpenFault>
     ensures lived { IfOk result (λ life. IsLived S.Script ⟦<MemoryTape as Tape>⟧
         (whole_lines found.items) events.now life.0 life.1) }
     ensures accepted { IfErr result (λ fault. (history : List (Entry Call Reply)) (least : ℕ)

@@ -1,5 +1,5 @@
 use Rattle.std.proofs.Common.{◌≡◌, ◌++◌, take}
-use Rattle.casa_day.specs.Days.{Grows}
+use Rattle.casa_day.specs.Journals.{Grows}
 use Rattle.casa_world.specs.Runs.{run_events, run_history}
 use Rattle.casa_days.specs.Deeds.{deeds_in}
 use Rattle.casa_days.specs.Courses.{course_of, GoOn}

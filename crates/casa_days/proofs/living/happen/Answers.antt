@@ -1,7 +1,8 @@
 use Rattle.std.proofs.Common.{◌≡◌, Err, length, sym, ap, subst, ◌∙◌, rules}
 use Rattle.std.specs.Prelude.{IfErr}
 use Rattle.casa_world.specs.Runs.{run_events, run_history}
-use Rattle.casa_days.specs.Journals.{IsSafe}
+use Rattle.casa_day.specs.Journals.{IsSafe}
+use Rattle.casa_day.proofs.Telling.{tell_running}
 use Rattle.casa_days.proofs.Going.{next_grows, next_goes}
 use Rattle.casa_days.proofs.Coursing.{flushed, told_on}
 use Rattle.casa_days.proofs.living.happen.Goals as goal
@@ -25,17 +26,19 @@ returns-in_ok-flush-in-Flush-clause-course g c =
 pub returns-in_ok-tell-in-Tell-clause-going : goal.returns-in_ok-tell-in-Tell-clause-going
 returns-in_ok-tell-in-Tell-clause-going g c = record {
   is_run = c.requires.is_run;
-  journaled = c.in_ok-tell-in-Tell.ensures.running (run_history c.args.run) c.requires.journaled;
+  journaled = tell_running g.S.Script g.T.Tape (run_history c.args.run) c.args.journal.now c.tell.new.self c.tell.result _ (g.met.T.Tape.only_now c.args.journal.now.tape)
+      c.tell.ensures.same c.tell.ensures.told c.tell.ensures.untold c.requires.journaled;
 }
 
 pub returns-in_ok-tell-in-Tell-clause-course : goal.returns-in_ok-tell-in-Tell-clause-course
 returns-in_ok-tell-in-Tell-clause-course g c =
     let done = c.in_ok-tell-in-Tell.ensures in
-    told_on c.args.event.now _ (run_events c.args.run) c.args.journal.now c.tell.new.self c.in-Tell.is done.journaled done.told
+    told_on c.args.event.now _ (run_events c.args.run) c.args.journal.now c.tell.new.self c.in-Tell.is done.same.1 done.told
 
 pub returns-in_err-tell-in-Tell-clause-safe : goal.returns-in_err-tell-in-Tell-clause-safe
 returns-in_err-tell-in-Tell-clause-safe g c =
     let told = c.in_err-tell-in-Tell in
     let is : c.from_residual-in_err-tell-in-Tell.result ≡ Err told.field-0.0 = search rules in
     subst (λ r. IfErr r (λ _. IsSafe g.S.Script g.T.Tape (run_history c.args.run) c.tell.new.self)) (sym is)
-    (told.ensures.running (run_history c.args.run) c.requires.journaled).safe
+    (tell_running g.S.Script g.T.Tape (run_history c.args.run) c.args.journal.now c.tell.new.self c.tell.result _ (g.met.T.Tape.only_now c.args.journal.now.tape)
+    c.tell.ensures.same c.tell.ensures.told c.tell.ensures.untold c.requires.journaled).safe

@@ -19,17 +19,17 @@ unreachable-requires g c =
     let none : entry_at c.args.position (entries c.history.result.now) ≡ None = sym c.entry.ensures ∙ ap option_copied c.in_default-entry.is in
     absurd (cc (sym none ∙ at))
 
-pub returns-then-not-vouches-clause-refused : goal.returns-then-not-vouches-clause-refused
-returns-then-not-vouches-clause-refused g c =
+pub returns-then-not-branch-clause-refused : goal.returns-then-not-branch-clause-refused
+returns-then-not-branch-clause-refused g c =
     let script = g.S.Script in
     let line = c.args.line.now in
     let h = run_history c.args.run in
     let e : Entry Call Reply = entry 0 c.in-Some.call (sequential_reply h c.in-Some.call) in
     let at = next_entry_at h (entries c.history.result.now) e c.args.position c.requires.position (c.history.ensures.same ∙ c.in_ok-next.ensures.history) in
     let is : c.in-Some-entry.entry.now ≡ e = same_Some c.in-Some-entry.entry.now e (sym (ap option_copied c.in-Some-entry.is) ∙ c.entry.ensures ∙ at) in
-    let not : script.vouches_for line c.in-Some-entry.entry.now.reply → ⊥ = search rules in
+    let not : script.vouches_for c.args.position line c.in-Some-entry.entry.now.reply → ⊥ = search rules in
     let said : script.says c.args.position line ≡ Some c.in-Some.call = search rules in
-    (refl, record { call = c.in-Some.call; said = said; other = not_vouched script h c.in-Some.call line (subst (λ x. script.vouches_for line x.reply → ⊥) is not) })
+    (refl, record { call = c.in-Some.call; said = said; other = not_vouched script h c.in-Some.call c.args.position line (subst (λ x. script.vouches_for c.args.position line x.reply → ⊥) is not) })
 
 pub returns-clause-said : goal.returns-clause-said
 returns-clause-said g c =
@@ -39,6 +39,6 @@ returns-clause-said g c =
     let e : Entry Call Reply = entry 0 c.in-Some.call (sequential_reply h c.in-Some.call) in
     let at = next_entry_at h (entries c.history.result.now) e c.args.position c.requires.position (c.history.ensures.same ∙ c.in_ok-next.ensures.history) in
     let is : c.in-Some-entry.entry.now ≡ e = same_Some c.in-Some-entry.entry.now e (sym (ap option_copied c.in-Some-entry.is) ∙ c.entry.ensures ∙ at) in
-    let vouched : script.vouches_for line c.in-Some-entry.entry.now.reply = search rules in
+    let vouched : script.vouches_for c.args.position line c.in-Some-entry.entry.now.reply = search rules in
     let said : script.says c.args.position line ≡ Some c.in-Some.call = search rules in
-    (e, record { call = said; reply = subst (λ x. script.vouches_for line x.reply) is vouched }, c.in_ok-next.ensures.history)
+    (e, record { call = said; reply = subst (λ x. script.vouches_for c.args.position line x.reply) is vouched }, c.in_ok-next.ensures.history)
