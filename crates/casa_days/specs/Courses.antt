@@ -3,42 +3,49 @@ use Rattle.std.specs.Prelude.{◌≡◌, ℕ, nat_lt, nat_le, ◌&&◌, if◌the
 use Rattle.casa_flight.specs.declared.call.Call.{Call}
 use Rattle.casa_flight.specs.declared.reply.Reply.{Reply}
 use Rattle.casa_history.specs.declared.entry.Entry.{Entry}
+use Rattle.casa_tape.specs.declared.tape.Tape.{Ghosts as TapeOf}
+use Rattle.casa_day.specs.declared.script.Script.{Ghosts as ScriptOf}
 use Rattle.casa_day.specs.declared.journal.Journal.{Journal}
-use Rattle.casa_day.specs.Scripts.{calls_in}
-use Rattle.casa_day.specs.Journals.{told_of}
+use Rattle.casa_day.specs.Journals.{IsRunning, IsToldNow}
 use Rattle.casa_world.specs.declared.event.Event.{Event}
 use Rattle.casa_world.specs.declared.event.Outcome.{Outcome}
 use Rattle.casa_world.specs.Scenes.{IsRun}
 use Rattle.casa_world.specs.Board.{sequential_reply, HasSameStamps}
 use Rattle.casa_days.specs.declared.event.DayEvent.{DayEvent}
 use Rattle.casa_days.specs.declared.event.DayEvent.TheVariants.{Do, Flush, Tell}
-use Rattle.casa_days.specs.Deeds.{again}
 
--- how far a day is: what its workers have done, how many entries the journal has, and the positions that were told
-pub record Course : Type 0 where
+-- how far a day is: what its workers have done, and the journal as it is then
+pub record Course (D : Type 0) : Type 0 where
   pub deeds : List (Event Call)
-  pub journaled : ℕ
-  pub told : List ℕ
+  pub journal : Journal D
 
--- how far the day of these deeds with this journal is
-abbrev pub course_of : {D : Type 0} → List (Event Call) → Journal D → Course
-course_of deeds journal = record { deeds = deeds; journaled = journal.journaled; told = told_of journal }
+-- the position of a reply that may be told: the journal has its entry
+abbrev pub tellable : {D : Type 0} → Journal D → ℕ → List ℕ
+tellable journal position = if nat_lt 0 position && nat_le position journal.journaled then position ∷ [] else []
 
--- at the opening the calls of these entries were answered again, and all of them count as told
-abbrev pub begun : List (Entry Call Reply) → Course
-begun first = record { deeds = again (calls_in first); journaled = length first; told = length first ∷ [] }
+-- after a flush the journal has the whole history of these deeds, on the disk; what was told is as before
+pub record IsFlushed {S D : Type 0} (script : ScriptOf S Call Reply) (T : TapeOf D) (deeds : List (Event Call)) (old new : Journal D) : Type 0 where
+  pub history : List (Entry Call Reply)
+  pub outcomes : ℕ → Option Outcome
+  pub is_run : IsRun sequential_reply HasSameStamps deeds history outcomes
+  pub running : IsRunning script T history new
+  pub all : new.journaled ≡ length history
+  pub told : new.told.items ≡ old.told.items
 
--- an event leads on: a deed is done; a flush journals the whole history of the deeds; a reply is told where the journal has its
--- entry
-abbrev pub GoesOn : DayEvent Call → Course → Course → Type 0
-GoesOn (Do deed) a b = b ≡ record a { deeds = a.deeds ++ deed ∷ [] }
-GoesOn Flush a b =
-    (history : List (Entry Call Reply)) × (outcomes : ℕ → Option Outcome)
-    × IsRun sequential_reply HasSameStamps a.deeds history outcomes × (b ≡ record a { journaled = length history })
-GoesOn (Tell position) a b =
-    b ≡ (if nat_lt 0 position && nat_le position a.journaled then record a { told = a.told ++ position ∷ [] } else a)
+-- a reply is told now, on the tape as it is, where the journal has its entry; the journal is as before
+pub record IsTold {D : Type 0} (position : ℕ) (old new : Journal D) : Type 0 where
+  pub tape : new.tape ≡ old.tape
+  pub journaled : new.journaled ≡ old.journaled
+  pub now : IsToldNow old new (tellable old position)
 
--- one event after the other
-abbrev pub GoOn : List (DayEvent Call) → Course → Course → Type 0
-GoOn [] a b = b ≡ a
-GoOn (event ∷ events) a b = (k : Course) × GoesOn event a k × GoOn events k b
+module _ {S D : Type 0} (script : ScriptOf S Call Reply) (T : TapeOf D) where
+  -- an event leads on: a deed is done; the history of the deeds is journaled; a reply is told
+  abbrev pub GoesOn : DayEvent Call → Course D → Course D → Type 0
+  GoesOn (Do deed) a b = (b.deeds ≡ a.deeds ++ deed ∷ []) × (b.journal ≡ a.journal)
+  GoesOn Flush a b = (b.deeds ≡ a.deeds) × IsFlushed script T a.deeds a.journal b.journal
+  GoesOn (Tell position) a b = (b.deeds ≡ a.deeds) × IsTold position a.journal b.journal
+
+  -- one event after the other
+  abbrev pub GoOn : List (DayEvent Call) → Course D → Course D → Type 0
+  GoOn [] a b = b ≡ a
+  GoOn (event ∷ events) a b = (k : Course D) × GoesOn event a k × GoOn events k b

@@ -1,45 +1,53 @@
 -- to believe: what a life leaves, whenever it is cut short
-use Rattle.std.specs.Prelude.{◌≡◌, ℕ, Option, List, ◌++◌, length, take, Result, OnOk, IfOk, IsErrOf}
+use Rattle.std.specs.Prelude.{◌≡◌, ℕ, Option, List, length, take, Result, OnOk, IfOk, IsErrOf}
 use Rattle.casa_flight.specs.declared.call.Call.{Call}
 use Rattle.casa_flight.specs.declared.reply.Reply.{Reply}
 use Rattle.casa_history.specs.declared.entry.Entry.{Entry}
 use Rattle.casa_tape.specs.declared.tape.Tape.{Ghosts as TapeOf}
+use Rattle.casa_tape.specs.Lines.{StandsAs}
+use Rattle.casa_tape.specs.Journals.{LeavesOnly}
 use Rattle.casa_day.specs.declared.script.Script.{Ghosts as ScriptOf}
 use Rattle.casa_day.specs.declared.event.DayFault.{DayFault}
 use Rattle.casa_day.specs.declared.event.DayFault.TheVariants.{NotWritten}
-use Rattle.casa_day.specs.Scripts.{Say}
 use Rattle.casa_day.specs.declared.journal.Journal.{Journal}
-use Rattle.casa_day.specs.Journals.{Grows, IsSafe}
+use Rattle.casa_day.specs.Scripts.{Say, calls_in}
+use Rattle.casa_day.specs.Journals.{Grows, IsBegun, IsSafe}
 use Rattle.casa_world.specs.declared.event.Outcome.{Outcome}
 use Rattle.casa_world.specs.Scenes.{IsRun}
 use Rattle.casa_world.specs.Board.{sequential_reply, HasSameStamps}
-use Rattle.casa_world.specs.Runs.{Played, run_history, run_outcomes}
+use Rattle.casa_world.specs.Runs.{Played, run_events, run_history, run_outcomes}
 use Rattle.casa_days.specs.declared.event.DayEvent.{DayEvent}
-use Rattle.casa_days.specs.Deeds.{deeds_in}
-use Rattle.casa_days.specs.Courses.{Course, course_of, begun, GoOn}
+use Rattle.casa_days.specs.Deeds.{again}
+use Rattle.casa_days.specs.Courses.{Course, GoOn}
 
 -- From a course with this history on, where these events were asked for, a day came to this end and left this journal.
-pub record WentOn {B S D : Type 0} (script : ScriptOf S Call Reply) (T : TapeOf D) (before : List (Entry Call Reply)) (course : Course)
+pub record WentOn {B S D : Type 0} (script : ScriptOf S Call Reply) (T : TapeOf D) (before : List (Entry Call Reply)) (course : Course D)
     (events : List (DayEvent Call)) (end : Result (Played B Call Reply) DayFault) (journal : Journal D) : Type 0 where
-  -- so many of the events happened, and all of them where it ended well
+  -- the first so many of the events happened, and all of them where it ended well, and led to this course
   pub happened : ℕ
   pub all : OnOk end (happened ≡ length events)
-  -- with the deeds among them there is a run, whose history begins with the one before
+  pub last : Course D
+  pub goes_on : GoOn script T (take happened events) course last
+  -- its deeds are those of a run, whose history begins with the one before
   pub history : List (Entry Call Reply)
   pub outcomes : ℕ → Option Outcome
-  pub is_run : IsRun sequential_reply HasSameStamps (course.deeds ++ deeds_in (take happened events)) history outcomes
+  pub is_run : IsRun sequential_reply HasSameStamps last.deeds history outcomes
   pub begins : Grows before history
-  pub same : IfOk end (λ run. (run_history run ≡ history) × ((w : ℕ) → run_outcomes run w ≡ outcomes w))
-  -- what was journaled and told is what they say
-  pub goes_on : GoOn (take happened events) course (course_of (course.deeds ++ deeds_in (take happened events)) journal)
-  -- a crash at any moment since a reply was told leaves a file that has its entry, and all before it
+  pub same : IfOk end (λ run. (run_events run ≡ last.deeds) × (run_history run ≡ history) × ((w : ℕ) → run_outcomes run w ≡ outcomes w) × (journal ≡ last.journal))
+  -- where the next event failed, no reply more was told
+  pub told : journal.told.items ≡ last.journal.told.items
+  -- a crash at any moment since a reply was told leaves a file that has its call, and all before it
   pub safe : IsSafe script T history journal
   -- `NotWritten` is told only of a tape that has failed
   pub cause : IsErrOf end NotWritten → T.has_failed journal.tape
 
 -- a life on a file of these lines: they say entries, whose calls are answered again, and then the day goes on
-pub record IsLived {B S D : Type 0} (script : ScriptOf S Call Reply) (T : TapeOf D) (lines : List (List ℕ)) (events : List (DayEvent Call))
+pub record IsLived {B S D : Type 0} (script : ScriptOf S Call Reply) (T : TapeOf D) (tape : D) (lines : List (List ℕ)) (events : List (DayEvent Call))
     (end : Result (Played B Call Reply) DayFault) (journal : Journal D) : Type 0 where
   pub first : List (Entry Call Reply)
   pub said : Say script 1 lines first
-  pub went_on : WentOn script T first (begun first) events end journal
+  pub opening : Journal D
+  pub begun : IsBegun opening.tape (length first) opening
+  -- a crash at any moment of the opening leaves a file that stands for the same lines
+  pub any_moment : LeavesOnly T tape opening.tape (StandsAs (T.may_leave tape))
+  pub went_on : WentOn script T first (record { deeds = again (calls_in first); journal = opening }) events end journal

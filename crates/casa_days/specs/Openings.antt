@@ -1,5 +1,5 @@
 -- to believe: a journal whose calls are answered again
-use Rattle.std.specs.Prelude.{◌≡◌, ℕ, List}
+use Rattle.std.specs.Prelude.{◌≡◌, ℕ, List, length}
 use Rattle.casa_flight.specs.declared.call.Call.{Call}
 use Rattle.casa_flight.specs.declared.reply.Reply.{Reply}
 use Rattle.casa_tape.specs.declared.tape.Tape.{Ghosts as TapeOf}
@@ -8,12 +8,11 @@ use Rattle.casa_tape.specs.Journals.{IsSettled}
 use Rattle.casa_day.specs.declared.script.Script.{Ghosts as ScriptOf}
 use Rattle.casa_day.specs.declared.journal.Journal.{Journal}
 use Rattle.casa_day.specs.Scripts.{calls_in, Say}
-use Rattle.casa_day.specs.Journals.{IsRunning}
+use Rattle.casa_day.specs.Journals.{IsBegun, IsRunning}
 use Rattle.casa_world.specs.Scenes.{IsRun}
 use Rattle.casa_world.specs.Board.{sequential_reply, HasSameStamps}
 use Rattle.casa_world.specs.Runs.{Played, run_events, run_history, run_outcomes}
 use Rattle.casa_days.specs.Deeds.{again}
-use Rattle.casa_days.specs.Courses.{course_of, begun}
 
 module _ {B : Type 0} where
   -- a run of a board
@@ -29,7 +28,8 @@ module _ {B : Type 0} where
   pub record IsOpened {S D : Type 0} (script : ScriptOf S Call Reply) (T : TapeOf D) (lines : List (List ℕ)) (run : Played B Call Reply) (journal : Journal D) : Type 0 where
     pub said : Say script 1 lines (run_history run)
     pub is_run : IsBoardRun run
-    pub course : course_of (run_events run) journal ≡ begun (run_history run)
+    pub events : run_events run ≡ again (calls_in (run_history run))
+    pub begun : IsBegun journal.tape (length (run_history run)) journal
 
   -- inner: the lines that were found in a file are settled on the tape, and say the history of such a run
   pub record IsReopened {S D : Type 0} (script : ScriptOf S Call Reply) (T : TapeOf D) (old new : D) (run : Played B Call Reply) : Type 0 where

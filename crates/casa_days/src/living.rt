@@ -7,16 +7,16 @@ ghost use Rattle.casa_history.specs.declared.entry.Entry.{Entry};
 ghost use Rattle.casa_plan.specs.Rooms.{IsSequential};
 ghost use Rattle.casa_tape.specs.Lines.{StandsAs, whole_lines};
 ghost use Rattle.casa_tape.specs.Journals.{LeavesOnly};
-ghost use Rattle.casa_day.specs.Journals.{told_of, Grows, IsSafe, Keeps};
-ghost use Rattle.casa_day.specs.Refusals.{IsOfLines};
+ghost use Rattle.casa_day.specs.Journals.{Grows, IsSafe, Keeps};
+ghost use Rattle.casa_day.specs.Refusals.{IsOfLines, IsRefused};
 ghost use Rattle.casa_world.specs.Runs.{run_events, run_history};
-ghost use Rattle.casa_days.specs.Deeds.{deeds_in};
-ghost use Rattle.casa_days.specs.Courses.{course_of, GoesOn};
+ghost use Rattle.casa_days.specs.Courses.{GoesOn};
 ghost use Rattle.casa_days.specs.Openings.{IsGoing};
 ghost use Rattle.casa_days.specs.Lives.{IsLived, WentOn};
 
 use crate::event::DayEvent;
 use crate::opening::open;
+use casa_commit::World;
 use casa_day::{DayFault, Journal, OpenFault, Script};
 use casa_flight::{Call, Reply};
 use casa_tape::Tape;
@@ -41,11 +41,15 @@ pub fn live<K: Store, S: Script<Call, Reply>, T: Tape + Drop>(
 ) -> Result<Life<K, T>, (OpenFault, T)>
     // What workers did is a run; what was told, the events say; and nothing that was told is lost.
     ensures lived { IfOk result (λ life. (xs : List ℕ) → T.holds tape xs
-        → IsLived S.Script T.Tape (whole_lines xs) events.now life.0 life.1) }
+        → IsLived S.Script T.Tape tape (whole_lines xs) events.now life.0 life.1) }
     // No file that a life left is refused.
     ensures accepted { IfErr result (λ e. (history : List (Entry Call Reply)) (least : ℕ)
         (xs : List ℕ) → IsSequential history → T.holds tape xs → Keeps S.Script history least xs
         → ¬ (IsOfLines e.0)) }
+    ensures refused { IfErr result (λ e. IsOfLines e.0 → (xs : List ℕ) → T.holds tape xs
+        → IsRefused S.Script ⟦<Board<K> as World>⟧ (whole_lines xs) e.0) }
+    ensures untouched { IfErr result (λ e. IsOfLines e.0 → (xs : List ℕ)
+        → T.holds e.1 xs ↔ T.holds tape xs) }
     ensures cause { IfErr result (λ e. e.0 ≡ OpenFault.NotRead → T.has_failed e.1) }
     // A crash at any moment of an opening that fails leaves a file that stands for the same lines.
     ensures any_moment { IfErr result (λ e. LeavesOnly T.Tape tape e.1
@@ -64,8 +68,8 @@ fn go_on<K: Store, S: Script<Call, Reply>, T: Tape>(
     events: &[DayEvent<Call>],
 ) -> Life<K, T>
     requires { IsGoing S.Script T.Tape begun opened }
-    ensures { WentOn S.Script T.Tape (run_history begun) (course_of (run_events begun) opened)
-        events.now result.0 result.1 }
+    ensures { WentOn S.Script T.Tape (run_history begun)
+        (record { deeds = run_events begun; journal = opened }) events.now result.0 result.1 }
 {
     let mut run = begun;
     let mut journal = opened;
@@ -89,13 +93,11 @@ fn happen<K: Store, S: Script<Call, Reply>, T: Tape>(
     requires { IsGoing S.Script T.Tape run journal.old }
     ensures going { IfOk result (λ next. IsGoing S.Script T.Tape next journal.new) }
     ensures grows { IfOk result (λ next. Grows (run_history run) (run_history next)) }
-    ensures deeds { IfOk result (λ next. run_events next
-        ≡ run_events run ++ deeds_in (event.now ∷ [])) }
-    ensures course { IfOk result (λ next. GoesOn event.now (course_of (run_events run) journal.old)
-        (course_of (run_events next) journal.new)) }
+    ensures course { IfOk result (λ next. GoesOn S.Script T.Tape event.now
+        (record { deeds = run_events run; journal = journal.old })
+        (record { deeds = run_events next; journal = journal.new })) }
     ensures safe { IfErr result (λ _. IsSafe S.Script T.Tape (run_history run) journal.new) }
-    ensures stays { IfErr result (λ _. (journal.new.journaled ≡ journal.old.journaled)
-        × (told_of journal.new ≡ told_of journal.old)) }
+    ensures told { IfErr result (λ _. journal.new.told.items ≡ journal.old.told.items) }
     ensures cause { IsErrOf result DayFault.NotWritten → T.has_failed journal.new.tape }
 {
     match event {

@@ -5,17 +5,19 @@ ghost use Rattle.casa_flight.specs.declared.call.Call.{Call};
 ghost use Rattle.casa_flight.specs.declared.reply.Reply.{Reply};
 ghost use Rattle.casa_history.specs.declared.entry.Entry.{Entry};
 ghost use Rattle.casa_plan.specs.Rooms.{IsSequential};
+ghost use Rattle.casa_tape.specs.declared.memory.MemoryTape.{MemoryTape as TapeInMemory};
 ghost use Rattle.casa_tape.specs.Lines.{whole_lines};
 ghost use Rattle.casa_day.specs.Journals.{Keeps};
-ghost use Rattle.casa_day.specs.Refusals.{IsOfLines};
+ghost use Rattle.casa_day.specs.Refusals.{IsOfLines, IsRefused};
 ghost use Rattle.casa_days.specs.Lives.{IsLived};
 
 use crate::event::DayEvent;
 use crate::living::{Life, live};
+use casa_commit::World;
 use casa_day::{DayFault, OpenFault, Script};
 use casa_flight::{Call, Reply};
 use casa_tape::{MemoryTape, Tape};
-use casa_view::Store;
+use casa_view::{Board, Store};
 use std::alloc::Global;
 
 /// A life on a file in memory with these bytes, whatever a crash made of them, with a board over this store. The errors are
@@ -27,8 +29,12 @@ pub fn live_in_memory<K: Store, S: Script<Call, Reply>>(
     found: Vec<u8>,
     events: &[DayEvent<Call>],
 ) -> Result<Life<K, MemoryTape>, OpenFault>
-    ensures lived { IfOk result (λ life. IsLived S.Script ⟦<MemoryTape as Tape>⟧
-        (whole_lines found.items) events.now life.0 life.1) }
+    ensures lived { IfOk result (λ life. (tape : TapeInMemory)
+        × ⟦<MemoryTape as Tape>⟧.holds tape found.items
+        × IsLived S.Script ⟦<MemoryTape as Tape>⟧ tape (whole_lines found.items) events.now
+        life.0 life.1) }
+    ensures refused { IfErr result (λ fault. IsOfLines fault
+        → IsRefused S.Script ⟦<Board<K> as World>⟧ (whole_lines found.items) fault) }
     ensures accepted { IfErr result (λ fault. (history : List (Entry Call Reply)) (least : ℕ)
         → IsSequential history → Keeps S.Script history least found.items → ¬ (IsOfLines fault)) }
     ensures never_fails { IsErrOf result OpenFault.NotRead → ⊥ }

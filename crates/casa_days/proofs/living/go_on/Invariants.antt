@@ -1,8 +1,7 @@
-use Rattle.std.proofs.Common.{◌≡◌, ◌++◌, take}
+use Rattle.std.proofs.Common.{take}
 use Rattle.casa_day.specs.Journals.{Grows}
 use Rattle.casa_world.specs.Runs.{run_events, run_history}
-use Rattle.casa_days.specs.Deeds.{deeds_in}
-use Rattle.casa_days.specs.Courses.{course_of, GoOn}
+use Rattle.casa_days.specs.Courses.{GoOn}
 use Rattle.casa_days.specs.Openings.{IsGoing}
 use Rattle.casa_days.proofs.living.go_on.Given as goal
 
@@ -11,6 +10,5 @@ abbrev pub invariant-loop-event : goal.invariant-loop-event
 invariant-loop-event g l = record {
   going : IsGoing g.S.Script g.T.Tape l.run l.journal;
   grown : Grows (run_history l.fn.begun) (run_history l.run);
-  deeds : run_events l.run ≡ run_events l.fn.begun ++ deeds_in (take l.event-index l.events);
-  goes_on : GoOn (take l.event-index l.events) (course_of (run_events l.fn.begun) l.fn.opened) (course_of (run_events l.run) l.journal);
+  goes_on : GoOn g.S.Script g.T.Tape (take l.event-index l.events) (record { deeds = run_events l.fn.begun; journal = l.fn.opened }) (record { deeds = run_events l.run; journal = l.journal });
 }

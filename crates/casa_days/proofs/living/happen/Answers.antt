@@ -1,10 +1,10 @@
 use Rattle.std.proofs.Common.{◌≡◌, Err, length, sym, ap, subst, ◌∙◌, rules}
 use Rattle.std.specs.Prelude.{IfErr}
 use Rattle.casa_world.specs.Runs.{run_events, run_history}
-use Rattle.casa_day.specs.Journals.{IsSafe}
+use Rattle.casa_day.specs.Journals.{IsRunning, IsSafe}
 use Rattle.casa_day.proofs.Telling.{tell_running}
 use Rattle.casa_days.proofs.Going.{next_grows, next_goes}
-use Rattle.casa_days.proofs.Coursing.{flushed, told_on}
+use Rattle.casa_days.proofs.Coursing.{done, flushed, told_on}
 use Rattle.casa_days.proofs.living.happen.Goals as goal
 
 pub returns-in_ok-next-in-Do-clause-going : goal.returns-in_ok-next-in-Do-clause-going
@@ -17,11 +17,17 @@ returns-in_ok-next-in-Do-clause-grows g c =
     let next = c.in_ok-next-in-Do in
     next_grows c.args.run next.next _ c.requires.is_run next.ensures.run next.ensures.events
 
+pub returns-in_ok-next-in-Do-clause-course : goal.returns-in_ok-next-in-Do-clause-course
+returns-in_ok-next-in-Do-clause-course g c =
+    let next = c.in_ok-next-in-Do in
+    done g.S.Script g.T.Tape c.args.event.now _ (run_events c.args.run) (run_events next.next) c.args.journal.now c.in-Do.is next.ensures.events
+
 pub returns-in_ok-flush-in-Flush-clause-course : goal.returns-in_ok-flush-in-Flush-clause-course
 returns-in_ok-flush-in-Flush-clause-course g c =
     let done = c.in_ok-flush-in-Flush.ensures in
-    flushed c.args.event.now c.args.run c.args.journal.now c.flush.new.self c.in-Flush.is c.requires.is_run
-    (done.all ∙ ap (λ es. length es) c.history.ensures.same) done.told
+    let history = c.history.ensures.same in
+    flushed g.S.Script g.T.Tape c.args.event.now c.args.run c.args.journal.now c.flush.new.self c.in-Flush.is c.requires.is_run
+    (subst (λ es. IsRunning g.S.Script g.T.Tape es c.flush.new.self) history done.running) (done.all ∙ ap (λ es. length es) history) done.told
 
 pub returns-in_ok-tell-in-Tell-clause-going : goal.returns-in_ok-tell-in-Tell-clause-going
 returns-in_ok-tell-in-Tell-clause-going g c = record {
@@ -33,7 +39,7 @@ returns-in_ok-tell-in-Tell-clause-going g c = record {
 pub returns-in_ok-tell-in-Tell-clause-course : goal.returns-in_ok-tell-in-Tell-clause-course
 returns-in_ok-tell-in-Tell-clause-course g c =
     let done = c.in_ok-tell-in-Tell.ensures in
-    told_on c.args.event.now _ (run_events c.args.run) c.args.journal.now c.tell.new.self c.in-Tell.is done.same.1 done.told
+    told_on g.S.Script g.T.Tape c.args.event.now _ (run_events c.args.run) c.args.journal.now c.tell.new.self c.in-Tell.is done.same done.told
 
 pub returns-in_err-tell-in-Tell-clause-safe : goal.returns-in_err-tell-in-Tell-clause-safe
 returns-in_err-tell-in-Tell-clause-safe g c =

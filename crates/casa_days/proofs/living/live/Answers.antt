@@ -1,6 +1,5 @@
 use Rattle.std.proofs.Common.{subst}
 use Rattle.casa_world.specs.Runs.{run_history}
-use Rattle.casa_days.specs.Courses.{Course}
 use Rattle.casa_days.specs.Lives.{WentOn}
 use Rattle.casa_days.proofs.living.live.Goals as goal
 
@@ -8,8 +7,12 @@ pub returns-clause-lived : goal.returns-clause-lived
 returns-clause-lived g c xs held =
     let opened = c.in_ok-run.ensures.opened xs held in
     let first = run_history c.in_ok-run.run' in
+    let opening = c.in_ok-run.journal in
     record {
       first = first;
       said = opened.said;
-      went_on = subst (λ (a : Course). WentOn g.S.Script g.T.Tape first a c.args.events.now c.go_on.result.0 c.go_on.result.1) opened.course c.go_on.ensures;
+      opening = opening;
+      begun = opened.begun;
+      any_moment = c.in_ok-run.ensures.any_moment;
+      went_on = subst (λ deeds. WentOn g.S.Script g.T.Tape first (record { deeds = deeds; journal = opening }) c.args.events.now c.go_on.result.0 c.go_on.result.1) opened.events c.go_on.ensures;
     }

@@ -1,9 +1,7 @@
-use Rattle.std.proofs.Common.{◌≡◌, ◌∷◌, [], length, map, ◌∙◌, ap, subst}
+use Rattle.std.proofs.Common.{◌≡◌, length, refl, sym, ◌∙◌, ap, subst}
 use Rattle.std.specs.Prelude.{take}
 use Rattle.casa_tape.specs.Lines.{whole_lines}
-use Rattle.casa_day.specs.declared.journal.Told.{Told}
 use Rattle.casa_day.specs.Scripts.{Say}
-use Rattle.casa_day.specs.Journals.{told_of}
 use Rattle.casa_day.proofs.Following.{not_refused}
 use Rattle.casa_day.proofs.Keeping.{running_begun}
 use Rattle.casa_world.specs.Runs.{run_history}
@@ -21,11 +19,18 @@ returns-in-Ok-begin-clause-opened g c xs held =
     let run = c.in-Ok.run' in
     let begun = c.in-Ok-begin.ensures.begun in
     let count : c.len-journaled.result ≡ length (run_history run) = c.len-journaled.ensures ∙ ap (λ es. length es) c.history.ensures.same in
-    let told : told_of c.in-Ok-begin.journal ≡ length (run_history run) ∷ [] = ap (map (λ (u : Told _). u.position)) begun.alone ∙ ap (λ n. n ∷ []) (begun.all ∙ count) in
     record {
       said = subst (λ ls. Say g.S.Script 1 ls (run_history run)) (r.found xs held) r.said;
       is_run = r.answered.is_run;
-      course = λ i. record { deeds = r.answered.events i; journaled = (begun.journaled ∙ count) i; told = told i };
+      events = r.answered.events;
+      begun = record {
+        tape_is = refl;
+        journaled = begun.journaled ∙ count;
+        opening = begun.opening;
+        alone = begun.alone;
+        all = begun.all ∙ count;
+        now = begun.now ∙ sym begun.tape_is;
+      };
     }
 
 pub returns-in-Ok-begin-clause-running : goal.returns-in-Ok-begin-clause-running

@@ -5,7 +5,9 @@ use Rattle.casa_tape.specs.Recovery.{lines_found}
 use Rattle.casa_tape.proofs.WholeLines.{parts}
 use Rattle.casa_day.specs.Faults.{open_fault}
 use Rattle.casa_day.proofs.Restoring.{stands_on}
-use Rattle.casa_days.proofs.Refusing.{if_err, refused_same, not_of_lines, cause_of}
+use Rattle.casa_day.proofs.Coursing.{if_err}
+use Rattle.casa_day.proofs.Restoring.{refused_same}
+use Rattle.casa_days.proofs.Refusing.{not_of_lines, cause_of}
 use Rattle.casa_days.proofs.opening.reopen.Goals as goal
 
 pub returns-in_err-run-clause-refused : goal.returns-in_err-run-clause-refused

@@ -1,7 +1,7 @@
 use Rattle.std.proofs.Common.{◌≡◌, ◌+◌, ◌∷◌, [], length, Err, ◌∙◌, ap, arith, rules, length-append}
 use Rattle.casa_day.proofs.Replaying.{replay_goes_on, replay_ends, replay_refused}
 use Rattle.casa_world.specs.Runs.{run_events, run_history, run_outcomes}
-use Rattle.casa_days.proofs.Refusing.{if_err}
+use Rattle.casa_day.proofs.Coursing.{if_err}
 use Rattle.casa_days.proofs.Legal.{legal, sequential_run}
 use Rattle.casa_days.proofs.opening.replay.Goals as goal
 
