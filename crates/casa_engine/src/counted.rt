@@ -1,4 +1,4 @@
-ghost use Rattle.std.specs.Prelude.{◌≡◌, ◌+◌, ◌<◌, ◌≤◌, ◌↔◌, ℕ, [], ◌∷◌, ◌++◌, length, Err, IfOk, IfErr, OnOk, OnErr};
+ghost use Rattle.std.specs.Prelude.{◌≡◌, ◌+◌, ◌<◌, ◌≤◌, ◌^◌, ◌↔◌, ℕ, [], ◌∷◌, ◌++◌, length, Err, IfOk, IfErr, OnOk, OnErr};
 ghost use mathlib.Core.List.{IsPrefix};
 ghost use Rattle.casa_history.specs.Entries.{entries, receipts, number_of, desk_of};
 ghost use Rattle.casa_history.specs.Settlement.{IsSettled};
@@ -23,7 +23,7 @@ use crate::shared::Shareable;
 use casa_commit::{CallFault, CommitFault, DeskFault, Gate, Prepared, Room, World, commit};
 use casa_flight::{Call, Reply};
 use casa_front::{Front, Keeper, Opened};
-use casa_history::{History, Receipt, Settled, Torn, settle};
+use casa_history::{History, Receipt, Settled, SharedEntry, Torn, settle};
 use casa_list::SharedList;
 use casa_view::{Board, Store};
 use std::alloc::{AllocError, Global};
@@ -106,6 +106,28 @@ impl<W: World, L: EngineName> CountedRoom<W, L> {
         self.keeper.knows(front);
         *front = self.keeper.front();
         self.room.history().len()
+    }
+
+    /// The entries behind those that a front has seen, so many, and lets it see all of the history, which is legal.
+    /// `AllocError` where there is no memory for that, or an entry is shared too often to be counted; the front is then as it
+    /// was.
+    pub(crate) fn entries_behind(
+        &mut self,
+        alloc: Global,
+        front: &mut Front<W::Call, W::Reply, L>,
+        count: usize,
+    ) -> Result<Vec<SharedEntry<W::Call, W::Reply>>, AllocError>
+        requires { count ≡ length front.old }
+        ensures behind { IfOk result (λ es. front.new ≡ front.old ++ es.items) }
+        ensures fits { OnOk result (length front.new < 2 ^ 64) }
+        ensures legal { OnOk result (IsLegal W.after W.reply W.opening front.new) }
+        ensures same_front { OnErr result (front.new ≡ front.old) }
+        ensures same { self.new.room ≡ self.old.room }
+    {
+        self.keeper.knows(front);
+        let behind = shared_all(alloc, &self.room.history().entries()[count..])?;
+        *front = self.keeper.front();
+        Ok(behind)
     }
 
     /// Opens the next desk and gives its pass; `TooManyDesks` where 1,024 are open, else `NoMemory` where there is no
@@ -264,6 +286,20 @@ fn enter<C, R, L: EngineName>(
 {
     keeper.push(front, &receipt.entry);
     book.add(share, 1);
+}
+
+/// These entries, shared. `AllocError` as of `entries_behind`.
+fn shared_all<C: Drop, R: Drop>(
+    alloc: Global,
+    entries: &[SharedEntry<C, R>],
+) -> Result<Vec<SharedEntry<C, R>>, AllocError>
+    ensures { IfOk result (λ all. all.items ≡ entries.now) }
+{
+    let mut all = Vec::with_capacity(alloc, entries.len())?;
+    for entry in entries {
+        all.push(entry.share()?)?;
+    }
+    Ok(all)
 }
 
 /// What these passes have seen is each a beginning of what the keeper has.

@@ -1,4 +1,4 @@
-ghost use Rattle.std.specs.Prelude.{◌≡◌, ◌<◌, ◌≤◌, ◌↔◌, ℕ, true, [], length, IfOk, IfErr, OnErr};
+ghost use Rattle.std.specs.Prelude.{◌≡◌, ◌<◌, ◌≤◌, ◌^◌, ◌↔◌, ◌++◌, ℕ, true, [], length, IfOk, IfErr, OnErr, OnOk};
 ghost use mathlib.Core.List.{IsPrefix};
 ghost use Rattle.casa_history.specs.Entries.{entries, receipts};
 ghost use Rattle.casa_history.specs.Settlement.{IsSettled};
@@ -16,9 +16,9 @@ use crate::parts::AllParts;
 use crate::pass::CountedPass;
 use casa_commit::{CallFault, CommitFault, DeskFault, Gate, World, prepare};
 use casa_front::{Front, Opened};
-use casa_history::{History, Receipt, Settled, Torn};
+use casa_history::{History, Receipt, Settled, SharedEntry, Torn};
 use casa_plan::Direct;
-use std::alloc::Global;
+use std::alloc::{AllocError, Global};
 use std::hint::spin_loop;
 use std::sync::ledger::Blank;
 use std::sync::{Mutex, MutexGuard, Wait};
@@ -121,6 +121,24 @@ where
         ensures legal { IsLegal W.after W.reply W.opening front.new }
     {
         self.held(rt).see(front)
+    }
+
+    /// Lets a front that has seen so many entries see the history as it is now, as `see` does, and shares those that it had
+    /// not seen. `AllocError` where there is no memory for that, or where an entry is shared too often to be counted; the
+    /// front is then as it was.
+    pub fn entries_behind<R: Wait>(
+        &self,
+        rt: &R,
+        front: &mut Front<W::Call, W::Reply, L>,
+        count: usize,
+    ) -> Result<Vec<SharedEntry<W::Call, W::Reply>>, AllocError>
+        requires { count ≡ length front.old }
+        ensures behind { IfOk result (λ es. front.new ≡ front.old ++ es.items) }
+        ensures fits { OnOk result (length front.new < 2 ^ 64) }
+        ensures legal { OnOk result (IsLegal W.after W.reply W.opening front.new) }
+        ensures same_front { OnErr result (front.new ≡ front.old) }
+    {
+        self.held(rt).entries_behind(self.alloc, front, count)
     }
 
     /// The history as it is now, which is legal, and begins with what each of these fronts has seen.
