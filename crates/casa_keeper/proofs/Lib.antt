@@ -1,0 +1,4 @@
+mod Beginning
+mod Writing
+mod Answered
+mod Agreeing

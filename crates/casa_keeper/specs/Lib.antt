@@ -1,0 +1,4 @@
+pub mod Keepings
+pub mod Hands
+pub mod Turns
+pub mod Recoveries

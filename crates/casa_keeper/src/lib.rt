@@ -1,0 +1,17 @@
+//! The journal of an engine: a file of the system, and who writes it for the desks of all threads.
+//!
+//! Nobody waits for the disk under the engine's lock. Who finds the journal idle writes all entries that it lacks, with one
+//! write and one sync, and the others wait for that.
+#![tactic(auto)]
+
+mod file;
+mod opening;
+mod recovery;
+mod shared;
+mod synced;
+
+pub use file::{FileFault, FileTape};
+pub use opening::{Aside, open};
+pub use recovery::{RecoveryFault, replay};
+pub use shared::{SharedJournal, Unkept};
+pub use synced::Synced;

@@ -1,0 +1,265 @@
+//! The journal behind a lock.
+
+ghost use Rattle.std.specs.Prelude.{◌≡◌, ◌+◌, ◌≤◌, List, ℕ, length, IfOk, IfSome};
+ghost use mathlib.Core.List.{IsPrefix};
+ghost use Rattle.casa_tape.specs.Journals.{IsSettled};
+ghost use Rattle.casa_day.specs.Scripts.{Say};
+ghost use Rattle.casa_keeper.specs.Keepings.{Has};
+ghost use Rattle.casa_keeper.specs.Hands.{IsInHand};
+
+use crate::synced::Synced;
+use casa_day::{Journal, Script, text_of};
+use casa_engine::{Engine, EngineName, Gate};
+use casa_flight::{Call, Reply};
+use casa_front::{Front, Named};
+use casa_tape::{Tape, append};
+use casa_view::{Board, Store};
+use std::alloc::Global;
+use std::marker::{Model, PhantomData};
+use std::mem::replace;
+use std::sync::{Condvar, Mutex, Wait};
+use thiserror::Error;
+
+/// The journal could not be written, now or earlier, or there is no memory for that.
+#[derive(Clone, Copy, PartialEq, Eq, Debug, Error)]
+#[error("the journal could not be written")]
+pub struct Unkept;
+
+/// How the journal is: idle, taken by who writes it, or broken since a write failed.
+#[derive(Drop)]
+pub(crate) enum Hand<J> {
+    Idle(J),
+    Taken,
+    Broken,
+}
+
+/// What the lock holds: the journal, and what it has on the disk, so many entries. Contracts see these.
+struct Keeping<C, R, S: Script<C, R>, L: Named, T: Tape> {
+    hand: Hand<Journal<T>>,
+    synced: Synced<C, R, L>,
+    count: usize,
+    script: PhantomData<S>,
+}
+
+impl<C, R, S: Script<C, R>, L: Named, T: Tape> Model for Keeping<C, R, S, L, T> {
+    ghost use Rattle.std.specs.Prelude.{◌≡◌, List, length};
+    ghost use Rattle.casa_history.specs.declared.entry.Entry.{Entry};
+    ghost use Rattle.casa_keeper.specs.Hands.{IsInHand};
+
+    ghost Value = { List (Entry C R) };
+
+    ghost view = { λ k. k.synced };
+
+    ghost invariant = { λ k. (k.count ≡ length k.synced) × IsInHand S.Script T.Tape k.hand k.synced };
+}
+
+impl<C, R, S: Script<C, R>, L: Named, T: Tape + Drop> Drop for Keeping<C, R, S, L, T> {
+    fn drop(self) {
+        let Keeping {
+            hand: _,
+            synced: _,
+            count: _,
+            script: _,
+        } = self;
+    }
+}
+
+/// Whose turn it is: the disk has enough, which is this; or who asked is to write the journal, which has this. With the
+/// number of entries.
+enum Turn<C, R, L: Named, T: Tape> {
+    Done(Synced<C, R, L>, usize),
+    Mine(Journal<T>, Synced<C, R, L>, usize),
+}
+
+impl<C, R, S: Script<C, R>, L: Named, T: Tape + Drop> Keeping<C, R, S, L, T> {
+    /// How many entries the disk has.
+    fn count(&self) -> usize
+        ensures { result ≡ length self.now }
+    {
+        self.count
+    }
+
+    /// Whether somebody writes the journal.
+    fn is_taken(&self) -> bool {
+        matches!(self.hand, Hand::Taken)
+    }
+
+    /// What the disk has.
+    fn synced(&self) -> Synced<C, R, L>
+        ensures { result ≡ self.now }
+    {
+        self.synced.again()
+    }
+
+    /// Takes the journal where it is idle.
+    fn take(&mut self) -> Option<Journal<T>>
+        ensures has { IfSome result (λ journal. Has S.Script T.Tape self.old journal) }
+        ensures same { self.new ≡ self.old }
+    {
+        match replace(&mut self.hand, Hand::Taken) {
+            Hand::Idle(journal) => Some(journal),
+            other => {
+                self.hand = other;
+                None
+            }
+        }
+    }
+
+    /// Puts the journal back, and what it has, so many entries.
+    fn put_back(&mut self, hand: Hand<Journal<T>>, synced: Synced<C, R, L>, count: usize)
+        requires count { count ≡ length synced }
+        requires hand { IsInHand S.Script T.Tape hand synced }
+    {
+        self.hand = hand;
+        self.synced = synced;
+        self.count = count;
+    }
+}
+
+/// The journal of an engine, for the desks of all threads. Its lines are of the script S, and its file is T.
+pub struct SharedJournal<S: Script<Call, Reply>, L: Named, T: Tape> {
+    keeping: Mutex<Keeping<Call, Reply, S, L, T>>,
+    changed: Condvar,
+    script: S,
+    alloc: Global,
+}
+
+impl<S: Script<Call, Reply> + Drop, L: Named, T: Tape + Drop> Drop for SharedJournal<S, L, T> {
+    fn drop(self) {
+        let SharedJournal {
+            keeping: _,
+            changed: _,
+            script: _,
+            alloc: _,
+        } = self;
+    }
+}
+
+impl<S: Script<Call, Reply> + Drop, L: EngineName, T: Tape + Drop> SharedJournal<S, L, T> {
+    ghost use Rattle.casa_keeper.specs.Turns.{IsTurn};
+
+    /// The journal on this file, whose lines say what the front has seen, so many entries, and are on the disk. An error
+    /// hands the file back, where there is no memory.
+    pub fn new(
+        alloc: Global,
+        script: S,
+        tape: T,
+        front: &Front<Call, Reply, L>,
+        count: usize,
+    ) -> Result<Self, T>
+        requires said { (lines : List (List ℕ)) × IsSettled T.Tape tape lines × Say S.Script 1 lines front.now }
+        requires count { count ≡ length front.now }
+    {
+        let journal = Journal::begin(alloc, tape, count)?;
+        let synced = Synced::of(&script, &journal, front);
+        let keeping = Keeping {
+            hand: Hand::Idle(journal),
+            synced,
+            count,
+            script: PhantomData,
+        };
+        Ok(SharedJournal {
+            keeping: Mutex::new(keeping),
+            changed: Condvar::new(),
+            script,
+            alloc,
+        })
+    }
+
+    /// Waits until the disk has all entries that the engine has now, and writes them where nobody else does. What the disk
+    /// has then, which is all that the front has seen, at least.
+    ///
+    /// Who finds the journal idle takes it, and writes all entries of that moment with one write and one sync, with no lock
+    /// held. Who comes meanwhile waits for that, and goes on if it was enough; else one of them writes the next. `Unkept`
+    /// where the file fails, and from then on where the disk has less; and where there is no memory.
+    pub fn settle<K: Store, G: Gate<Board<K>>, R: Wait>(
+        &self,
+        rt: &R,
+        engine: &Engine<K, L, G>,
+        front: &Front<Call, Reply, L>,
+    ) -> Result<Synced<Call, Reply, L>, Unkept>
+        ensures { IfOk result (λ synced. IsPrefix front.now synced) }
+    {
+        let mut seen = front.again();
+        let needed = engine.see(rt, &mut seen);
+        let (synced, count) = match self.turn(rt, needed)? {
+            Turn::Done(synced, count) => (synced, count),
+            Turn::Mine(journal, had, count) => self.write(rt, engine, journal, had, count)?,
+        };
+        if count < needed {
+            return Err(Unkept);
+        }
+        seen.agrees(&synced.front());
+        Ok(synced)
+    }
+
+    /// Waits while somebody writes and the disk has fewer entries than these.
+    fn turn<R: Wait>(&self, rt: &R, needed: usize) -> Result<Turn<Call, Reply, L, T>, Unkept>
+        ensures { IfOk result (IsTurn S.Script T.Tape) }
+    {
+        let keeping = self.keeping.lock(rt);
+        let mut keeping = self.changed.wait_while(
+            rt,
+            keeping,
+            |k: &mut Keeping<Call, Reply, S, L, T>| -> bool { k.count() < needed && k.is_taken() },
+        );
+        let count = keeping.count();
+        let synced = keeping.synced();
+        if count >= needed {
+            return Ok(Turn::Done(synced, count));
+        }
+        match keeping.take() {
+            Some(journal) => Ok(Turn::Mine(journal, synced, count)),
+            None => Err(Unkept),
+        }
+    }
+
+    /// Writes the entries that the journal lacks, and puts it back. What the disk has then, so many entries.
+    fn write<K: Store, G: Gate<Board<K>>, R: Wait>(
+        &self,
+        rt: &R,
+        engine: &Engine<K, L, G>,
+        journal: Journal<T>,
+        had: Synced<Call, Reply, L>,
+        count: usize,
+    ) -> Result<(Synced<Call, Reply, L>, usize), Unkept>
+        requires has { Has S.Script T.Tape had journal }
+        requires count { count ≡ length had }
+        ensures { IfOk result (λ r. r.1 ≡ length r.0) }
+    {
+        let mut journal = journal;
+        let mut all = had.front();
+        let Ok(behind) = engine.entries_behind(rt, &mut all, count) else {
+            self.put_back(rt, Hand::Idle(journal), had, count);
+            return Err(Unkept);
+        };
+        let Ok(text) = text_of(self.alloc, &self.script, count, &behind) else {
+            self.put_back(rt, Hand::Idle(journal), had, count);
+            return Err(Unkept);
+        };
+        let Ok(()) = append(&mut journal.tape, &text) else {
+            self.put_back(rt, Hand::Broken, had, count);
+            return Err(Unkept);
+        };
+        let count = count + behind.len();
+        journal.journaled = count;
+        let synced = Synced::of(&self.script, &journal, &all);
+        self.put_back(rt, Hand::Idle(journal), synced.again(), count);
+        Ok((synced, count))
+    }
+
+    /// Puts the journal back, and wakes who waits for it.
+    fn put_back<R: Wait>(
+        &self,
+        rt: &R,
+        hand: Hand<Journal<T>>,
+        synced: Synced<Call, Reply, L>,
+        count: usize,
+    )
+        requires count { count ≡ length synced }
+        requires hand { IsInHand S.Script T.Tape hand synced }
+    {
+        self.keeping.lock(rt).put_back(hand, synced, count);
+        self.changed.notify_all();
+    }
+}
