@@ -19,7 +19,7 @@ pub record Course (D : Type 0) : Type 0 where
   pub deeds : List (Event Call)
   pub journal : Journal D
 
--- the position of a reply that may be told: the journal has its entry
+-- the list of this position, where the journal has its entry; else none
 abbrev pub tellable : {D : Type 0} → Journal D → ℕ → List ℕ
 tellable journal position = if nat_lt 0 position && nat_le position journal.journaled then position ∷ [] else []
 
@@ -32,7 +32,7 @@ pub record IsFlushed {S D : Type 0} (script : ScriptOf S Call Reply) (T : TapeOf
   pub all : new.journaled ≡ length history
   pub told : new.told.items ≡ old.told.items
 
--- a reply is told now, on the tape as it is, where the journal has its entry; the journal is as before
+-- a reply is told now, on the tape as it is, where the journal has its entry; its tape and its count are as before
 pub record IsTold {D : Type 0} (position : ℕ) (old new : Journal D) : Type 0 where
   pub tape : new.tape ≡ old.tape
   pub journaled : new.journaled ≡ old.journaled

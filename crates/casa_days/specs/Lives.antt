@@ -11,7 +11,7 @@ use Rattle.casa_day.specs.declared.event.DayFault.{DayFault}
 use Rattle.casa_day.specs.declared.event.DayFault.TheVariants.{NotWritten}
 use Rattle.casa_day.specs.declared.journal.Journal.{Journal}
 use Rattle.casa_day.specs.Scripts.{Say, calls_in}
-use Rattle.casa_day.specs.Journals.{Grows, IsBegun, IsSafe}
+use Rattle.casa_day.specs.Journals.{Grows, IsBegun, IsRunning, IsSafe}
 use Rattle.casa_world.specs.declared.event.Outcome.{Outcome}
 use Rattle.casa_world.specs.Scenes.{IsRun}
 use Rattle.casa_world.specs.Board.{sequential_reply, HasSameStamps}
@@ -20,7 +20,7 @@ use Rattle.casa_days.specs.declared.event.DayEvent.{DayEvent}
 use Rattle.casa_days.specs.Deeds.{again}
 use Rattle.casa_days.specs.Courses.{Course, GoOn}
 
--- From a course with this history on, where these events were asked for, a day came to this end and left this journal.
+-- A day stood at this course, with this history; these events were asked for; it came to this end and left this journal.
 pub record WentOn {B S D : Type 0} (script : ScriptOf S Call Reply) (T : TapeOf D) (before : List (Entry Call Reply)) (course : Course D)
     (events : List (DayEvent Call)) (end : Result (Played B Call Reply) DayFault) (journal : Journal D) : Type 0 where
   -- the first so many of the events happened, and all of them where it ended well, and led to this course
@@ -48,6 +48,7 @@ pub record IsLived {B S D : Type 0} (script : ScriptOf S Call Reply) (T : TapeOf
   pub said : Say script 1 lines first
   pub opening : Journal D
   pub begun : IsBegun opening.tape (length first) opening
-  -- a crash at any moment of the opening leaves a file that stands for the same lines
+  pub running : IsRunning script T first opening
+  -- a crash at any moment of the opening leaves a file that stands for the same lines as one that a crash before might leave
   pub any_moment : LeavesOnly T tape opening.tape (StandsAs (T.may_leave tape))
   pub went_on : WentOn script T first (record { deeds = again (calls_in first); journal = opening }) events end journal

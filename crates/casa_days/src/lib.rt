@@ -14,6 +14,6 @@ mod whole_life;
 
 pub use event::DayEvent;
 pub use laws::told_replies_come_back;
-pub use living::{Life, live};
+pub use living::{Life, happen, live};
 pub use opening::open;
 pub use whole_life::live_in_memory;

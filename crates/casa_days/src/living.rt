@@ -82,8 +82,9 @@ fn go_on<K: Store, S: Script<Call, Reply>, T: Tape>(
     (Ok(run), journal)
 }
 
-/// What one event asks for. `NotWritten` where the tape fails, `NoMemory` where there is no memory.
-fn happen<K: Store, S: Script<Call, Reply>, T: Tape>(
+/// What one event asks for: a deed of a worker, a flush, or a reply that is told, on the tape as it is then. `NotWritten`
+/// where the tape fails, `NoMemory` where there is no memory.
+pub fn happen<K: Store, S: Script<Call, Reply>, T: Tape>(
     alloc: Global,
     script: &S,
     run: Run<Board<K>>,

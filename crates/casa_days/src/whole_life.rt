@@ -31,6 +31,7 @@ pub fn live_in_memory<K: Store, S: Script<Call, Reply>>(
 ) -> Result<Life<K, MemoryTape>, OpenFault>
     ensures lived { IfOk result (λ life. (tape : TapeInMemory)
         × ⟦<MemoryTape as Tape>⟧.holds tape found.items
+        × ((c : List ℕ) → ⟦<MemoryTape as Tape>⟧.may_leave tape c → c ≡ found.items)
         × IsLived S.Script ⟦<MemoryTape as Tape>⟧ tape (whole_lines found.items) events.now
         life.0 life.1) }
     ensures refused { IfErr result (λ fault. IsOfLines fault

@@ -27,7 +27,7 @@ use thiserror::Error;
 /// Why the calls of a journal could not be answered again.
 #[derive(Clone, Copy, PartialEq, Eq, Debug, Error)]
 pub enum RecoveryFault {
-    /// The journal is refused, or there is no memory.
+    /// The journal is refused, its file failed, or there is no memory.
     #[error("{0}")]
     Refused(OpenFault),
     /// Somebody else asks the engine, too.

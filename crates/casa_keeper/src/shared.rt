@@ -172,7 +172,7 @@ impl<S: Script<Call, Reply> + Drop, L: EngineName, T: Tape + Drop> SharedJournal
     /// Who finds the journal idle takes it, and writes all entries of that moment with one write and one sync, with no lock
     /// held. Who comes meanwhile waits for that, and goes on if it was enough; else one of them writes the next. `Unkept`
     /// where the file fails, and from then on where the disk has less; and where there is no memory.
-    pub fn settle<K: Store, G: Gate<Board<K>>, R: Wait>(
+    pub fn sync<K: Store, G: Gate<Board<K>>, R: Wait>(
         &self,
         rt: &R,
         engine: &Engine<K, L, G>,

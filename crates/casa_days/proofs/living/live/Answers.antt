@@ -13,6 +13,7 @@ returns-clause-lived g c xs held =
       said = opened.said;
       opening = opening;
       begun = opened.begun;
+      running = c.in_ok-run.ensures.running.journaled;
       any_moment = c.in_ok-run.ensures.any_moment;
       went_on = subst (λ deeds. WentOn g.S.Script g.T.Tape first (record { deeds = deeds; journal = opening }) c.args.events.now c.go_on.result.0 c.go_on.result.1) opened.events c.go_on.ensures;
     }

@@ -1,10 +1,10 @@
-use Rattle.std.proofs.Common.{sym}
+use Rattle.std.proofs.Common.{sym, ◌∙◌}
 use Rattle.casa_days.proofs.whole_life.live_in_memory.Goals as goal
 
 pub returns-in-Ok-clause-lived : goal.returns-in-Ok-clause-lived
 returns-in-Ok-clause-lived g c =
     let shown = sym c.new-tape.ensures.shown in
-    (c.new-tape.result, shown, c.in-Ok.ensures.lived c.args.found.items shown)
+    (c.new-tape.result, shown, λ left may_be. c.new-tape.ensures.synced left may_be ∙ c.new-tape.ensures.shown, c.in-Ok.ensures.lived c.args.found.items shown)
 
 pub returns-in-Ok-clause-never_fails_on : goal.returns-in-Ok-clause-never_fails_on
 returns-in-Ok-clause-never_fails_on g c = (c.in-Ok.ensures.lived c.args.found.items (sym c.new-tape.ensures.shown)).went_on.cause
