@@ -6,3 +6,4 @@ mod Legal
 mod Going
 mod Coursing
 mod Ending
+mod Lasting

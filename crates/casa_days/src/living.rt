@@ -7,7 +7,8 @@ ghost use Rattle.casa_history.specs.declared.entry.Entry.{Entry};
 ghost use Rattle.casa_plan.specs.Rooms.{IsSequential};
 ghost use Rattle.casa_tape.specs.Lines.{StandsAs, whole_lines};
 ghost use Rattle.casa_tape.specs.Journals.{LeavesOnly};
-ghost use Rattle.casa_day.specs.Journals.{Grows, IsSafe, Keeps};
+ghost use Rattle.casa_day.specs.Journals.{Grows, IsSafe, Keeps, told_of};
+ghost use Rattle.casa_day.specs.Lives.{IsLived as IsLifeOn, Life as OneLife};
 ghost use Rattle.casa_day.specs.Refusals.{IsOfLines, IsRefused};
 ghost use Rattle.casa_world.specs.Runs.{run_events, run_history};
 ghost use Rattle.casa_days.specs.Courses.{GoesOn};
@@ -42,6 +43,11 @@ pub fn live<K: Store, S: Script<Call, Reply>, T: Tape + Drop>(
     // What workers did is a run; what was told, the events say; and nothing that was told is lost.
     ensures lived { IfOk result (λ life. (xs : List ℕ) → T.holds tape xs
         → IsLived S.Script T.Tape tape (whole_lines xs) events.now life.0 life.1) }
+    // Whatever a crash at its end leaves, it is a life of those of which `nothing_told_is_lost` speaks.
+    ensures life { IfOk result (λ life. (found left : List ℕ) → T.holds tape found
+        → T.may_leave life.1.tape left
+        → (one : OneLife Call Reply) × (one.told ≡ told_of life.1)
+        × IsLifeOn S.Script ⟦<Board<K> as World>⟧ found one left) }
     // No file that a life left is refused.
     ensures accepted { IfErr result (λ e. (history : List (Entry Call Reply)) (least : ℕ)
         (xs : List ℕ) → IsSequential history → T.holds tape xs → Keeps S.Script history least xs
