@@ -87,7 +87,7 @@ fn life(
 /// The first so many of the morning's lines.
 fn first_lines(alloc: Global, count: usize) -> Result<Vec<u8>, Fail> {
     let mut text = Vec::new(alloc);
-    for line in &LINES[..count] {
+    for line in LINES.iter().take(count) {
         text.extend_from_slice(line)?;
     }
     Ok(text)
