@@ -57,8 +57,3 @@ module _ {C R : Type 0} (reply : List (Entry C R) → C → R) (IsUnmoved : List
   run_grows es fs h i o p is next =
       let grown = leads_grow fs is.0 next.0 (run_on es fs h i o p is next) in
       (grown.0, next.2 ∙ grown.1 ∙ ap (λ xs. xs ++ grown.0) (sym is.2))
-
-  -- of the same events one history comes
-  pub run_one : (es : List (Event C)) (h i : List (Entry C R)) (o p : ℕ → Option Outcome) → IsRun reply IsUnmoved es h o → IsRun reply IsUnmoved es i p → h ≡ i
-  run_one es h i o p is also =
-      is.2 ∙ ap (λ (k : Scene C R). k.history) (leads_one reply IsUnmoved es opening_scene is.0 also.0 is.1 also.1) ∙ sym also.2

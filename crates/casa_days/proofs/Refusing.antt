@@ -1,5 +1,5 @@
 -- how an opening fails
-use Rattle.std.proofs.Common.{◌≡◌, Result, Err, ℕ, List, refl, subst}
+use Rattle.std.proofs.Common.{◌≡◌, Result, Err, refl, subst}
 use Rattle.std.specs.Prelude.{IsErrOf}
 use Rattle.casa_tape.specs.declared.tape.TapeError.{TapeError}
 use Rattle.casa_tape.specs.declared.tape.TapeError.TheVariants as tape

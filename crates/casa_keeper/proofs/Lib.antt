@@ -1,4 +1,3 @@
 mod Beginning
 mod Writing
 mod Answered
-mod Agreeing

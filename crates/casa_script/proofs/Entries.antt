@@ -19,7 +19,7 @@ use Rattle.casa_script.specs.declared.line.Label.{Label}
 use Rattle.casa_script.specs.Sums.{with_byte}
 use Rattle.casa_script.specs.Lines.{entry_label, entry_text}
 use Rattle.casa_script.specs.Sayable.{IsSayable, IsInRange}
-use Rattle.casa_script.specs.Said.{◌>>=◌, call_at, call_if_at, call_or_fault, is_at, label_of, line_said, line_vouches_for, or_fault}
+use Rattle.casa_script.specs.Said.{◌>>=◌, call_at, call_if_at, call_or_fault, is_at, label_of, line_said, or_fault}
 use Rattle.casa_script.proofs.Readings.{line_read}
 
 -- a sum has 32 bits
@@ -69,8 +69,3 @@ is_line [] all = tt
 is_line (b ∷ bs) all =
     let first = all 0 b (omega arith) in
     ((λ (is : b ≡ 10). absurd (omega (arith, is, first.0)), λ (is : b ≡ 0). absurd (omega (arith, is, first.0))), is_line bs (λ k d lt. all (suc k) d (omega (arith, lt))))
-
--- the line of an entry vouches for its reply
-pub vouches_there : (position : ℕ) (entry : Entry Call Reply) → line_said (entry_text position entry) ≡ Ok (record { label = entry_label position entry; call = entry.call })
-    → line_vouches_for position (entry_text position entry) entry.reply ≡ true
-vouches_there position entry said = rw said (grind (arith, nat_tests))
