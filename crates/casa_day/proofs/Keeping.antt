@@ -6,6 +6,7 @@ use Rattle.casa_history.specs.declared.entry.Entry.{Entry}
 use Rattle.casa_tape.specs.declared.tape.Tape.{Ghosts as TapeOf}
 use Rattle.casa_tape.specs.Lines.{AreLines, journal_of, whole_lines, IsBetween}
 use Rattle.casa_tape.specs.Journals.{IsSettled, LeavesOnly}
+use Rattle.casa_tape.proofs.Runs.{durable}
 use Rattle.casa_tape.proofs.WholeLines.{lines_again}
 use Rattle.casa_day.specs.declared.script.Script.{Ghosts as ScriptOf}
 use Rattle.casa_day.specs.declared.journal.Told.{Told}
@@ -100,7 +101,7 @@ module _ {S C R : Type 0} (script : ScriptOf S C R) where
       past = omega (arith, ap T.moment is);
       kept = λ c left.
           settled_keeps es journaled t.position lines c within enough settled.are said
-          (settled.durable c (only c (subst (λ (d : D). T.left_since tape (T.moment d) c) is left)));
+          (durable T tape lines settled c (only c (subst (λ (d : D). T.left_since tape (T.moment d) c) is left)));
     }
 
     -- so more may be told

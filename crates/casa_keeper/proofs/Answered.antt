@@ -4,12 +4,10 @@ use Rattle.std.specs.Prelude.{slice_get}
 use Rattle.std.proofs.lemmas.Bool.Decides.{nat_tests}
 use Rattle.std.proofs.lemmas.List.{take_at}
 use Rattle.std.proofs.lemmas.Option.{same_Some}
-use mathlib.Core.List.{IsPrefix}
 use Rattle.casa_history.specs.declared.entry.Entry.{Entry}
 use Rattle.casa_history.specs.declared.entry.Receipt.{Receipt}
-use Rattle.casa_history.specs.Entries.{entry_at}
 use Rattle.casa_commit.specs.declared.world.World.{Ghosts as WorldOf}
-use Rattle.casa_commit.specs.Legal.{replay, IsLegal}
+use Rattle.casa_commit.specs.Legal.{replay}
 use Rattle.casa_day.specs.declared.script.Script.{Ghosts as ScriptOf}
 use Rattle.casa_day.specs.Refusals.{IsAnsweredOtherwise}
 use Rattle.casa_day.proofs.Following.{get_middle}

@@ -1,3 +1,2 @@
-mod Beginning
 mod Writing
 mod Answered

@@ -1,4 +1,3 @@
 pub mod Keepings
-pub mod Hands
 pub mod Turns
 pub mod Recoveries

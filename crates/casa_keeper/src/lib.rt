@@ -5,12 +5,15 @@
 #![tactic(auto)]
 
 mod file;
+mod held;
 mod opening;
 mod recovery;
+mod sealed;
 mod shared;
 mod synced;
 
-pub use file::{FileFault, FileTape};
+pub use file::{FileFault, FileTape, LastError, sync_name};
+pub use held::{Held, JournalKeeper, Keeper, NoKeeper, Syncs};
 pub use opening::{Aside, open};
 pub use recovery::{RecoveryFault, replay};
 pub use shared::{SharedJournal, Unkept};

@@ -1,6 +1,6 @@
 //! The calls of a journal, answered again.
 
-ghost use Rattle.std.specs.Prelude.{◌≡◌, ◌+◌, ◌++◌, ◌∷◌, [], List, ℕ, length, IfErr, IfOk, OnOk};
+ghost use Rattle.std.specs.Prelude.{◌≡◌, ◌+◌, ◌++◌, ◌∷◌, [], List, ℕ, length, IfErr, IfOk, IsErrOf, OnOk};
 ghost use Rattle.casa_flight.specs.declared.call.Call.{Call};
 ghost use Rattle.casa_flight.specs.declared.reply.Reply.{Reply};
 ghost use Rattle.casa_history.specs.declared.entry.Entry.{Entry};
@@ -11,7 +11,7 @@ ghost use Rattle.casa_engine.specs.Fronts.{front_of};
 ghost use Rattle.casa_day.specs.declared.event.OpenFault.TheVariants.{NoMemory};
 ghost use Rattle.casa_day.specs.Faults.{open_fault};
 ghost use Rattle.casa_day.specs.Refusals.{IsRefused, IsRefusedAt};
-ghost use Rattle.casa_keeper.specs.declared.recovery.RecoveryFault.TheVariants.{Refused};
+ghost use Rattle.casa_keeper.specs.declared.recovery.RecoveryFault.TheVariants.{NotSetAside, Refused};
 ghost use Rattle.casa_keeper.specs.Recoveries.{IfRefused};
 
 use casa_commit::World;
@@ -59,8 +59,32 @@ impl From<AllocError> for RecoveryFault {
 ///
 /// `Refused` by `BadLine` at the first line that says no call at its position, or by `ReplayDiffers` at the first whose call is
 /// now answered otherwise than it vouches, whichever comes first, or by `NoMemory` where there is no memory; `NotAlone` where
-/// a call gets another position than its line has.
+/// somebody has asked the engine, or asks it meanwhile, so that a call gets another position than its line has.
 pub fn replay<K: Store, L: EngineName, G: Gate<Board<K>>, S: Script<Call, Reply>, R: Wait>(
+    rt: &R,
+    alloc: Global,
+    engine: &Engine<K, L, G>,
+    desk: &mut DeskPass<K, L>,
+    script: &S,
+    text: &[u8],
+) -> Result<usize, RecoveryFault>
+    ensures said { IfOk result (λ count. (lines : List (List ℕ)) → AreLines lines
+        → text.now ≡ journal_of lines → Say S.Script 1 lines (front_of desk.new)
+        × (count ≡ length (front_of desk.new))) }
+    ensures refused { IfErr result (IfRefused (λ why. (lines : List (List ℕ)) → AreLines lines
+        → text.now ≡ journal_of lines
+        → IsRefused S.Script ⟦<Board<K> as World>⟧ lines why)) }
+    ensures nothing_set_aside { ¬ (IsErrOf result NotSetAside) }
+{
+    let mut front = desk.front();
+    if engine.see(rt, &mut front) > 0 {
+        return Err(RecoveryFault::NotAlone);
+    }
+    answer_all(rt, alloc, engine, desk, script, text)
+}
+
+/// The same, by a desk that has seen nothing.
+fn answer_all<K: Store, L: EngineName, G: Gate<Board<K>>, S: Script<Call, Reply>, R: Wait>(
     rt: &R,
     alloc: Global,
     engine: &Engine<K, L, G>,
@@ -75,6 +99,7 @@ pub fn replay<K: Store, L: EngineName, G: Gate<Board<K>>, S: Script<Call, Reply>
     ensures refused { IfErr result (IfRefused (λ why. (lines : List (List ℕ)) → AreLines lines
         → text.now ≡ journal_of lines
         → IsRefused S.Script ⟦<Board<K> as World>⟧ lines why)) }
+    ensures nothing_set_aside { ¬ (IsErrOf result NotSetAside) }
 {
     let mut rest = text;
     let mut position = 0;
@@ -103,6 +128,7 @@ fn answer_again<K: Store, L: EngineName, G: Gate<Board<K>>, S: Script<Call, Repl
         ⟦<Board<K> as World>⟧.opening (front_of desk.new)) }
     ensures refused { IfErr result (IfRefused (IsRefusedAt S.Script ⟦<Board<K> as World>⟧
         (front_of desk.old) position line.now)) }
+    ensures nothing_set_aside { ¬ (IsErrOf result NotSetAside) }
 {
     let Some(call) = script.read(alloc, position, line)? else {
         return Err(RecoveryFault::Refused(OpenFault::BadLine(position)));

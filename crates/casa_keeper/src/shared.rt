@@ -5,10 +5,9 @@ ghost use mathlib.Core.List.{IsPrefix};
 ghost use Rattle.casa_tape.specs.Journals.{IsSettled};
 ghost use Rattle.casa_day.specs.Scripts.{Say};
 ghost use Rattle.casa_keeper.specs.Keepings.{Has};
-ghost use Rattle.casa_keeper.specs.Hands.{IsInHand};
 
 use crate::synced::Synced;
-use casa_day::{Journal, Script, text_of};
+use casa_day::{Script, text_of};
 use casa_engine::{Engine, EngineName, Gate};
 use casa_flight::{Call, Reply};
 use casa_front::{Front, Named};
@@ -16,47 +15,49 @@ use casa_tape::{Tape, append};
 use casa_view::{Board, Store};
 use std::alloc::Global;
 use std::marker::{Model, PhantomData};
-use std::mem::replace;
 use std::sync::{Condvar, Mutex, Wait};
 use thiserror::Error;
 
-/// The journal could not be written, now or earlier, or there is no memory for that.
+/// Why the disk does not have what was answered.
 #[derive(Clone, Copy, PartialEq, Eq, Debug, Error)]
-#[error("the journal could not be written")]
-pub struct Unkept;
-
-/// How the journal is: idle, taken by who writes it, or broken since a write failed.
-#[derive(Drop)]
-pub(crate) enum Hand<J> {
-    Idle(J),
-    Taken,
-    Broken,
+pub enum Unkept {
+    /// The journal's file has failed, now or earlier.
+    #[error("the journal could not be written")]
+    Failed,
+    /// There is no memory for what would be written now.
+    #[error("there is no memory for what the journal lacks")]
+    NoMemory,
 }
 
-/// What the lock holds: the journal, and what it has on the disk, so many entries. Contracts see these.
+/// What the lock holds: the file, where it is neither taken by who writes it nor gone since it failed, and what it has on the
+/// disk, so many entries. Contracts see these.
 struct Keeping<C, R, S: Script<C, R>, L: Named, T: Tape> {
-    hand: Hand<Journal<T>>,
+    tape: Option<T>,
+    /// Whether the file has failed, so that it is gone.
+    is_broken: bool,
     synced: Synced<C, R, L>,
     count: usize,
     script: PhantomData<S>,
 }
 
 impl<C, R, S: Script<C, R>, L: Named, T: Tape> Model for Keeping<C, R, S, L, T> {
-    ghost use Rattle.std.specs.Prelude.{◌≡◌, List, length};
+    ghost use Rattle.std.specs.Prelude.{◌≡◌, List, length, IfSome};
     ghost use Rattle.casa_history.specs.declared.entry.Entry.{Entry};
-    ghost use Rattle.casa_keeper.specs.Hands.{IsInHand};
+    ghost use Rattle.casa_keeper.specs.Keepings.{Has};
 
     ghost Value = { List (Entry C R) };
 
     ghost view = { λ k. k.synced };
 
-    ghost invariant = { λ k. (k.count ≡ length k.synced) × IsInHand S.Script T.Tape k.hand k.synced };
+    ghost invariant = { λ k. (k.count ≡ length k.synced)
+        × IfSome k.tape (Has S.Script T.Tape k.synced) };
 }
 
 impl<C, R, S: Script<C, R>, L: Named, T: Tape + Drop> Drop for Keeping<C, R, S, L, T> {
     fn drop(self) {
         let Keeping {
-            hand: _,
+            tape: _,
+            is_broken: _,
             synced: _,
             count: _,
             script: _,
@@ -64,11 +65,11 @@ impl<C, R, S: Script<C, R>, L: Named, T: Tape + Drop> Drop for Keeping<C, R, S, 
     }
 }
 
-/// Whose turn it is: the disk has enough, which is this; or who asked is to write the journal, which has this. With the
-/// number of entries.
+/// Whose turn it is: the disk has enough, which is this; or who asked is to write the file, which has this. With the number
+/// of entries.
 enum Turn<C, R, L: Named, T: Tape> {
     Done(Synced<C, R, L>, usize),
-    Mine(Journal<T>, Synced<C, R, L>, usize),
+    Mine(T, Synced<C, R, L>, usize),
 }
 
 impl<C, R, S: Script<C, R>, L: Named, T: Tape + Drop> Keeping<C, R, S, L, T> {
@@ -81,7 +82,7 @@ impl<C, R, S: Script<C, R>, L: Named, T: Tape + Drop> Keeping<C, R, S, L, T> {
 
     /// Whether somebody writes the journal.
     fn is_taken(&self) -> bool {
-        matches!(self.hand, Hand::Taken)
+        self.tape.is_none() && !self.is_broken
     }
 
     /// What the disk has.
@@ -91,26 +92,21 @@ impl<C, R, S: Script<C, R>, L: Named, T: Tape + Drop> Keeping<C, R, S, L, T> {
         self.synced.again()
     }
 
-    /// Takes the journal where it is idle.
-    fn take(&mut self) -> Option<Journal<T>>
-        ensures has { IfSome result (λ journal. Has S.Script T.Tape self.old journal) }
+    /// Takes the file where nobody has it.
+    fn take(&mut self) -> Option<T>
+        ensures has { IfSome result (λ tape. Has S.Script T.Tape self.old tape) }
         ensures same { self.new ≡ self.old }
     {
-        match replace(&mut self.hand, Hand::Taken) {
-            Hand::Idle(journal) => Some(journal),
-            other => {
-                self.hand = other;
-                None
-            }
-        }
+        self.tape.take()
     }
 
-    /// Puts the journal back, and what it has, so many entries.
-    fn put_back(&mut self, hand: Hand<Journal<T>>, synced: Synced<C, R, L>, count: usize)
+    /// Puts the file back, and what it has, so many entries; or nothing, where it has failed.
+    fn put_back(&mut self, tape: Option<T>, synced: Synced<C, R, L>, count: usize)
         requires count { count ≡ length synced }
-        requires hand { IsInHand S.Script T.Tape hand synced }
+        requires has { IfSome tape (Has S.Script T.Tape synced) }
     {
-        self.hand = hand;
+        self.is_broken = tape.is_none();
+        self.tape = tape;
         self.synced = synced;
         self.count = count;
     }
@@ -138,40 +134,39 @@ impl<S: Script<Call, Reply> + Drop, L: Named, T: Tape + Drop> Drop for SharedJou
 impl<S: Script<Call, Reply> + Drop, L: EngineName, T: Tape + Drop> SharedJournal<S, L, T> {
     ghost use Rattle.casa_keeper.specs.Turns.{IsTurn};
 
-    /// The journal on this file, whose lines say what the front has seen, so many entries, and are on the disk. An error
-    /// hands the file back, where there is no memory.
+    /// The journal in this file, whose lines say what the front has seen, so many entries, and are on the disk.
     pub fn new(
         alloc: Global,
         script: S,
         tape: T,
         front: &Front<Call, Reply, L>,
         count: usize,
-    ) -> Result<Self, T>
+    ) -> Self
         requires said { (lines : List (List ℕ)) × IsSettled T.Tape tape lines × Say S.Script 1 lines front.now }
         requires count { count ≡ length front.now }
     {
-        let journal = Journal::begin(alloc, tape, count)?;
-        let synced = Synced::of(&script, &journal, front);
+        let synced = Synced::of(&script, &tape, front);
         let keeping = Keeping {
-            hand: Hand::Idle(journal),
+            tape: Some(tape),
+            is_broken: false,
             synced,
             count,
             script: PhantomData,
         };
-        Ok(SharedJournal {
+        SharedJournal {
             keeping: Mutex::new(keeping),
             changed: Condvar::new(),
             script,
             alloc,
-        })
+        }
     }
 
     /// Waits until the disk has all entries that the engine has now, and writes them where nobody else does. What the disk
     /// has then, which is all that the front has seen, at least.
     ///
-    /// Who finds the journal idle takes it, and writes all entries of that moment with one write and one sync, with no lock
-    /// held. Who comes meanwhile waits for that, and goes on if it was enough; else one of them writes the next. `Unkept`
-    /// where the file fails, and from then on where the disk has less; and where there is no memory.
+    /// Who finds the file idle takes it, and writes all entries of that moment with one write and one sync, with no lock held. Who comes meanwhile waits for that, and goes on if it was enough; else one of them writes the next. `Failed`
+    /// where the file could not be written or synced, and from then on where the disk has less; `NoMemory` where there is no
+    /// memory for the entries or their text, and a later call may write all.
     pub fn sync<K: Store, G: Gate<Board<K>>, R: Wait>(
         &self,
         rt: &R,
@@ -184,10 +179,10 @@ impl<S: Script<Call, Reply> + Drop, L: EngineName, T: Tape + Drop> SharedJournal
         let needed = engine.see(rt, &mut seen);
         let (synced, count) = match self.turn(rt, needed)? {
             Turn::Done(synced, count) => (synced, count),
-            Turn::Mine(journal, had, count) => self.write(rt, engine, journal, had, count)?,
+            Turn::Mine(tape, had, count) => self.write(rt, engine, tape, had, count)?,
         };
         if count < needed {
-            return Err(Unkept);
+            return Err(Unkept::Failed);
         }
         seen.agrees(&synced.front());
         Ok(synced)
@@ -209,57 +204,56 @@ impl<S: Script<Call, Reply> + Drop, L: EngineName, T: Tape + Drop> SharedJournal
             return Ok(Turn::Done(synced, count));
         }
         match keeping.take() {
-            Some(journal) => Ok(Turn::Mine(journal, synced, count)),
-            None => Err(Unkept),
+            Some(tape) => Ok(Turn::Mine(tape, synced, count)),
+            None => Err(Unkept::Failed),
         }
     }
 
-    /// Writes the entries that the journal lacks, and puts it back. What the disk has then, so many entries.
+    /// Writes the entries that the file lacks, and puts it back. What the disk has then, so many entries.
     fn write<K: Store, G: Gate<Board<K>>, R: Wait>(
         &self,
         rt: &R,
         engine: &Engine<K, L, G>,
-        journal: Journal<T>,
+        tape: T,
         had: Synced<Call, Reply, L>,
         count: usize,
     ) -> Result<(Synced<Call, Reply, L>, usize), Unkept>
-        requires has { Has S.Script T.Tape had journal }
+        requires has { Has S.Script T.Tape had tape }
         requires count { count ≡ length had }
         ensures { IfOk result (λ r. r.1 ≡ length r.0) }
     {
-        let mut journal = journal;
+        let mut tape = tape;
         let mut all = had.front();
         let Ok(behind) = engine.entries_behind(rt, &mut all, count) else {
-            self.put_back(rt, Hand::Idle(journal), had, count);
-            return Err(Unkept);
+            self.put_back(rt, Some(tape), had, count);
+            return Err(Unkept::NoMemory);
         };
         let Ok(text) = text_of(self.alloc, &self.script, count, &behind) else {
-            self.put_back(rt, Hand::Idle(journal), had, count);
-            return Err(Unkept);
+            self.put_back(rt, Some(tape), had, count);
+            return Err(Unkept::NoMemory);
         };
-        let Ok(()) = append(&mut journal.tape, &text) else {
-            self.put_back(rt, Hand::Broken, had, count);
-            return Err(Unkept);
+        let Ok(()) = append(&mut tape, &text) else {
+            self.put_back(rt, None, had, count);
+            return Err(Unkept::Failed);
         };
         let count = count + behind.len();
-        journal.journaled = count;
-        let synced = Synced::of(&self.script, &journal, &all);
-        self.put_back(rt, Hand::Idle(journal), synced.again(), count);
+        let synced = Synced::of(&self.script, &tape, &all);
+        self.put_back(rt, Some(tape), synced.again(), count);
         Ok((synced, count))
     }
 
-    /// Puts the journal back, and wakes who waits for it.
+    /// Puts the file back, or nothing where it has failed, and wakes who waits for it.
     fn put_back<R: Wait>(
         &self,
         rt: &R,
-        hand: Hand<Journal<T>>,
+        tape: Option<T>,
         synced: Synced<Call, Reply, L>,
         count: usize,
     )
         requires count { count ≡ length synced }
-        requires hand { IsInHand S.Script T.Tape hand synced }
+        requires has { IfSome tape (Has S.Script T.Tape synced) }
     {
-        self.keeping.lock(rt).put_back(hand, synced, count);
+        self.keeping.lock(rt).put_back(tape, synced, count);
         self.changed.notify_all();
     }
 }

@@ -2,14 +2,14 @@
 
 ghost use Rattle.std.specs.Prelude.{◌≡◌, length};
 
-use casa_day::{Journal, Script};
+use casa_day::Script;
 use casa_front::{Front, Named};
 use casa_tape::Tape;
 use std::marker::Model;
 
 /// What the disk has of the history that L names: a beginning of it, which contracts see as its entries.
 ///
-/// Only who has a journal in hand with just these entries, all of them on the disk, can make one; and who has one can
+/// Only who has a file in hand whose lines say just these entries, all of them on the disk, can make one; and who has one can
 /// repeat it.
 pub struct Synced<C, R, L: Named> {
     front: Front<C, R, L>,
@@ -33,13 +33,13 @@ impl<C, R, L: Named> Drop for Synced<C, R, L> {
 impl<C, R, L: Named> Synced<C, R, L> {
     ghost use Rattle.casa_keeper.specs.Keepings.{Has};
 
-    /// What this journal has, whose lines are of this script: what the front has seen.
+    /// What this file has, whose lines are of this script: what the front has seen.
     pub(crate) fn of<S: Script<C, R>, T: Tape>(
         _script: &S,
-        _journal: &Journal<T>,
+        _tape: &T,
         front: &Front<C, R, L>,
     ) -> Synced<C, R, L>
-        requires { Has S.Script T.Tape front.now _journal.now }
+        requires { Has S.Script T.Tape front.now _tape.now }
         ensures { result ≡ front.now }
     {
         Synced {

@@ -13,7 +13,7 @@ use Rattle.casa_script.specs.declared.line.Line.{Line}
 use Rattle.casa_script.specs.declared.fault.LineFault.{LineFault}
 use Rattle.casa_script.specs.Lines.{line_data, line_text}
 use Rattle.casa_script.specs.Sayable.{IsSayable, IsInRange}
-use Rattle.casa_script.specs.Said.{label_of, line_said}
+use Rattle.casa_script.specs.Said.{label_of, label_said, line_said}
 use Rattle.casa_script.proofs.Saying.{call_again}
 use Rattle.casa_script.proofs.Again.{text_again}
 use Rattle.casa_script.proofs.Seen.{line_utf8}
@@ -94,9 +94,13 @@ module _ (label : Label) (fits : IsInRange label) (call : Call) (is : IsSayable 
   unfolding line_call
   call_read = rw value (call_again label call is)
 
+  label_read : label_said (line_text label call) ≡ Ok label
+  unfolding label_said
+  label_read = rw value label_again
+
   pub line_read : line_said (line_text label call) ≡ Ok (record { label = label; call = call })
   unfolding line_said
-  line_read = rw (call_read, value, label_again) refl
+  line_read = rw (call_read, label_read) refl
 
 abbrev said : Line → Result Line LineFault
 said line = Ok line

@@ -38,12 +38,17 @@ label_of d = do
   sum ← or_fault NoSum (part (codes "sum") number_of d)
   Ok (record { position = position; desk = desk; rules = rules; sum = sum })
 
+-- the label of a line, or its first fault
+unfoldable pub label_said : List ℕ → Result Label LineFault
+label_said bytes = do
+  d ← or_fault NoPosition (line_value bytes)
+  label_of d
+
 -- what a line says, its call and its label, or its first fault; the call comes first, so that the line is JSON
 unfoldable pub line_said : List ℕ → Result Line LineFault
 line_said bytes = do
   call ← call_or_fault (line_call bytes)
-  d ← or_fault NoPosition (line_value bytes)
-  label ← label_of d
+  label ← label_said bytes
   Ok (record { label = label; call = call })
 
 -- whether a label is that of a position, by the present rules
@@ -62,9 +67,9 @@ call_at position bytes = option_and_then (call_if_at position) (result_ok (line_
 abbrev pub vouches_for : Reply → ℕ → Label → Bool
 vouches_for reply position label = label.sum == reply_sum reply position
 
--- whether a text vouches for the reply at a position: it is a line, and its label does
+-- whether a text vouches for the reply at a position: it has a label, and that does
 abbrev pub line_vouches_for : ℕ → List ℕ → Reply → Bool
-line_vouches_for position bytes reply = option_map_or (λ (line : Line). vouches_for reply position line.label) (result_ok (line_said bytes)) false
+line_vouches_for position bytes reply = option_map_or (vouches_for reply position) (result_ok (label_said bytes)) false
 
 abbrev pub Fails : {X : Type 0} → LineFault → Result X LineFault → Type 0
 Fails (NoCall fault) meaning = meaning ≡ Err (NoCall fault)

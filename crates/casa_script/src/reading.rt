@@ -5,7 +5,7 @@ ghost use Rattle.serde_json.specs.View.{view};
 ghost use Rattle.casa_wire.specs.Commands.{line_call, line_value};
 ghost use Rattle.casa_wire.specs.Members.{number_of};
 ghost use Rattle.casa_script.specs.declared.fault.LineFault.TheVariants.{NoPosition};
-ghost use Rattle.casa_script.specs.Said.{Gives, GivesAs, call_at, call_if_at, call_or_fault, is_at, label_of, line_said, line_vouches_for, or_fault, vouches_for};
+ghost use Rattle.casa_script.specs.Said.{Gives, GivesAs, call_at, call_if_at, call_or_fault, is_at, label_of, label_said, line_said, line_vouches_for, or_fault, vouches_for};
 
 use crate::fault::LineFault;
 use crate::line::{Label, Line, RULES};
@@ -26,9 +26,18 @@ pub fn read_line(alloc: Global, line: &[u8]) -> Result<Line, LineFault>
     ensures { Gives result (line_said line.now) }
 {
     let call = call_of(alloc, line)?;
-    let value = value_of(alloc, line)?;
-    let label = label_of(&value)?;
+    let label = read_label(alloc, line)?;
     Ok(Line { label, call })
+}
+
+/// The label of a line, without its line end, or the first fault that holds, in the order of `LineFault`. Whether the line is a
+/// call too is not looked at. `NoMemory` as of `read_line`.
+#[tactic(auto, unfolding(crate::specs::Said::label_said))]
+fn read_label(alloc: Global, line: &[u8]) -> Result<Label, LineFault>
+    ensures { Gives result (label_said line.now) }
+{
+    let value = value_of(alloc, line)?;
+    label_of(&value)
 }
 
 /// The call that a line says at a position: `None` where its label is of another position or of other rules, and where it
@@ -43,7 +52,7 @@ pub fn call_at(alloc: Global, position: usize, line: &[u8]) -> Result<Option<Cal
     }
 }
 
-/// Whether a line vouches for the reply to the call at this position: its label has the reply's sum. A text that says nothing
+/// Whether a line vouches for the reply to the call at this position: its label has the reply's sum. A text without a label
 /// vouches for none. `AllocError` where there is no memory for what it says, or for the line of the reply.
 pub fn line_vouches_for(
     alloc: Global,
@@ -53,8 +62,8 @@ pub fn line_vouches_for(
 ) -> Result<bool, AllocError>
     ensures { IfOk result (λ vouches. vouches ≡ line_vouches_for position line.now reply.now) }
 {
-    match read_line(alloc, line) {
-        Ok(line) => line.label.vouches_for(alloc, reply, position),
+    match read_label(alloc, line) {
+        Ok(label) => label.vouches_for(alloc, reply, position),
         Err(LineFault::NoMemory) => Err(AllocError),
         Err(_) => Ok(false),
     }

@@ -1,5 +1,5 @@
 mod Moments
-mod Runs
+pub mod Runs
 mod Kept
 pub mod WholeLines
 pub mod Torn

@@ -3,28 +3,25 @@ use Rattle.std.proofs.Common.{◌≡◌, ◌⊎◌, inl, inr, ⊎_elim, ℕ, suc
 use Rattle.std.proofs.lemmas.Bool.{cases_eq}
 use Rattle.std.proofs.lemmas.List.{append-nil, append_assoc, drop_at}
 use Rattle.casa_tape.specs.Tape.{IsTorn, TornBehind, CutTo}
-use Rattle.casa_tape.specs.Lines.{IsLine, AreLines, journal_of, whole_from, whole_lines, IsBetween}
+use Rattle.casa_tape.specs.Lines.{IsLine, AreLines, journal_of, onto_first, whole_lines, IsBetween}
 use Rattle.casa_tape.proofs.WholeLines.{at_lf, at_nul, at_other, lines_again, parts}
 
-nul_first : (line bs : List ℕ) (c : ℕ) → c ≡ 0 → whole_from line (c ∷ bs) ≡ []
-nul_first line bs c is = at_nul line bs c (λ lf. absurd (omega (arith, is, lf))) is
-
 -- of a line that is torn nothing counts, or all of it is there
-pub torn_line : (front line rest torn : List ℕ) → IsLine line → IsTorn (line ++ 10 ∷ rest) torn
-    → (whole_from front torn ≡ []) ⊎ ((t : List ℕ) × IsTorn rest t × (whole_from front torn ≡ (front ++ line) ∷ whole_lines t))
-torn_line front line rest [] is torn = inl refl
-torn_line front [] rest (c ∷ cs) is torn = elim torn.0 [
-  | inl same ↦ inr (cs, torn.1, at_lf front cs c same ∙ ap (λ f. f ∷ whole_lines cs) (sym (append-nil front)))
-  | inr nul ↦ inl (nul_first front cs c nul)
+pub torn_line : (line rest torn : List ℕ) → IsLine line → IsTorn (line ++ 10 ∷ rest) torn
+    → (whole_lines torn ≡ []) ⊎ ((t : List ℕ) × IsTorn rest t × (whole_lines torn ≡ line ∷ whole_lines t))
+torn_line line rest [] is torn = inl refl
+torn_line [] rest (c ∷ cs) is torn = elim torn.0 [
+  | inl same ↦ inr (cs, torn.1, at_lf cs c same)
+  | inr nul ↦ inl (at_nul cs c nul)
 ]
-torn_line front (b ∷ line) rest (c ∷ cs) is torn = elim torn.0 [
+torn_line (b ∷ line) rest (c ∷ cs) is torn = elim torn.0 [
   | inl same ↦
-      let on : whole_from front (c ∷ cs) ≡ whole_from (front ++ b ∷ []) cs = ap (λ x. whole_from front (x ∷ cs)) same ∙ at_other front cs b is.0.0 is.0.1 in
-      ⊎_elim (λ none. inl (on ∙ none))
-      (λ (found : (t : List ℕ) × IsTorn rest t × (whole_from (front ++ b ∷ []) cs ≡ ((front ++ b ∷ []) ++ line) ∷ whole_lines t)).
-      inr (found.0, found.1, on ∙ found.2 ∙ ap (λ f. f ∷ whole_lines found.0) (append_assoc front (b ∷ []) line)))
-      (torn_line (front ++ b ∷ []) line rest cs is.1 torn.1)
-  | inr nul ↦ inl (nul_first front cs c nul)
+      let on : whole_lines (c ∷ cs) ≡ onto_first b (whole_lines cs) = ap (λ x. whole_lines (x ∷ cs)) same ∙ at_other cs b is.0.0 is.0.1 in
+      ⊎_elim (λ none. inl (on ∙ ap (onto_first b) none))
+      (λ (found : (t : List ℕ) × IsTorn rest t × (whole_lines cs ≡ line ∷ whole_lines t)).
+      inr (found.0, found.1, on ∙ ap (onto_first b) found.2))
+      (torn_line line rest cs is.1 torn.1)
+  | inr nul ↦ inl (at_nul cs c nul)
 ]
 
 -- of torn lines the first ones count
@@ -37,26 +34,30 @@ torn_lines (line ∷ added) torn are is =
     (λ (found : (t : List ℕ) × IsTorn (journal_of added) t × (whole_lines torn ≡ line ∷ whole_lines t)).
     let rest = torn_lines added found.0 are.1 found.1 in
     (suc rest.0, omega (arith, rest.1), found.2 ∙ ap (λ ls. line ∷ ls) rest.2))
-    (torn_line [] line (journal_of added) torn are.0 is)
+    (torn_line line (journal_of added) torn are.0 is)
 
 pub torn_behind : (lines added : List (List ℕ)) (c : List ℕ) → AreLines lines → AreLines added → TornBehind (journal_of added) (journal_of lines) c → IsBetween lines added c
 torn_behind lines added c are news torn =
     let found = torn_lines added torn.0 news torn.1 in
     (found.0, found.1, ap whole_lines torn.2 ∙ lines_again lines torn.0 are ∙ ap (λ ls. lines ++ ls) found.2)
 
+first_of_none : (b : ℕ) (lines : List (List ℕ)) → onto_first b lines ≡ [] → lines ≡ []
+first_of_none b [] none = refl
+first_of_none b (line ∷ lines) none = absurd (cc none)
+
 -- what stands for nothing does so torn
-pub torn_nothing : (before after end torn : List ℕ) → whole_from before end ≡ [] → IsTorn end torn → whole_from after torn ≡ []
-torn_nothing before after end [] none is = refl
-torn_nothing before after [] (c ∷ cs) none is = absurd is
-torn_nothing before after (b ∷ end) (c ∷ cs) none is = elim is.0 [
-  | inr nul ↦ nul_first after cs c nul
+pub torn_nothing : (end torn : List ℕ) → whole_lines end ≡ [] → IsTorn end torn → whole_lines torn ≡ []
+torn_nothing end [] none is = refl
+torn_nothing [] (c ∷ cs) none is = absurd is
+torn_nothing (b ∷ end) (c ∷ cs) none is = elim is.0 [
+  | inr nul ↦ at_nul cs c nul
   | inl same ↦ elim (cases_eq b 10) [
-    | inl lf ↦ absurd (cc (sym (at_lf before end b lf) ∙ none))
+    | inl lf ↦ absurd (cc (sym (at_lf end b lf) ∙ none))
     | inr no_lf ↦ elim (cases_eq b 0) [
-      | inl nul ↦ nul_first after cs c (same ∙ nul)
+      | inl nul ↦ at_nul cs c (same ∙ nul)
       | inr no_nul ↦
-          ap (λ x. whole_from after (x ∷ cs)) same ∙ at_other after cs b no_lf no_nul
-          ∙ torn_nothing (before ++ b ∷ []) (after ++ b ∷ []) end cs (sym (at_other before end b no_lf no_nul) ∙ none) is.1
+          ap (λ x. whole_lines (x ∷ cs)) same ∙ at_other cs b no_lf no_nul
+          ∙ ap (onto_first b) (torn_nothing end cs (first_of_none b (whole_lines end) (sym (at_other end b no_lf no_nul) ∙ none)) is.1)
     ]
   ]
 ]
@@ -69,12 +70,12 @@ torn_whole (b ∷ bytes) = (inl refl, torn_whole bytes)
 -- a cut behind the whole lines keeps them
 pub cut_keeps : (file c : List ℕ) (end : ℕ) → take end file ≡ journal_of (whole_lines file) → end ≤ length file → CutTo end file c → whole_lines c ≡ whole_lines file
 cut_keeps file c end is within cut =
-    let p = parts [] file tt in
+    let p = parts file in
     let size : end ≡ length (journal_of (whole_lines file)) = omega (arith, ap length is, length-take end file) in
     let behind : drop end file ≡ p.end = ap (λ (l : List ℕ). drop end l) p.split ∙ drop_at (journal_of (whole_lines file)) p.end end (sym size) in
     let front : c ≡ journal_of (whole_lines file) ++ cut.0 = cut.2 ∙ ap (λ (l : List ℕ). l ++ cut.0) is in
-    let none = torn_nothing [] [] (drop end file) cut.0 (ap whole_lines behind ∙ p.nothing) cut.1 in
-    ap whole_lines front ∙ lines_again (whole_lines file) cut.0 p.lines ∙ ap (λ ls. whole_lines file ++ ls) none ∙ append-nil (whole_lines file)
+    let none = torn_nothing (drop end file) cut.0 (ap whole_lines behind ∙ p.nothing) cut.1 in
+    ap whole_lines front ∙ lines_again (whole_lines file) cut.0 p.are ∙ ap (λ ls. whole_lines file ++ ls) none ∙ append-nil (whole_lines file)
 
 pub journal_append : (lines added : List (List ℕ)) → journal_of (lines ++ added) ≡ journal_of lines ++ journal_of added
 journal_append [] added = refl

@@ -3,16 +3,16 @@ use Rattle.std.proofs.Common.{◌≡◌, ◌≢◌, inl, inr, ℕ, zero, suc, �
 use Rattle.std.proofs.lemmas.Bool.{cases_eq}
 use Rattle.std.proofs.lemmas.Bool.Decides.{nat_tests}
 use Rattle.std.proofs.lemmas.List.{append-nil, append_assoc, take_at, take_all, drop_at}
-use Rattle.casa_tape.specs.Lines.{IsLine, AreLines, journal_of, whole_from, whole_lines, whole_len, line_len, HasNoLine, IsWholeEnd}
+use Rattle.casa_tape.specs.Lines.{IsLine, AreLines, journal_of, onto_first, whole_lines, whole_len, line_len, HasNoLine, IsWholeEnd}
 
-pub at_lf : (line bs : List ℕ) (b : ℕ) → b ≡ 10 → whole_from line (b ∷ bs) ≡ line ∷ whole_from [] bs
-at_lf line bs b is = grind (arith, nat_tests)
+pub at_lf : (bs : List ℕ) (b : ℕ) → b ≡ 10 → whole_lines (b ∷ bs) ≡ [] ∷ whole_lines bs
+at_lf bs b is = grind (arith, nat_tests)
 
-pub at_nul : (line bs : List ℕ) (b : ℕ) → b ≢ 10 → b ≡ 0 → whole_from line (b ∷ bs) ≡ []
-at_nul line bs b no_lf is = grind (arith, nat_tests)
+pub at_nul : (bs : List ℕ) (b : ℕ) → b ≡ 0 → whole_lines (b ∷ bs) ≡ []
+at_nul bs b is = grind (arith, nat_tests)
 
-pub at_other : (line bs : List ℕ) (b : ℕ) → b ≢ 10 → b ≢ 0 → whole_from line (b ∷ bs) ≡ whole_from (line ++ b ∷ []) bs
-at_other line bs b no_lf no_nul = grind (arith, nat_tests)
+pub at_other : (bs : List ℕ) (b : ℕ) → b ≢ 10 → b ≢ 0 → whole_lines (b ∷ bs) ≡ onto_first b (whole_lines bs)
+at_other bs b no_lf no_nul = grind (arith, nat_tests)
 
 len_at_lf : (k : ℕ) (bs : List ℕ) (b : ℕ) → b ≡ 10 → whole_len k (b ∷ bs) ≡ k + 1 + whole_len 0 bs
 len_at_lf k bs b is = grind (arith, nat_tests)
@@ -23,87 +23,89 @@ len_at_nul k bs b no_lf is = grind (arith, nat_tests)
 len_at_other : (k : ℕ) (bs : List ℕ) (b : ℕ) → b ≢ 10 → b ≢ 0 → whole_len k (b ∷ bs) ≡ whole_len (k + 1) bs
 len_at_other k bs b no_lf no_nul = grind (arith, nat_tests)
 
-pub length-whole : (line bytes : List ℕ) → length (journal_of (whole_from line bytes)) ≡ whole_len (length line) bytes
-length-whole line [] = refl
-length-whole line (b ∷ bs) = elim (cases_eq b 10) [
-  | inl lf ↦ omega (arith, ap (λ ls. length (journal_of ls)) (at_lf line bs b lf), length-append line (10 ∷ journal_of (whole_from [] bs)), length-whole [] bs, len_at_lf (length line) bs b lf)
+-- the bytes of some lines, where so many bytes stand before the first of them, if there is one
+abbrev length_behind : ℕ → List (List ℕ) → ℕ
+length_behind k [] = 0
+length_behind k (line ∷ lines) = k + length (journal_of (line ∷ lines))
+
+behind_none : (lines : List (List ℕ)) → length_behind 0 lines ≡ length (journal_of lines)
+behind_none [] = refl
+behind_none (line ∷ lines) = omega arith
+
+behind_first : (k b : ℕ) (lines : List (List ℕ)) → length_behind (k + 1) lines ≡ length_behind k (onto_first b lines)
+behind_first k b [] = refl
+behind_first k b (line ∷ lines) = omega arith
+
+whole_len_of : (k : ℕ) (bytes : List ℕ) → whole_len k bytes ≡ length_behind k (whole_lines bytes)
+whole_len_of k [] = refl
+whole_len_of k (b ∷ bs) = elim (cases_eq b 10) [
+  | inl lf ↦
+      len_at_lf k bs b lf ∙ ap (λ (n : ℕ). k + 1 + n) (whole_len_of 0 bs ∙ behind_none (whole_lines bs)) ∙ omega arith
+      ∙ ap (length_behind k) (sym (at_lf bs b lf))
   | inr no_lf ↦ elim (cases_eq b 0) [
-    | inl nul ↦ omega (arith, ap (λ ls. length (journal_of ls)) (at_nul line bs b no_lf nul), len_at_nul (length line) bs b no_lf nul)
+    | inl nul ↦ len_at_nul k bs b no_lf nul ∙ ap (length_behind k) (sym (at_nul bs b nul))
     | inr no_nul ↦
-        ap (λ ls. length (journal_of ls)) (at_other line bs b no_lf no_nul) ∙ length-whole (line ++ b ∷ []) bs
-        ∙ ap (λ k. whole_len k bs) (length-append line (b ∷ [])) ∙ sym (len_at_other (length line) bs b no_lf no_nul)
+        len_at_other k bs b no_lf no_nul ∙ whole_len_of (k + 1) bs ∙ behind_first k b (whole_lines bs)
+        ∙ ap (length_behind k) (sym (at_other bs b no_lf no_nul))
   ]
 ]
 
--- a line stands before what is read on
-pub line_before : (front line bytes : List ℕ) → IsLine line → whole_from front (line ++ bytes) ≡ whole_from (front ++ line) bytes
-line_before front [] bytes is = ap (λ f. whole_from f bytes) (sym (append-nil front))
-line_before front (b ∷ line) bytes is =
-    at_other front (line ++ bytes) b is.0.0 is.0.1 ∙ line_before (front ++ b ∷ []) line bytes is.1
-    ∙ ap (λ f. whole_from f bytes) (append_assoc front (b ∷ []) line)
-
-pub line_with : (line : List ℕ) (b : ℕ) → IsLine line → b ≢ 10 → b ≢ 0 → IsLine (line ++ b ∷ [])
-line_with [] b is no_lf no_nul = ((no_lf, no_nul), is)
-line_with (c ∷ line) b is no_lf no_nul = (is.0, line_with line b is.1 no_lf no_nul)
+-- a line with its LF is one of them
+pub line_first : (line bytes : List ℕ) → IsLine line → whole_lines (line ++ 10 ∷ bytes) ≡ line ∷ whole_lines bytes
+line_first [] bytes is = at_lf bytes 10 refl
+line_first (b ∷ line) bytes is = at_other (line ++ 10 ∷ bytes) b is.0.0 is.0.1 ∙ ap (onto_first b) (line_first line bytes is.1)
 
 -- lines of a journal are read again
 pub lines_again : (lines : List (List ℕ)) (rest : List ℕ) → AreLines lines → whole_lines (journal_of lines ++ rest) ≡ lines ++ whole_lines rest
 lines_again [] rest are = refl
 lines_again (line ∷ lines) rest are =
-    ap whole_lines (append_assoc line (10 ∷ journal_of lines) rest) ∙ line_before [] line (10 ∷ (journal_of lines ++ rest)) are.0
-    ∙ at_lf line (journal_of lines ++ rest) 10 refl ∙ ap (λ ls. line ∷ ls) (lines_again lines rest are.1)
+    ap whole_lines (append_assoc line (10 ∷ journal_of lines) rest) ∙ line_first line (journal_of lines ++ rest) are.0
+    ∙ ap (λ ls. line ∷ ls) (lines_again lines rest are.1)
 
--- bytes behind a line are whole lines, and an end that stands for nothing
-pub record Parts (line bytes : List ℕ) : Type 0 where
+-- bytes are whole lines, and an end that stands for nothing
+pub record Parts (bytes : List ℕ) (lines : List (List ℕ)) : Type 0 where
   pub end : List ℕ
-  pub split : line ++ bytes ≡ journal_of (whole_from line bytes) ++ end
+  pub split : bytes ≡ journal_of lines ++ end
   pub nothing : whole_lines end ≡ []
-  pub lines : AreLines (whole_from line bytes)
+  pub are : AreLines lines
 
-pub parts : (line bytes : List ℕ) → IsLine line → Parts line bytes
-parts line [] is = record {
-  end = line;
-  split = append-nil line;
-  nothing = ap whole_lines (sym (append-nil line)) ∙ line_before [] line [] is;
-  lines = tt;
+with_byte : (b : ℕ) (bs : List ℕ) (lines : List (List ℕ)) → b ≢ 10 → b ≢ 0 → lines ≡ whole_lines bs → Parts bs lines → Parts (b ∷ bs) (onto_first b lines)
+with_byte b bs [] no_lf no_nul is rest = record {
+  end = b ∷ bs;
+  split = refl;
+  nothing = at_other bs b no_lf no_nul ∙ ap (onto_first b) (sym is);
+  are = tt;
 }
-parts line (b ∷ bs) is = elim (cases_eq b 10) [
+with_byte b bs (line ∷ lines) no_lf no_nul is rest = record {
+  end = rest.end;
+  split = ap (λ l. b ∷ l) rest.split;
+  nothing = rest.nothing;
+  are = (((no_lf, no_nul), rest.are.0), rest.are.1);
+}
+
+pub parts : (bytes : List ℕ) → Parts bytes (whole_lines bytes)
+parts [] = record { end = []; split = refl; nothing = refl; are = tt }
+parts (b ∷ bs) = elim (cases_eq b 10) [
   | inl lf ↦
-      let rest = parts [] bs tt in
-      let found = at_lf line bs b lf in
-      record {
+      let rest = parts bs in
+      subst (Parts (b ∷ bs)) (sym (at_lf bs b lf)) (record {
         end = rest.end;
-        split = ap (λ l. line ++ l) ((λ i. lf i ∷ rest.split i)) ∙ sym (append_assoc line (10 ∷ journal_of (whole_from [] bs)) rest.end) ∙ ap (λ ls. journal_of ls ++ rest.end) (sym found);
+        split = (λ i. lf i ∷ rest.split i);
         nothing = rest.nothing;
-        lines = subst AreLines (sym found) (is, rest.lines);
-      }
+        are = (tt, rest.are);
+      })
   | inr no_lf ↦ elim (cases_eq b 0) [
-    | inl nul ↦
-        let none = at_nul line bs b no_lf nul in
-        record {
-          end = line ++ b ∷ bs;
-          split = ap (λ ls. journal_of ls ++ (line ++ b ∷ bs)) (sym none);
-          nothing = line_before [] line (b ∷ bs) is ∙ none;
-          lines = subst AreLines (sym none) tt;
-        }
-    | inr no_nul ↦
-        let rest = parts (line ++ b ∷ []) bs (line_with line b is no_lf no_nul) in
-        let on = at_other line bs b no_lf no_nul in
-        record {
-          end = rest.end;
-          split = sym (append_assoc line (b ∷ []) bs) ∙ rest.split ∙ ap (λ ls. journal_of ls ++ rest.end) (sym on);
-          nothing = rest.nothing;
-          lines = subst AreLines (sym on) rest.lines;
-        }
+    | inl nul ↦ subst (Parts (b ∷ bs)) (sym (at_nul bs b nul)) (record { end = b ∷ bs; split = refl; nothing = at_nul bs b nul; are = tt })
+    | inr no_nul ↦ subst (Parts (b ∷ bs)) (sym (at_other bs b no_lf no_nul)) (with_byte b bs (whole_lines bs) no_lf no_nul refl (parts bs))
   ]
 ]
 
 pub whole_len_is : (bytes : List ℕ) (end : ℕ) → end ≡ whole_len 0 bytes → end ≤ length bytes → IsWholeEnd bytes end
 whole_len_is bytes end is within =
-    let p = parts [] bytes tt in
+    let p = parts bytes in
+    let size : length (journal_of (whole_lines bytes)) ≡ end = sym (is ∙ whole_len_of 0 bytes ∙ behind_none (whole_lines bytes)) in
     record {
-      lines = ap (λ (n : ℕ). take n bytes) is ∙ ap (λ (l : List ℕ). take (whole_len 0 bytes) l) p.split
-          ∙ take_at (journal_of (whole_lines bytes)) p.end (whole_len 0 bytes) (length-whole [] bytes);
+      lines = ap (λ (l : List ℕ). take end l) p.split ∙ take_at (journal_of (whole_lines bytes)) p.end end size;
       within = within;
     }
 
@@ -119,9 +121,9 @@ none_whole bytes none = step (whole_lines bytes) refl
     step : (found : List (List ℕ)) → found ≡ whole_lines bytes → whole_lines bytes ≡ []
     step [] is = sym is
     step (line ∷ others) is =
-        let p = parts [] bytes tt in
+        let p = parts bytes in
         let split : bytes ≡ line ++ 10 ∷ (journal_of others ++ p.end) = p.split ∙ ap (λ ls. journal_of ls ++ p.end) (sym is) ∙ append_assoc line (10 ∷ journal_of others) p.end in
-        absurd (none line (journal_of others ++ p.end) (subst AreLines (sym is) p.lines).0 split)
+        absurd (none line (journal_of others ++ p.end) (subst AreLines (sym is) p.are).0 split)
 
 -- lines with which bytes begin, and behind which no line begins, are the whole ones
 pub whole_is : (bytes end : List ℕ) (lines : List (List ℕ)) → AreLines lines → bytes ≡ journal_of lines ++ end → HasNoLine end → lines ≡ whole_lines bytes

@@ -4,16 +4,15 @@ use Rattle.casa_tape.specs.declared.tape.Tape.{Ghosts as TapeOf}
 use Rattle.casa_tape.specs.Tape.{IsSynced}
 use Rattle.casa_tape.specs.Lines.{AreLines, journal_of}
 
--- a read returns these bytes and no others
+-- whatever a read may return is these bytes
 abbrev pub HoldsOnly : {D : Type 0} → TapeOf D → D → List ℕ → Type 0
 HoldsOnly T tape bytes = (xs : List ℕ) → T.holds tape xs → bytes ≡ xs
 
--- the file is these lines, all of it on the disk
+-- the file is these lines, and a crash leaves just that
 pub record IsSettled {D : Type 0} (T : TapeOf D) (tape : D) (lines : List (List ℕ)) : Type 0 where
   pub are : AreLines lines
   pub synced : IsSynced T.holds T.may_leave tape
   pub held : HoldsOnly T tape (journal_of lines)
-  pub durable : (c : List ℕ) → T.may_leave tape c → c ≡ journal_of lines
 
 -- A crash at any moment since old leaves a file that has P.
 pub record LeavesOnly {D : Type 0} (T : TapeOf D) (old new : D) (P : List ℕ → Type 0) : Type 0 where

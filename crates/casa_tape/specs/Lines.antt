@@ -1,5 +1,5 @@
 -- to believe: the lines of a journal, and those that a crash leaves
-use Rattle.std.specs.Prelude.{◌≡◌, ◌≢◌, ℕ, ◌+◌, ◌≤◌, ◌==◌, if◌then◌else◌, List, [], ◌∷◌, ◌++◌, length, take}
+use Rattle.std.specs.Prelude.{◌≡◌, ◌≢◌, ℕ, ◌+◌, ◌≤◌, ◌==◌, not, if◌then◌else◌, List, [], ◌∷◌, ◌++◌, length, take, take_while}
 use Rattle.std.specs.List.{AllByRecursion}
 
 -- a line of a journal has neither LF nor NUL
@@ -19,14 +19,19 @@ journal_of (line ∷ lines) = line ++ 10 ∷ journal_of lines
 abbrev pub HasNoLine : List ℕ → Type 0
 HasNoLine bytes = (line behind : List ℕ) → IsLine line → bytes ≡ line ++ 10 ∷ behind → ⊥
 
--- the whole lines of bytes before which `line` stands: up to the first NUL, and the last one only with its LF
-abbrev pub whole_from : List ℕ → List ℕ → List (List ℕ)
-whole_from line [] = []
-whole_from line (b ∷ bs) = if b == 10 then line ∷ whole_from [] bs else (if b == 0 then [] else whole_from (line ++ b ∷ []) bs)
+-- a byte at the front of the first of some lines, if there is one
+abbrev pub onto_first : ℕ → List (List ℕ) → List (List ℕ)
+onto_first b [] = []
+onto_first b (line ∷ lines) = (b ∷ line) ∷ lines
 
--- the lines for which a file stands, whatever a crash made of it
+-- the lines of bytes that an LF ends, without it
+abbrev pub ended_lines : List ℕ → List (List ℕ)
+ended_lines [] = []
+ended_lines (b ∷ bs) = if b == 10 then [] ∷ ended_lines bs else onto_first b (ended_lines bs)
+
+-- the whole lines for which a file stands, whatever a crash made of it: those that an LF ends before the first NUL
 abbrev pub whole_lines : List ℕ → List (List ℕ)
-whole_lines bytes = whole_from [] bytes
+whole_lines bytes = ended_lines (take_while (λ b. not (b == 0)) bytes)
 
 -- the file stands for the same lines as one of these
 abbrev pub StandsAs : (List ℕ → Type 0) → List ℕ → Type 0

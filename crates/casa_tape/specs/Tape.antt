@@ -21,7 +21,7 @@ CutTo len old new = (torn : List ℕ) × IsTorn (drop len old) torn × (new ≡ 
 abbrev pub Follows : (List ℕ → List ℕ → Type 0) → (List ℕ → Type 0) → (List ℕ → Type 0) → Type 0
 Follows step old new = (c : List ℕ) → new c → (d : List ℕ) × old d × step d c
 
--- a crash leaves what a read returns
+-- a crash leaves only what a read may return
 abbrev pub IsSynced : {D : Type 0} → (D → List ℕ → Type 0) → (D → List ℕ → Type 0) → D → Type 0
 IsSynced holds may_leave tape = (c : List ℕ) → may_leave tape c → holds tape c
 

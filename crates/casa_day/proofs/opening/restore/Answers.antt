@@ -1,4 +1,4 @@
-use Rattle.std.proofs.Common.{◌≡◌, List, [], ℕ, Err, sym, subst, rules}
+use Rattle.std.proofs.Common.{◌≡◌, List, ℕ, Err, sym, subst, rules}
 use Rattle.std.specs.Prelude.{IfErr}
 use Rattle.casa_tape.specs.Lines.{whole_lines}
 use Rattle.casa_tape.specs.Recovery.{lines_found}
@@ -15,7 +15,7 @@ returns-in_err-count-clause-refused g c =
     subst (λ r. IfErr r (λ f. IsOfLines f → (xs : List ℕ) → g.T.Tape.holds c.args.tape.now xs → IsRefused g.S.Script g.W.World (whole_lines xs) f)) (sym is)
     (λ of xs held.
     subst (λ (ys : List ℕ). IsRefused g.S.Script g.W.World (whole_lines ys) fault) (c.in_ok-found.ensures.found xs ((c.look.ensures.held xs).1 held))
-    (c.in_err-count.ensures.refused (lines_found found) (parts [] found.bytes.items tt).lines c.lines.ensures))
+    (c.in_err-count.ensures.refused (lines_found found) (parts found.bytes.items).are c.lines.ensures))
 
 pub returns-in_err-mend-clause-any_moment : goal.returns-in_err-mend-clause-any_moment
 returns-in_err-mend-clause-any_moment g c =

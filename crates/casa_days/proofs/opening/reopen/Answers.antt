@@ -18,7 +18,7 @@ returns-in_err-run-clause-refused g c =
     if_err _ c.from_residual-in_err-run.result fault is
     (λ of xs held.
     refused_same found.bytes.items xs (c.in_ok-found.ensures.found xs ((c.look.ensures.held xs).1 held))
-    (c.in_err-run.ensures.refused (lines_found found) (parts [] found.bytes.items tt).lines c.lines.ensures))
+    (c.in_err-run.ensures.refused (lines_found found) (parts found.bytes.items).are c.lines.ensures))
 
 pub returns-in_err-mend-clause-refused : goal.returns-in_err-mend-clause-refused
 returns-in_err-mend-clause-refused g c =
@@ -57,5 +57,5 @@ returns-clause-reopened g c =
       lines = lines_found found;
       found = λ xs held. ap (λ ys. whole_lines ys) (c.in_ok-found.ensures.found xs ((c.look.ensures.held xs).1 held));
       settled = c.in_ok-mend.ensures.settled;
-      said = c.in_ok-run.ensures.said (lines_found found) (parts [] found.bytes.items tt).lines c.lines.ensures;
+      said = c.in_ok-run.ensures.said (lines_found found) (parts found.bytes.items).are c.lines.ensures;
     }

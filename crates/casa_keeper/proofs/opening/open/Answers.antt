@@ -1,4 +1,4 @@
-use Rattle.std.proofs.Common.{◌≡◌, [], Err, rules}
+use Rattle.std.proofs.Common.{◌≡◌, Err, rules}
 use Rattle.casa_tape.specs.Recovery.{lines_found}
 use Rattle.casa_tape.proofs.WholeLines.{parts}
 use Rattle.casa_day.proofs.Restoring.{refused_same}
@@ -15,5 +15,5 @@ returns-in_err-count-clause-refused g c =
     (refused_for _ _ fault
     (λ why refused of xs held.
     refused_same found.bytes.items xs (c.in_ok-found.ensures.found xs ((c.look.ensures.held xs).1 held))
-    (refused (lines_found found) (parts [] found.bytes.items tt).lines c.lines.ensures))
+    (refused (lines_found found) (parts found.bytes.items).are c.lines.ensures))
     c.in_err-count.ensures.refused)

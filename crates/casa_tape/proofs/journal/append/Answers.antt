@@ -29,5 +29,4 @@ returns-clause-settled g c lines added news is settled =
       are = lines_append lines added settled.are news;
       synced = c.in_ok-sync.ensures.durable;
       held = held;
-      durable = λ f now. sym (held f (c.in_ok-sync.ensures.durable f now));
     }

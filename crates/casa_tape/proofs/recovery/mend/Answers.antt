@@ -1,4 +1,4 @@
-use Rattle.std.proofs.Common.{◌≡◌, List, [], ℕ, take, sym, ◌∙◌, ap}
+use Rattle.std.proofs.Common.{◌≡◌, List, ℕ, take, sym, ◌∙◌, ap}
 use Rattle.casa_tape.specs.Lines.{journal_of, StandsAs}
 use Rattle.casa_tape.specs.Recovery.{lines_found}
 use Rattle.casa_tape.proofs.Moments.{call_more}
@@ -31,8 +31,7 @@ returns-clause-settled g c =
     let from = c.in_ok-cut.ensures.cut ys ((c.sync.ensures.held ys).0 held) in
     sym found.ends.lines ∙ ap (λ (x : List ℕ). take found.end x) (c.requires.found from.0 from.1) ∙ sym from.2 in
     record {
-      are = (parts [] found.bytes.items tt).lines;
+      are = (parts found.bytes.items).are;
       synced = c.in_ok-sync.ensures.durable;
       held = held;
-      durable = λ f now. sym (held f (c.in_ok-sync.ensures.durable f now));
     }

@@ -1,10 +1,8 @@
 use Rattle.std.proofs.Common.{◌≡◌, ◌+◌, ◌≤◌, List, ℕ, length}
-use Rattle.casa_commit.specs.Legal.{IsLegal}
 use Rattle.casa_tape.specs.Lines.{AreLines, journal_of}
 use Rattle.casa_day.specs.Days.{IsReplayed}
 use Rattle.casa_engine.specs.Fronts.{front_of}
-use Rattle.casa_view.specs.BoardState.{opening, after}
-use Rattle.casa_keeper.proofs.recovery.replay.Given as goal
+use Rattle.casa_keeper.proofs.recovery.answer_all.Given as goal
 
 -- the lines so far say what the desk has seen so far, and what is left are lines
 abbrev pub invariant-loop-line : goal.invariant-loop-line

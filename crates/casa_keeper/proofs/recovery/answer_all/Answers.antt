@@ -1,14 +1,9 @@
-use Rattle.std.proofs.Common.{◌≡◌, ◌+◌, ◌∷◌, [], List, ℕ, length, Err, sym, ◌∙◌, ap, subst, arith, rules, length-append}
-use Rattle.std.specs.Prelude.{IfErr}
-use Rattle.casa_commit.specs.Legal.{IsLegal}
-use Rattle.casa_tape.specs.Lines.{AreLines, journal_of}
-use Rattle.casa_day.specs.Refusals.{IsRefused}
-use Rattle.casa_day.proofs.Replaying.{none_is_legal, replay_begins, replay_goes_on, replay_ends, replay_refused}
+use Rattle.std.proofs.Common.{◌≡◌, ◌+◌, ◌∷◌, [], length, Err, ◌∙◌, ap, arith, rules, length-append}
+use Rattle.casa_day.proofs.Replaying.{replay_goes_on, replay_ends, replay_refused}
 use Rattle.casa_engine.specs.Fronts.{front_of}
-use Rattle.casa_keeper.specs.Recoveries.{IfRefused}
 use Rattle.casa_day.proofs.Coursing.{if_err}
 use Rattle.casa_keeper.proofs.Answered.{refused_for}
-use Rattle.casa_keeper.proofs.recovery.replay.Goals as goal
+use Rattle.casa_keeper.proofs.recovery.answer_all.Goals as goal
 
 pub returns-in_err-answer_again-clause-refused : goal.returns-in_err-answer_again-clause-refused
 returns-in_err-answer_again-clause-refused g c =
