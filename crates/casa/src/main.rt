@@ -1,13 +1,14 @@
 //! Casa allocates departure slots: `casa run` answers command lines; `casa report` prints a regulation's list after them,
 //! `casa load` its demand and capacity, `casa summary` what all regulations cost, and `casa why` why a flight waits; and
-//! `casa serve` answers the desks that connect.
+//! `casa serve` answers the desks that connect. With a journal `casa run` and `casa serve` go on where they ended, and
+//! `casa journal check` says what one has.
 #![tactic(auto)]
 
-use casa_app::{
-    Input, ProgramFault, Timing, load, outcome, report, serve_desks, stand_in, stay_desks, summary,
-    why,
-};
+use casa_app::{Input, ProgramFault, load, outcome, report, summary, why};
 use casa_cli::{Task, TaskFault, task};
+use casa_service::{
+    ServiceFault, Timing, check_journal, run_journaled, serve_desks, stand_in, stay_desks,
+};
 use casa_session::Lone;
 use clap::Command;
 use clap::error::ErrorKind;
@@ -93,7 +94,10 @@ fn carry_out<
     errors: &mut E,
 ) -> Result<(), ProgramFault> {
     match task {
-        Task::Run => answer_lines(alloc, input, writer),
+        Task::Run {
+            journal: Some(file),
+        } => Ok(run_journaled(rt, alloc, file, input, writer)?),
+        Task::Run { journal: None } => answer_lines(alloc, input, writer),
         Task::Report { reg, day, strict } => {
             report(alloc, reg, *day, *strict, input, writer, errors)
         }
@@ -110,15 +114,18 @@ fn carry_out<
             connections,
             turns,
             day,
+            journal,
         } => {
             let _standing_in = stand_in(rt, alloc);
-            serve_desks(rt, alloc, *port, *connections, timing(*turns, *day))?;
+            let timing = timing(*turns, *day);
+            serve_desks(rt, alloc, *port, *connections, timing, *journal)?;
             Ok(())
         }
         Task::Stay(service) => {
             let _standing_in = stand_in(rt, alloc);
-            stay_desks(rt, alloc, service)
+            Ok(stay_desks(rt, alloc, service)?)
         }
+        Task::CheckJournal { path } => Ok(check_journal(rt, alloc, path, writer)?),
     }
 }
 
@@ -167,7 +174,12 @@ fn ended_by(rt: &HostRuntime, fault: &ProgramFault) -> ExitCode {
     let (status, name) = outcome(fault);
     let said = match fault {
         ProgramFault::Task(TaskFault::Words(error)) => error.print(rt),
-        ProgramFault::BindFailed(fault) => eprintln!(rt; "casa: {name}\n{fault}"),
+        ProgramFault::Service(ServiceFault::BindFailed(fault)) => {
+            eprintln!(rt; "casa: {name}\n{fault}")
+        }
+        ProgramFault::Service(ServiceFault::Journal(fault)) => {
+            eprintln!(rt; "casa: {name}\n{fault}")
+        }
         _ => eprintln!(rt; "casa: {name}"),
     };
     match said {

@@ -14,7 +14,7 @@ use Rattle.casa_report.specs.Heading.{heading_line}
 use Rattle.casa_report.specs.LoadTable.{load_table}
 use Rattle.casa_session.specs.Played.{state_after}
 use Rattle.casa_app.specs.declared.fault.ProgramFault.{ProgramFault}
-use Rattle.casa_app.specs.declared.fault.ProgramFault.TheVariants.{Task, Session, Report, NoRegulation, NoFlight, BindFailed, Serve, FaultyLines, NoMemory}
+use Rattle.casa_app.specs.declared.fault.ProgramFault.TheVariants.{Task, Session, Report, NoRegulation, NoFlight, Service, FaultyLines, NoMemory}
 use Rattle.casa_app.specs.Reports.{IsBroken, IsUnlisted, IsWhole, SessionEnds, list_after}
 
 -- a regulation is open and has these periods
@@ -52,5 +52,4 @@ LoadEnds reg day minutes (Err FaultyLines) r s v w = w ≡ v
 LoadEnds reg day minutes (Err NoMemory) r s v w = w ≡ v
 LoadEnds reg day minutes (Err (Task fault)) r s v w = ⊥
 LoadEnds reg day minutes (Err NoFlight) r s v w = ⊥
-LoadEnds reg day minutes (Err (BindFailed fault)) r s v w = ⊥
-LoadEnds reg day minutes (Err (Serve fault)) r s v w = ⊥
+LoadEnds reg day minutes (Err (Service fault)) r s v w = ⊥

@@ -6,9 +6,9 @@ use Rattle.clap.specs.declared.error.kind.ErrorKind.TheVariants.{DisplayHelp, Di
 use Rattle.casa_cli.specs.declared.tasks.TaskFault.TheVariants.{Words, BadReg, BadKey, BadDay}
 use Rattle.casa_session.specs.Faults.{session_fault_name}
 use Rattle.casa_report.specs.Faults.{name_of as report_fault_name}
-use Rattle.casa_server.specs.Faults.{serve_fault_name}
+use Rattle.casa_service.specs.Faults.{service_fault_name}
 use Rattle.casa_app.specs.declared.fault.ProgramFault.{ProgramFault}
-use Rattle.casa_app.specs.declared.fault.ProgramFault.TheVariants.{Task, Session, Report, NoRegulation, NoFlight, BindFailed, Serve, FaultyLines, NoMemory}
+use Rattle.casa_app.specs.declared.fault.ProgramFault.TheVariants.{Task, Session, Report, NoRegulation, NoFlight, Service, FaultyLines, NoMemory}
 
 -- who asks for help or the version made no mistake
 abbrev pub words_status : ErrorKind → ℕ
@@ -26,7 +26,6 @@ outcome_of (Session fault) = (1, session_fault_name fault)
 outcome_of (Report fault) = (1, report_fault_name fault)
 outcome_of NoRegulation = (1, codes "NoRegulation")
 outcome_of NoFlight = (1, codes "NoFlight")
-outcome_of (BindFailed fault) = (1, codes "BindFailed")
-outcome_of (Serve fault) = (1, serve_fault_name fault)
+outcome_of (Service fault) = (1, service_fault_name fault)
 outcome_of FaultyLines = (1, codes "FaultyLines")
 outcome_of NoMemory = (1, codes "NoMemory")

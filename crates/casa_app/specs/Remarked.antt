@@ -7,7 +7,7 @@ use Rattle.casa_session.specs.declared.fault.SessionFault.{SessionFault}
 use Rattle.casa_session.specs.Alone.{LoneEnds, transcript_after}
 use Rattle.casa_session.specs.Lines.{lines_of}
 use Rattle.casa_app.specs.declared.fault.ProgramFault.{ProgramFault}
-use Rattle.casa_app.specs.declared.fault.ProgramFault.TheVariants.{Task, Session, Report, NoRegulation, NoFlight, BindFailed, Serve, FaultyLines, NoMemory}
+use Rattle.casa_app.specs.declared.fault.ProgramFault.TheVariants.{Task, Session, Report, NoRegulation, NoFlight, Service, FaultyLines, NoMemory}
 use Rattle.casa_app.specs.Remarks.{remarks, said}
 
 -- a text was written, or its first bytes and not all of it, where the writer failed
@@ -43,5 +43,4 @@ Says strict marked (Err NoFlight) r s v w = SaysAll strict marked r v w
 Says strict marked (Err (Report fault)) r s v w = SaysAll strict marked r v w
 Says strict marked (Err NoMemory) r s v w = (w ≡ v) ⊎ SaysAll strict marked r v w
 Says strict marked (Err (Task fault)) r s v w = ⊥
-Says strict marked (Err (BindFailed fault)) r s v w = ⊥
-Says strict marked (Err (Serve fault)) r s v w = ⊥
+Says strict marked (Err (Service fault)) r s v w = ⊥

@@ -18,7 +18,7 @@ use Rattle.casa_session.specs.Lines.{lines_of, has_too_long}
 use Rattle.casa_session.specs.Played.{state_after}
 use Rattle.casa_session.specs.Transcript.{calls}
 use Rattle.casa_app.specs.declared.fault.ProgramFault.{ProgramFault}
-use Rattle.casa_app.specs.declared.fault.ProgramFault.TheVariants.{Task, Session, Report, NoRegulation, NoFlight, BindFailed, Serve, FaultyLines, NoMemory}
+use Rattle.casa_app.specs.declared.fault.ProgramFault.TheVariants.{Task, Session, Report, NoRegulation, NoFlight, Service, FaultyLines, NoMemory}
 use Rattle.casa_app.specs.Listed.{list_in}
 
 -- the list that the sequential allocator tells of a regulation after these calls; none where the regulation is not open
@@ -68,5 +68,4 @@ ReportEnds reg day (Err FaultyLines) r s v w = w ≡ v
 ReportEnds reg day (Err NoMemory) r s v w = w ≡ v
 ReportEnds reg day (Err (Task fault)) r s v w = ⊥
 ReportEnds reg day (Err NoFlight) r s v w = ⊥
-ReportEnds reg day (Err (BindFailed fault)) r s v w = ⊥
-ReportEnds reg day (Err (Serve fault)) r s v w = ⊥
+ReportEnds reg day (Err (Service fault)) r s v w = ⊥

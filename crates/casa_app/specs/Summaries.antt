@@ -9,7 +9,7 @@ use Rattle.casa_inquiry.specs.Summary.{lists_told}
 use Rattle.casa_report.specs.SummaryTable.{day_line, summary_table}
 use Rattle.casa_session.specs.Played.{state_after}
 use Rattle.casa_app.specs.declared.fault.ProgramFault.{ProgramFault}
-use Rattle.casa_app.specs.declared.fault.ProgramFault.TheVariants.{Task, Session, Report, NoRegulation, NoFlight, BindFailed, Serve, FaultyLines, NoMemory}
+use Rattle.casa_app.specs.declared.fault.ProgramFault.TheVariants.{Task, Session, Report, NoRegulation, NoFlight, Service, FaultyLines, NoMemory}
 use Rattle.casa_app.specs.Reports.{IsBroken, IsWhole, SessionEnds}
 
 -- the list of each open regulation that the sequential allocator tells after these calls
@@ -38,5 +38,4 @@ SummaryEnds day (Err NoMemory) r s v w = w ≡ v
 SummaryEnds day (Err (Task fault)) r s v w = ⊥
 SummaryEnds day (Err NoRegulation) r s v w = ⊥
 SummaryEnds day (Err NoFlight) r s v w = ⊥
-SummaryEnds day (Err (BindFailed fault)) r s v w = ⊥
-SummaryEnds day (Err (Serve fault)) r s v w = ⊥
+SummaryEnds day (Err (Service fault)) r s v w = ⊥

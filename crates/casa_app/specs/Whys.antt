@@ -9,7 +9,7 @@ use Rattle.casa_inquiry.specs.declared.why.Reasons.{Reasons}
 use Rattle.casa_report.specs.WhyText.{why_text}
 use Rattle.casa_session.specs.Played.{state_after}
 use Rattle.casa_app.specs.declared.fault.ProgramFault.{ProgramFault}
-use Rattle.casa_app.specs.declared.fault.ProgramFault.TheVariants.{Task, Session, Report, NoRegulation, NoFlight, BindFailed, Serve, FaultyLines, NoMemory}
+use Rattle.casa_app.specs.declared.fault.ProgramFault.TheVariants.{Task, Session, Report, NoRegulation, NoFlight, Service, FaultyLines, NoMemory}
 use Rattle.casa_app.specs.Reports.{IsBroken, IsWhole, SessionEnds}
 
 -- why the flight under a key stands as it does after these calls of the sequential allocator; none where there is no such
@@ -43,5 +43,4 @@ WhyEnds key day (Err FaultyLines) r s v w = w ≡ v
 WhyEnds key day (Err NoMemory) r s v w = w ≡ v
 WhyEnds key day (Err (Task fault)) r s v w = ⊥
 WhyEnds key day (Err NoRegulation) r s v w = ⊥
-WhyEnds key day (Err (BindFailed fault)) r s v w = ⊥
-WhyEnds key day (Err (Serve fault)) r s v w = ⊥
+WhyEnds key day (Err (Service fault)) r s v w = ⊥

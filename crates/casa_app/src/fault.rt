@@ -3,12 +3,10 @@ ghost use Rattle.casa_app.specs.Outcomes.{outcome_of, words_status};
 
 use casa_cli::TaskFault;
 use casa_report::ReportFault;
-use casa_server::ServeFault;
+use casa_service::ServiceFault;
 use casa_session::SessionFault;
 use clap::error::ErrorKind;
 use std::alloc::AllocError;
-use std::fmt::{Display, Formatter};
-use std::{fmt, io};
 use thiserror::Error;
 
 /// The exit status where something went wrong.
@@ -35,37 +33,15 @@ pub enum ProgramFault {
     /// There is no such flight.
     #[error("there is no such flight")]
     NoFlight,
-    /// An address can't be had: nobody may listen there, or another program does.
+    /// Desks were not answered, or not to their end.
     #[error("{0}")]
-    BindFailed(BindFault),
-    /// The server ended before it had accepted all its connections.
-    #[error("{0}")]
-    Serve(ServeFault),
+    Service(ServiceFault),
     /// A line has a fault or was refused, which is not to be.
     #[error("a line has a fault or was refused")]
     FaultyLines,
     /// There is no memory.
     #[error("there is no memory")]
     NoMemory,
-}
-
-/// Why an address of a server can't be had.
-#[derive(Debug, Drop)]
-pub struct BindFault {
-    /// The port of 127.0.0.1; `None` where it is the socket.
-    pub port: Option<u16>,
-    /// What the system says.
-    pub error: io::Error,
-}
-
-/// The address, and what the system says.
-impl Display for BindFault {
-    fn fmt<W: fmt::Write>(&self, f: &mut Formatter<W>) -> fmt::Result {
-        match self.port {
-            Some(port) => write!(f, "127.0.0.1:{port}: {}", self.error),
-            None => write!(f, "the socket: {}", self.error),
-        }
-    }
 }
 
 impl From<AllocError> for ProgramFault {
@@ -98,13 +74,13 @@ impl From<ReportFault> for ProgramFault {
     }
 }
 
-impl From<ServeFault> for ProgramFault {
-    ghost use Rattle.casa_app.specs.declared.fault.ProgramFault.TheVariants.{Serve};
+impl From<ServiceFault> for ProgramFault {
+    ghost use Rattle.casa_app.specs.declared.fault.ProgramFault.TheVariants.{Service};
 
-    ghost from_gives = { λ cause fault. fault ≡ Serve cause };
+    ghost from_gives = { λ cause fault. fault ≡ Service cause };
 
-    fn from(cause: ServeFault) -> ProgramFault {
-        ProgramFault::Serve(cause)
+    fn from(cause: ServiceFault) -> ProgramFault {
+        ProgramFault::Service(cause)
     }
 }
 
@@ -122,8 +98,7 @@ pub fn outcome(fault: &ProgramFault) -> (u8, &'static str)
         ProgramFault::Report(fault) => (FAILED, fault.name()),
         ProgramFault::NoRegulation => (FAILED, "NoRegulation"),
         ProgramFault::NoFlight => (FAILED, "NoFlight"),
-        ProgramFault::BindFailed(_) => (FAILED, "BindFailed"),
-        ProgramFault::Serve(fault) => (FAILED, fault.name()),
+        ProgramFault::Service(fault) => (FAILED, fault.name()),
         ProgramFault::FaultyLines => (FAILED, "FaultyLines"),
         ProgramFault::NoMemory => (FAILED, "NoMemory"),
     }

@@ -1,13 +1,15 @@
 -- words ask for what their checks say
-use Rattle.std.proofs.Common.{◌≡◌, ◌∙◌, ◌||◌, ◌&&◌, ◌==◌, ℕ, Bool, true, false, not, cond, refl, ap, codes, List, [], ◌∷◌, length, Option, Some, None, Result, is_some, is_none, option_map, arith}
-use Rattle.std.specs.Prelude.{option_and_then, Ok, Err}
+use Rattle.std.proofs.Common.{◌≡◌, ◌∙◌, ◌||◌, ◌&&◌, ◌==◌, ℕ, Bool, true, false, not, cond, refl, ap, codes, List, [], ◌∷◌, length, Option, Some, None, Result, is_some, is_none, option_map, true≢false, sym, arith}
+use Rattle.std.specs.Prelude.{option_and_then, unwrap_or, Ok, Err}
 use Rattle.std.specs.Option.{option_map_or}
+use Rattle.std.specs.Str.{bytes_eq}
 use Rattle.std.proofs.lemmas.Bool.Decides.{nat_tests}
 use Rattle.jiff_fmt.specs.Temporal.{DateParts}
 use Rattle.clap.specs.Words.{Row, fault_of, first_of, subcommand_of}
 use Rattle.casa_filing.specs.Text.{Text}
-use Rattle.casa_cli.specs.Words.{Clash, Request, WrongValue, no_port, clashing, run, report, load, summary, why, serve, stay, wrong_reg, wrong_key, wrong_day, whole_app, request_of, named_request, serve_at, stay_at, or_wrong, ◌>>=◌, number_of, day_in, day_of, named_in, step_of, turns_of, connections_of, seats_of, socket_of, every_of, is_given, is_strict, checked_day, clock_for, clash_of}
-use Rattle.casa_cli.specs.Checks.{AreRead, AreServed, first_wrong, report_checks, report_request, load_request, summary_checks, summary_request, why_checks, why_request, serve_checks, serve_request, stay_checks, stay_request, unless_wrong}
+use Rattle.casa_cli.specs.Words.{Clash, Request, WrongValue, needs, no_port, clashing, run, report, load, summary, why, serve, stay, check_journal, wrong_reg, wrong_key, wrong_day, wrong_action, whole_app, request_of, named_request, serve_at, stay_at, or_wrong, ◌>>=◌, number_of, day_in, day_of, named_in, step_of, turns_of, connections_of, seats_of, socket_of, every_of, is_given, is_strict, journal_of, word_of, checked_day, clock_for, clash_of}
+use Rattle.casa_cli.specs.Checks.{AreRead, AreServed, first_wrong, run_checks, run_request, report_checks, report_request, load_request, summary_checks, summary_request, why_checks, why_request, serve_checks, serve_request, stay_checks, stay_request, journal_checks, journal_request, unless_wrong}
+use Rattle.casa_cli.proofs.Served.{journal_checked}
 
 pub nothing_asked : (words : List Text) → (fault_of whole_app words ≡ [] → ⊥) → request_of words ≡ None
 nothing_asked words h = go (fault_of whole_app words) h
@@ -19,8 +21,34 @@ nothing_asked words h = go (fault_of whole_app words) h
 asked_of : (words : List Text) (name : Text) (rows : List Row) → AreRead words name rows → request_of words ≡ Some (named_request (name, rows))
 asked_of words name rows read = rw (read.0, read.1) refl
 
-pub run_asked : (words : List Text) (rows : List Row) → AreRead words (codes "run") rows → request_of words ≡ Some (Ok run)
-run_asked words rows read = asked_of words (codes "run") rows read
+-- `run`, by whether force is given alone
+by_force : (alone : Bool) (journal : Option (Text × Bool))
+    → Some (option_map_or (λ c. Err (clashing c)) (cond alone (Some (needs (codes "force") (codes "journal"))) None) (Ok (run journal)))
+    ≡ unless_wrong (first_wrong ((alone, clashing (needs (codes "force") (codes "journal"))) ∷ [])) (Some (run journal))
+by_force true journal = refl
+by_force false journal = refl
+
+pub run_asked : (words : List Text) (rows : List Row) → AreRead words (codes "run") rows
+    → request_of words ≡ unless_wrong (first_wrong (run_checks rows)) (run_request rows)
+run_asked words rows read =
+    asked_of words (codes "run") rows read
+    ∙ by_force (is_given (codes "force") rows && not (is_given (codes "journal") rows)) (journal_of rows)
+
+-- `journal`, by whether it is to check, and by the file, which is there
+by_action : (checks : Bool) (path : Option Text) → is_some path ≡ true
+    → Some (cond checks (Ok (check_journal (unwrap_or path []))) (Err wrong_action))
+    ≡ unless_wrong (first_wrong ((not checks, wrong_action) ∷ [])) (option_and_then (λ p. Some (check_journal p)) path)
+by_action true None there = absurd (true≢false (sym there))
+by_action false None there = refl
+by_action true (Some p) there = refl
+by_action false (Some p) there = refl
+
+pub journal_asked : (words : List Text) (rows : List Row) → AreRead words (codes "journal") rows
+    → request_of words ≡ unless_wrong (first_wrong (journal_checks rows)) (journal_request rows)
+journal_asked words rows read =
+    asked_of words (codes "journal") rows read
+    ∙ by_action (bytes_eq (word_of (codes "action") rows) (codes "check")) (first_of (codes "file") rows)
+    (journal_checked words (codes "journal") rows read.0 read.1 refl).1
 
 -- a subcommand with a name and a day, by these
 named_and_day : (wrong : WrongValue) (name : Option Text) (day : Option DateParts) (make : Text → DateParts → Request)
@@ -104,7 +132,7 @@ pub serve_asked : (words : List Text) (rows : List Row) → AreServed words fals
 serve_asked words rows served =
     unclashed words false rows served
     ∙ with_port (number_of (codes "port") rows) (turns_of rows == 0) (first_of (codes "day") rows)
-    (λ port day. serve port (connections_of rows) (turns_of rows) day)
+    (λ port day. serve port (connections_of rows) (turns_of rows) day (journal_of rows))
 
 -- a server that stays, by whether its clock is moved and by the day
 moved_by_day : (moves : Bool) (every : ℕ) (day : Option DateParts) (make : Option (DateParts × ℕ) → Request)
@@ -135,4 +163,5 @@ stay_asked words rows served =
       idle = number_of (codes "idle") rows;
       quiet = is_given (codes "quiet") rows;
       clock = clock;
+      journal = journal_of rows;
     }))

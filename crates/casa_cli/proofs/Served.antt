@@ -1,21 +1,23 @@
--- what clap has checked of the options of `serve` and `load`
-use Rattle.std.proofs.Common.{◌≡◌, ◌∙◌, ◌<◌, ℕ, Bool, true, false, not, cond, refl, suc, sym, ap, subst, arith, codes, List, [], ◌∷◌, ◌++◌, take, drop, length, Option, Some, None, IfSome, option_map, true≢false}
+-- what clap has checked of the options of `serve` and `load`, and of the words of `journal`
+use Rattle.std.proofs.Common.{◌≡◌, ◌∙◌, ◌<◌, ℕ, Bool, true, false, not, cond, refl, suc, sym, ap, subst, arith, codes, List, [], ◌∷◌, ◌++◌, take, drop, length, Option, Some, None, IfSome, is_some, option_map, true≢false, ◌||◌}
 use Rattle.std.specs.Prelude.{find, nat_lt, option_and_then, pos, slice_get, unwrap_or}
 use Rattle.std.specs.List.{list_all}
 use Rattle.std.specs.Option.{option_map_or}
 use Rattle.std.specs.Str.{bytes_eq}
-use Rattle.clap.specs.Facts.{parser_of_value, unwrap_or_range}
-use Rattle.clap.specs.Faults.{entered_fault, fault_of, level_fault, values_fault}
+use Rattle.clap.specs.Facts.{explicit_source, parser_of_value, unwrap_or_range}
+use Rattle.clap.specs.Faults.{check_fault, entered_fault, fault_of, level_fault, values_fault}
 use Rattle.clap.specs.Simple.{Shape, argument_words, built, entered, label_of, names_of, new_rule, new_shape, rows_at, subcommand_of}
+use Rattle.clap.specs.Takes.{is_given}
 use Rattle.clap.specs.ValueTests.{accepts}
 use Rattle.clap.specs.Values.{read_as, reading_of, refused_kind}
 use Rattle.clap.specs.Walk.{Row, Rule, Text, action_of, answers_to, nothing_held, reading_by, row_text, rows_after, stop_after}
-use Rattle.clap.specs.Words.{IsSignedIn, without_minus}
+use Rattle.clap.specs.Words.{IsSignedIn, first_of, without_minus}
 use Rattle.clap.specs.declared.builder.action.ArgAction.TheVariants.{Set}
 use Rattle.clap.specs.declared.builder.value_parser.ValueParser.TheVariants.{Signed}
+use Rattle.clap.specs.declared.error.kind.ErrorKind.TheVariants.{MissingRequiredArgument}
 use Rattle.clap.proofs.ValueTestLemmas.{accepts-Accepts}
 use Rattle.casa_cli.specs.Words.{whole_app}
-use Rattle.casa_cli.specs.Tasks.{AreChecked, IsNumber, IsStepped}
+use Rattle.casa_cli.specs.Tasks.{AreChecked, AreThere, IsNumber, IsStepped}
 use Rattle.casa_cli.proofs.Walks.{AreBeside, ArePassed, IsValued, beside_at, level-passed, or_else-left, or_else-right, row-passed}
 
 -- the first value of an option with numbers
@@ -93,9 +95,9 @@ served words e = record {
   port = served_at 0 1 65535 refl (is_valued _ refl refl refl) refl refl refl words e;
   connections = served_at 1 0 4294967295 refl (is_valued _ refl refl refl) refl refl refl words e;
   turns = served_at 3 0 4294967295 refl (is_valued _ refl refl refl) refl refl refl words e;
-  seats = served_at 7 1 1000 refl (is_valued _ refl refl refl) refl refl refl words e;
-  idle = served_at 8 1 86400 refl (is_valued _ refl refl refl) refl refl refl words e;
-  every = served_at 11 1 3600 refl (is_valued _ refl refl refl) refl refl refl words e;
+  seats = served_at 9 1 1000 refl (is_valued _ refl refl refl) refl refl refl words e;
+  idle = served_at 10 1 86400 refl (is_valued _ refl refl refl) refl refl refl words e;
+  every = served_at 13 1 3600 refl (is_valued _ refl refl refl) refl refl refl words e;
 }
 
 -- ---- the options of `load`
@@ -109,6 +111,58 @@ stepped words e =
     number_in_rows (rule_at load_shape 2) 1 1440 (rows_after load_shape.rules [] words) refl
     (rows_passed load_shape (rule_at load_shape 2) (before_in load_shape 2) (after_in load_shape 2) refl
     (is_valued _ refl refl refl) refl refl words e)
+
+-- ---- the words of `journal`
+
+abbrev journal_shape : Shape
+journal_shape = unwrap_or (slice_get (built whole_app).subs 6) (new_shape [])
+
+-- a word that was given has a value
+word_there : (q : Rule) (rows : List Row) → ArePassed q rows → is_given q.id rows ≡ true → is_some (first_of q.id rows) ≡ true
+word_there q rows passed = go (find (λ r. bytes_eq r.id q.id) rows) refl
+  where
+    valued : (values : List Text) → 0 < length values → is_some (slice_get values 0) ≡ true
+    valued [] some = absurd (omega arith)
+    valued (v ∷ vs) some = refl
+
+    go : (o : Option Row) → find (λ r. bytes_eq r.id q.id) rows ≡ o → option_map_or (λ r. explicit_source r.source) o false ≡ true
+        → is_some (option_and_then (λ r. slice_get r.values 0) o) ≡ true
+    go None found e = absurd (true≢false (sym e))
+    go (Some r) found e = valued r.values (row-passed q rows r passed found).1
+
+-- both words are given where none is missing
+both_given : (action file : Bool) → cond (not action || (not file || false)) (MissingRequiredArgument ∷ []) [] ≡ []
+    → (action ≡ true) × (file ≡ true)
+both_given true true e = (refl, refl)
+both_given true false e = absurd (cc)
+both_given false file e = absurd (cc)
+
+there_at : (k : ℕ) → before_in journal_shape k ++ rule_at journal_shape k ∷ after_in journal_shape k ≡ journal_shape.rules
+    → IsValued (rule_at journal_shape k)
+    → list_all (λ a. not (bytes_eq a.id (rule_at journal_shape k).id)) (before_in journal_shape k) ≡ true
+    → list_all (λ a. not (bytes_eq a.id (rule_at journal_shape k).id)) (after_in journal_shape k) ≡ true
+    → (words : List Text) → level_fault journal_shape [] nothing_held words false [] ≡ []
+    → is_given (rule_at journal_shape k).id (rows_after journal_shape.rules [] words) ≡ true
+    → is_some (first_of (rule_at journal_shape k).id (rows_after journal_shape.rules [] words)) ≡ true
+there_at k are valued first last words e =
+    word_there (rule_at journal_shape k) (rows_after journal_shape.rules [] words)
+    (rows_passed journal_shape (rule_at journal_shape k) (before_in journal_shape k) (after_in journal_shape k) are valued first last words e)
+
+-- none is missing
+unmissed : (words : List Text) → level_fault journal_shape [] nothing_held words false [] ≡ []
+    → check_fault journal_shape (rows_after journal_shape.rules [] words) false ≡ []
+unmissed words e =
+    let action = rule_at journal_shape 0 in
+    (level-passed action (is_valued _ refl refl refl) journal_shape (beside_at action [] (after_in journal_shape 0) refl refl) words e).1
+
+there : (words : List Text) → level_fault journal_shape [] nothing_held words false [] ≡ []
+    → AreThere (rows_after journal_shape.rules [] words)
+there words e =
+    let given = both_given (is_given (codes "action") (rows_after journal_shape.rules [] words))
+    (is_given (codes "file") (rows_after journal_shape.rules [] words)) (unmissed words e) in (
+      there_at 0 refl (is_valued _ refl refl refl) refl refl words e given.0,
+      there_at 1 refl (is_valued _ refl refl refl) refl refl words e given.1,
+    )
 
 -- ---- where only one of the subcommands has a name, and its walk shows that its rows are so
 
@@ -153,12 +207,12 @@ module _ (label : Text) (own : Shape) (IsSo : List Row → Type 0)
       go None f g = absurd (cc)
       go (Some p) f g = at p (find (λ s. answers_to p.0 (label_of s)) (built whole_app).subs) refl f g
 
--- the numbers of `serve` and of `load` are checked
+-- the numbers of `serve` and of `load` are checked, and the words of `journal` are there
 pub serve_checked : (words : List Text) (name : Text) (rows : List Row) → fault_of whole_app words ≡ []
     → subcommand_of whole_app words ≡ Some (name, rows) → bytes_eq name (codes "serve") ≡ true → AreChecked rows
 serve_checked =
     subcommand_shown (codes "serve") serve_shape AreChecked served
-    (other, (other, (other, (other, (other, (λ e. refl, (other, tt)))))))
+    (other, (other, (other, (other, (other, (λ e. refl, (other, (other, tt))))))))
   where
     other : {A : Type 0} → false ≡ true → A
     other e = absurd (true≢false (sym e))
@@ -167,7 +221,16 @@ pub load_checked : (words : List Text) (name : Text) (rows : List Row) → fault
     → subcommand_of whole_app words ≡ Some (name, rows) → bytes_eq name (codes "load") ≡ true → IsStepped rows
 load_checked =
     subcommand_shown (codes "load") load_shape IsStepped stepped
-    (other, (other, (λ e. refl, (other, (other, (other, (other, tt)))))))
+    (other, (other, (λ e. refl, (other, (other, (other, (other, (other, tt))))))))
+  where
+    other : {A : Type 0} → false ≡ true → A
+    other e = absurd (true≢false (sym e))
+
+pub journal_checked : (words : List Text) (name : Text) (rows : List Row) → fault_of whole_app words ≡ []
+    → subcommand_of whole_app words ≡ Some (name, rows) → bytes_eq name (codes "journal") ≡ true → AreThere rows
+journal_checked =
+    subcommand_shown (codes "journal") journal_shape AreThere there
+    (other, (other, (other, (other, (other, (other, (λ e. refl, (other, tt))))))))
   where
     other : {A : Type 0} → false ≡ true → A
     other e = absurd (true≢false (sym e))

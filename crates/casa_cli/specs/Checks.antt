@@ -1,9 +1,9 @@
 -- inner contracts: which value of an option can be wrong, in the order of the checks, and what is asked for else
-use Rattle.std.specs.Prelude.{◌≡◌, Bool, false, not, ◌&&◌, ◌==◌, if◌then◌else◌, List, [], ◌∷◌, find, Option, Some, None, is_none, option_and_then, option_map, codes, Result, Ok, Err}
+use Rattle.std.specs.Prelude.{◌≡◌, Bool, false, not, ◌&&◌, ◌==◌, if◌then◌else◌, List, [], ◌∷◌, find, Option, Some, None, is_none, option_and_then, option_map, codes, bytes_eq, Result, Ok, Err}
 use Rattle.std.specs.Option.{option_map_or}
 use Rattle.clap.specs.Words.{Row, fault_of, first_of, subcommand_of}
 use Rattle.casa_filing.specs.Text.{Text}
-use Rattle.casa_cli.specs.Words.{Request, WrongValue, no_port, clashing, report, load, summary, why, serve, stay, wrong_reg, wrong_key, wrong_day, whole_app, clash_of, connections_of, day_in, day_of, every_of, is_given, is_strict, named_in, number_of, seats_of, socket_of, step_of, turns_of}
+use Rattle.casa_cli.specs.Words.{Request, WrongValue, needs, no_port, clashing, run, report, load, summary, why, serve, stay, check_journal, wrong_reg, wrong_key, wrong_day, wrong_action, whole_app, clash_of, connections_of, day_in, day_of, every_of, is_given, is_strict, journal_of, named_in, number_of, seats_of, socket_of, step_of, turns_of, word_of}
 
 -- clap finds no fault in the words, and they are this subcommand with these options
 abbrev pub AreRead : List Text → Text → List Row → Type 0
@@ -22,6 +22,13 @@ Check = Bool × WrongValue
 abbrev pub first_wrong : List Check → Option WrongValue
 first_wrong checks = option_map (λ (check : Check). check.1) (find (λ (check : Check). check.0) checks)
 
+-- of `run`: force is given, and no journal
+abbrev pub run_checks : List Row → List Check
+run_checks rows = (
+  is_given (codes "force") rows && not (is_given (codes "journal") rows),
+  clashing (needs (codes "force") (codes "journal")),
+) ∷ []
+
 -- of `report` and `load`: what stands after `--reg` is no identifier; what stands after `--day` is no day
 abbrev pub report_checks : List Row → List Check
 report_checks rows = (is_none (named_in (codes "reg") rows), wrong_reg) ∷ (is_none (day_in rows), wrong_day) ∷ []
@@ -33,6 +40,10 @@ summary_checks rows = (is_none (day_in rows), wrong_day) ∷ []
 -- of `why`: what stands after `--key` is no key of a flight; what stands after `--day` is no day
 abbrev pub why_checks : List Row → List Check
 why_checks rows = (is_none (named_in (codes "key") rows), wrong_key) ∷ (is_none (day_in rows), wrong_day) ∷ []
+
+-- of `journal`: what stands first is not `check`
+abbrev pub journal_checks : List Row → List Check
+journal_checks rows = (not (bytes_eq (word_of (codes "action") rows) (codes "check")), wrong_action) ∷ []
 
 -- what stands after `--day` is no day
 abbrev pub day_check : List Row → Check
@@ -56,6 +67,9 @@ abbrev ◌>>=◌ : {A B : Type 0} → Option A → (A → Option B) → Option B
 found >>= next = option_and_then next found
 
 -- what the options ask for, where each is what it must be
+abbrev pub run_request : List Row → Option Request
+run_request rows = Some (run (journal_of rows))
+
 abbrev pub report_request : List Row → Option Request
 report_request rows = do
   reg ← named_in (codes "reg") rows
@@ -82,7 +96,7 @@ why_request rows = do
 abbrev pub serve_request : List Row → Option Request
 serve_request rows = do
   port ← number_of (codes "port") rows
-  Some (serve port (connections_of rows) (turns_of rows) (day_in rows))
+  Some (serve port (connections_of rows) (turns_of rows) (day_in rows) (journal_of rows))
 
 abbrev pub stay_request : List Row → Option Request
 stay_request rows = Some (stay (record {
@@ -93,7 +107,13 @@ stay_request rows = Some (stay (record {
   quiet = is_given (codes "quiet") rows;
   clock =
       if is_given (codes "clock") rows then option_map (λ midnight. (midnight, every_of rows)) (day_in rows) else None;
+  journal = journal_of rows;
 }))
+
+abbrev pub journal_request : List Row → Option Request
+journal_request rows = do
+  path ← first_of (codes "file") rows
+  Some (check_journal path)
 
 -- what is wrong, or else what is asked for
 abbrev pub unless_wrong : Option WrongValue → Option Request → Option (Result Request WrongValue)

@@ -1,21 +1,26 @@
 -- inner contracts: what a task and a refusal of the words say
-use Rattle.std.specs.Prelude.{◌≡◌, ℕ, pos, ◌∷◌, List, Some, Result, Ok, Err, IfSome, [], true, codes, is_some, option_map}
+use Rattle.std.specs.Prelude.{◌≡◌, ℕ, pos, Bool, ◌∷◌, List, Option, Some, Result, Ok, Err, IfSome, [], true, codes, is_some, option_map}
 use Rattle.std.specs.Option.{option_map_or}
 use Rattle.clap.specs.Kinds.{HasKind, Kinds, or_else}
-use Rattle.clap.specs.Words.{IsSignedIn, Row, fault_of, one_of, without_minus, subcommand_of, subcommand_rows_of}
+use Rattle.clap.specs.Words.{IsSignedIn, Row, fault_of, first_of, one_of, without_minus, subcommand_of, subcommand_rows_of}
 use Rattle.clap.specs.declared.error.kind.ErrorKind.{ErrorKind}
-use Rattle.clap.specs.declared.error.kind.ErrorKind.TheVariants.{ArgumentConflict, MissingRequiredArgument}
+use Rattle.clap.specs.declared.error.kind.ErrorKind.TheVariants.{ArgumentConflict, InvalidValue, MissingRequiredArgument}
 use Rattle.clap.specs.declared.parser.matches.ArgMatches.{ArgMatches}
 use Rattle.jiff_fmt.specs.Temporal.{date_parts}
 use Rattle.casa_filing.specs.Text.{Text}
-use Rattle.casa_cli.specs.Words.{Clash, Request, Service, WrongValue, needs, excludes, no_port, no_address, too_many_seats, clashing, run, report, load, summary, why, serve, stay, wrong_reg, wrong_key, wrong_day, whole_app, request_of}
-use Rattle.casa_cli.specs.declared.serving.Clash.{Clash as FoundClash}
-use Rattle.casa_cli.specs.declared.serving.Clash.TheVariants.{Needs, Excludes, NoPort, NoAddress, TooManySeats}
+use Rattle.casa_cli.specs.Words.{Clash, Request, Service, WrongValue, needs, excludes, no_port, no_address, too_many_seats, clashing, run, report, load, summary, why, serve, stay, check_journal, wrong_reg, wrong_key, wrong_day, wrong_action, whole_app, request_of}
+use Rattle.casa_cli.specs.declared.clashes.Clash.{Clash as FoundClash}
+use Rattle.casa_cli.specs.declared.clashes.Clash.TheVariants.{Needs, Excludes, NoPort, NoAddress, TooManySeats}
+use Rattle.casa_cli.specs.declared.tasks.Journal.{Journal}
 use Rattle.casa_cli.specs.declared.tasks.Service.{Service as TaskService}
 use Rattle.casa_cli.specs.declared.tasks.Task.{Task}
-use Rattle.casa_cli.specs.declared.tasks.Task.TheVariants.{Run, Report, Load, Summary, Why, Serve, Stay}
+use Rattle.casa_cli.specs.declared.tasks.Task.TheVariants.{Run, Report, Load, Summary, Why, Serve, Stay, CheckJournal}
 use Rattle.casa_cli.specs.declared.tasks.TaskFault.{TaskFault}
 use Rattle.casa_cli.specs.declared.tasks.TaskFault.TheVariants.{Words, BadReg, BadKey, BadDay}
+
+-- to believe: the journal to keep, as the words tell it
+abbrev pub journal : Option Journal → Option (Text × Bool)
+journal kept = option_map (λ file. (file.path.now, file.force)) kept
 
 -- to believe: what a server that stays is to do, as the words tell it
 abbrev pub service : TaskService → Service
@@ -26,17 +31,20 @@ service task = record {
   idle = task.idle;
   quiet = task.quiet;
   clock = option_map (λ clock. (date_parts clock.day, clock.every)) task.clock;
+  journal = journal task.journal;
 }
 
 -- to believe: the request that a task is, as the words tell it
 abbrev pub request : Task → Request
-request Run = run
+request (Run kept) = run (journal kept)
 request (Report reg day strict) = report reg (date_parts day) strict
 request (Load reg day step strict) = load reg (date_parts day) step strict
 request (Summary day strict) = summary (date_parts day) strict
 request (Why key day strict) = why key (date_parts day) strict
-request (Serve port connections turns day) = serve port connections turns (option_map date_parts day)
+request (Serve port connections turns day kept) =
+    serve port connections turns (option_map date_parts day) (journal kept)
 request (Stay task) = stay (service task)
+request (CheckJournal path) = check_journal path.now
 
 -- to believe: the words ask for this task
 abbrev pub Asks : List Text → Task → Type 0
@@ -50,14 +58,15 @@ kind_of_clash no_port = MissingRequiredArgument
 kind_of_clash no_address = MissingRequiredArgument
 kind_of_clash too_many_seats = ArgumentConflict
 
--- to believe: that of what is wrong, if it is such a clash
-abbrev pub clash_kinds : Result Request WrongValue → Kinds
-clash_kinds (Err (clashing clash)) = kind_of_clash clash ∷ []
-clash_kinds _ = []
+-- to believe: that of what is wrong, if it is such a clash, or an action that there is not
+abbrev pub wrong_kinds : Result Request WrongValue → Kinds
+wrong_kinds (Err (clashing clash)) = kind_of_clash clash ∷ []
+wrong_kinds (Err wrong_action) = InvalidValue ∷ []
+wrong_kinds _ = []
 
--- to believe: the kinds of fault of the words: clap's own, or where it has none that of a clash
+-- to believe: the kinds of fault of the words: clap's own, or where it has none that of such a wrong
 abbrev pub fault_kinds : List Text → Kinds
-fault_kinds words = or_else (fault_of whole_app words) (option_map_or clash_kinds (request_of words) [])
+fault_kinds words = or_else (fault_of whole_app words) (option_map_or wrong_kinds (request_of words) [])
 
 -- to believe: they are refused by this fault: by clap's for what is wrong with them, or for no memory; or for a value
 abbrev pub AreRefused : List Text → TaskFault → Type 0
@@ -69,7 +78,7 @@ AreRefused words BadDay = request_of words ≡ Some (Err wrong_day)
 -- the outcome is what the values of a subcommand's options give
 abbrev pub IsOutcome : Result Request WrongValue → Result Task TaskFault → Type 0
 IsOutcome asked (Ok task) = asked ≡ Ok (request task)
-IsOutcome asked (Err (Words error)) = HasKind (clash_kinds asked) error
+IsOutcome asked (Err (Words error)) = HasKind (wrong_kinds asked) error
 IsOutcome asked (Err BadReg) = asked ≡ Err wrong_reg
 IsOutcome asked (Err BadKey) = asked ≡ Err wrong_key
 IsOutcome asked (Err BadDay) = asked ≡ Err wrong_day
@@ -96,6 +105,10 @@ HasRead words matches = (fault_of whole_app words ≡ [])
 -- what clap has seen to of the option of `load` with a number
 abbrev pub IsStepped : List Row → Type 0
 IsStepped rows = IsNumber 1 1440 (codes "step") rows
+
+-- what clap has seen to of the words of `journal`: they are there
+abbrev pub AreThere : List Row → Type 0
+AreThere rows = (is_some (first_of (codes "action") rows) ≡ true) × (is_some (first_of (codes "file") rows) ≡ true)
 
 -- what clap has seen to of the options of `serve`
 pub record AreChecked (rows : List Row) : Type 0 where

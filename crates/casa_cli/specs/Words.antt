@@ -1,7 +1,7 @@
 -- to believe: the words of the command line, and what they ask for
 use Rattle.std.specs.Prelude.{ℕ, pos, ◌==◌, ◌&&◌, ◌||◌, not, Bool, true, false, if◌then◌else◌, List, [], ◌∷◌, length, find, Option, Some, None, is_some, option_and_then, option_map, unwrap_or, codes, bytes_eq, nat_le, nat_lt, slice_index, Result, Ok, Err}
 use Rattle.std.specs.List.{list_all, slice_range}
-use Rattle.std.specs.Option.{option_map_or}
+use Rattle.std.specs.Option.{option_map_or, option_or}
 use Rattle.std.specs.Str.Parse.{digits_value, without_leading_plus}
 use Rattle.clap.specs.Walk.{is_empty}
 use Rattle.clap.specs.Words.{App, Row, Rule, fault_of, first_of, new_app, new_rule, one_of, subcommand_of, with_rule, with_subcommand}
@@ -20,7 +20,11 @@ option_rule name = record (new_rule name) { long = Some name; value_names = 1 }
 abbrev pub flag_rule : Text → Rule
 flag_rule name = record (new_rule name) { long = Some name; action = Some SetTrue }
 
--- the option must be there
+-- a word that stands by itself
+abbrev pub word_rule : Text → Rule
+word_rule name = record (new_rule name) { value_names = 1 }
+
+-- it must be there
 abbrev pub needed : Rule → Rule
 needed rule = record rule { required = true }
 
@@ -28,10 +32,16 @@ needed rule = record rule { required = true }
 abbrev pub number_between : ℕ → ℕ → Rule → Rule
 number_between low high rule = record rule { parser = Some (Signed (pos low) (pos high)) }
 
--- `run` takes no words; `report` takes `--reg` and `--day`, `load` the same, and it may take `--step`; `summary` takes
--- `--day`, and `why` takes `--key` and `--day`; these four may take `--strict`; `serve` may take each of its options
+-- `run` may take `--journal` and `--force`; `report` takes `--reg` and `--day`, `load` the same, and it may take
+-- `--step`; `summary` takes `--day`, and `why` takes `--key` and `--day`; these four may take `--strict`; `serve` may
+-- take each of its options; `journal` takes an action and a file
+
+-- a subcommand that may keep a journal
+abbrev pub maybe_journal : App → App
+maybe_journal app = with_rule (with_rule app (option_rule (codes "journal"))) (flag_rule (codes "force"))
+
 abbrev pub run_app : App
-run_app = new_app (codes "run")
+run_app = maybe_journal (new_app (codes "run"))
 
 -- a subcommand that takes the day, behind the options before it
 abbrev pub taking_day : App → App
@@ -68,10 +78,14 @@ serve_ending =
     (option_rule (codes "day")))
     (number_between 0 4294967295 (option_rule (codes "turns")))
 
+-- and the journal, which one that stays may keep too
+abbrev pub serve_noting : App
+serve_noting = maybe_journal serve_ending
+
 -- and with what one that stays may take besides: where it listens, how it keeps its desks, how its clock is moved
 abbrev pub serve_listening : App
 serve_listening =
-    with_rule (with_rule (with_rule serve_ending
+    with_rule (with_rule (with_rule serve_noting
     (flag_rule (codes "stay")))
     (option_rule (codes "socket")))
     (flag_rule (codes "group"))
@@ -89,6 +103,12 @@ serve_app =
     (flag_rule (codes "clock")))
     (number_between 1 3600 (option_rule (codes "every")))
 
+abbrev pub journal_app : App
+journal_app =
+    with_rule (with_rule (new_app (codes "journal"))
+    (needed (word_rule (codes "action"))))
+    (needed (word_rule (codes "file")))
+
 -- `casa` has a version; one of its subcommands must be named, and help is shown where there are no words
 abbrev pub casa_alone : App
 casa_alone =
@@ -99,8 +119,12 @@ casa_alone =
 abbrev pub casa_of_lists : App
 casa_of_lists = with_subcommand (with_subcommand (with_subcommand casa_alone run_app.top) report_app.top) load_app.top
 
+-- and what is asked of all regulations, and of a flight
+abbrev pub casa_of_inquiries : App
+casa_of_inquiries = with_subcommand (with_subcommand casa_of_lists summary_app.top) why_app.top
+
 abbrev pub whole_app : App
-whole_app = with_subcommand (with_subcommand (with_subcommand casa_of_lists summary_app.top) why_app.top) serve_app.top
+whole_app = with_subcommand (with_subcommand casa_of_inquiries serve_app.top) journal_app.top
 
 -- where a server that stays listens, how it keeps its desks, and how its clock is moved
 pub record Service : Type 0 where
@@ -114,16 +138,19 @@ pub record Service : Type 0 where
   pub quiet : Bool
   -- the day, and the seconds from one move to the next
   pub clock : Option (DateParts × ℕ)
+  -- the path, and whether more than a torn line may be set aside
+  pub journal : Option (Text × Bool)
 
 -- what the words can ask for
 pub data Request : Type 0 where
-  run : Request
+  run : (journal : Option (Text × Bool)) → Request
   report : Text → DateParts → (strict : Bool) → Request
   load : Text → DateParts → (step : ℕ) → (strict : Bool) → Request
   summary : DateParts → (strict : Bool) → Request
   why : Text → DateParts → (strict : Bool) → Request
-  serve : (port connections turns : ℕ) → (day : Option DateParts) → Request
+  serve : (port connections turns : ℕ) → (day : Option DateParts) → (journal : Option (Text × Bool)) → Request
   stay : Service → Request
+  check_journal : (path : Text) → Request
 
 -- options that do not go together: one without the one that it needs, two that exclude each other, no port, no port and
 -- no socket for a server that stays, or too many seats at two addresses
@@ -140,6 +167,7 @@ pub data WrongValue : Type 0 where
   wrong_reg : WrongValue
   wrong_key : WrongValue
   wrong_day : WrongValue
+  wrong_action : WrongValue
 
 abbrev pub is_digit : ℕ → Bool
 is_digit c = nat_le 48 c && nat_le c 57
@@ -240,6 +268,13 @@ every_of rows = unwrap_or (number_of (codes "every") rows) 1
 abbrev pub socket_of : List Row → Option (Text × Bool)
 socket_of rows = option_map (λ path. (path, is_given (codes "group") rows)) (first_of (codes "socket") rows)
 
+abbrev pub journal_of : List Row → Option (Text × Bool)
+journal_of rows = option_map (λ path. (path, is_given (codes "force") rows)) (first_of (codes "journal") rows)
+
+-- what stands where a word must
+abbrev pub word_of : Text → List Row → Text
+word_of name rows = unwrap_or (first_of name rows) []
+
 -- the options that only a server that stays may take
 abbrev pub staying_options : List Text
 staying_options =
@@ -261,11 +296,23 @@ clash_of_staying rows =
     then Some too_many_seats
     else None
 
--- the first clash of options; that the port is missing is found after these
+-- one that ends takes none of these
+abbrev pub clash_of_ending : List Row → Option Clash
+clash_of_ending rows =
+    option_map (λ option. needs option (codes "stay")) (find (λ option. is_given option rows) staying_options)
+
+-- force is that of a journal
+abbrev pub clash_of_journal : List Row → Option Clash
+clash_of_journal rows =
+    if is_given (codes "force") rows && not (is_given (codes "journal") rows)
+    then Some (needs (codes "force") (codes "journal")) else None
+
+abbrev pub clash_by_stay : List Row → Option Clash
+clash_by_stay rows = if is_given (codes "stay") rows then clash_of_staying rows else clash_of_ending rows
+
+-- the first clash of the options of `serve`; that the port is missing is found after these
 abbrev pub clash_of : List Row → Option Clash
-clash_of rows =
-    if is_given (codes "stay") rows then clash_of_staying rows
-    else option_map (λ option. needs option (codes "stay")) (find (λ option. is_given option rows) staying_options)
+clash_of rows = option_or (clash_by_stay rows) (clash_of_journal rows)
 
 -- a day that is given must be one
 abbrev pub checked_day : Option Text → Result (Option DateParts) WrongValue
@@ -286,7 +333,7 @@ serve_at rows = do
   port ← or_wrong (clashing no_port) (number_of (codes "port") rows)
   given ← checked_day (first_of (codes "day") rows)
   day ← day_for (turns_of rows) given
-  Ok (serve port (connections_of rows) (turns_of rows) day)
+  Ok (serve port (connections_of rows) (turns_of rows) day (journal_of rows))
 
 abbrev pub stay_at : List Row → Result Request WrongValue
 stay_at rows = do
@@ -299,18 +346,29 @@ stay_at rows = do
     idle = number_of (codes "idle") rows;
     quiet = is_given (codes "quiet") rows;
     clock = clock;
+    journal = journal_of rows;
   }))
 
 -- a clash comes before what else can be wrong
+abbrev pub run_of : List Row → Result Request WrongValue
+run_of rows = option_map_or (λ clash. Err (clashing clash)) (clash_of_journal rows) (Ok (run (journal_of rows)))
+
 abbrev pub serve_of : List Row → Result Request WrongValue
 serve_of rows =
     option_map_or (λ clash. Err (clashing clash)) (clash_of rows)
     (if is_given (codes "stay") rows then stay_at rows else serve_at rows)
 
+-- to check is all that is done with a journal
+abbrev pub check_of : List Row → Result Request WrongValue
+check_of rows =
+    if bytes_eq (word_of (codes "action") rows) (codes "check")
+    then Ok (check_journal (word_of (codes "file") rows)) else Err wrong_action
+
 abbrev pub named_request : Text × List Row → Result Request WrongValue
 named_request (name, rows) =
-    if bytes_eq name (codes "run") then Ok run
+    if bytes_eq name (codes "run") then run_of rows
     else if bytes_eq name (codes "serve") then serve_of rows
+    else if bytes_eq name (codes "journal") then check_of rows
     else if bytes_eq name (codes "load") then load_of rows
     else if bytes_eq name (codes "summary") then summary_of rows
     else if bytes_eq name (codes "why") then why_of rows

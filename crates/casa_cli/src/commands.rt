@@ -3,7 +3,7 @@
 ghost use Rattle.std.specs.Prelude.{◌≡◌, ℕ, false, codes, IfOk};
 ghost use Rattle.clap.specs.Words.{app_of, new_app, rule_of};
 ghost use Rattle.clap.specs.declared.builder.command.Command.TheViews.{out-Command as fields_of};
-ghost use Rattle.casa_cli.specs.Words.{casa_alone, casa_of_lists, flag_rule, load_app, needed, number_between, option_rule, report_app, run_app, serve_app, serve_ending, serve_keeping, serve_listening, serve_without_clock, summary_app, whole_app, why_app};
+ghost use Rattle.casa_cli.specs.Words.{casa_alone, casa_of_inquiries, casa_of_lists, flag_rule, journal_app, load_app, needed, number_between, option_rule, report_app, run_app, serve_app, serve_ending, serve_keeping, serve_listening, serve_noting, serve_without_clock, summary_app, whole_app, why_app, word_rule};
 
 use crate::help;
 use clap::{Arg, ArgAction, Command, value_parser};
@@ -14,10 +14,19 @@ pub fn casa_command<'a>(alloc: Global) -> Result<Command<'a>, AllocError>
     ensures app { IfOk result (λ command. app_of command ≡ whole_app) }
     ensures local { IfOk result (λ command. (fields_of command).has_globals ≡ false) }
 {
+    casa_of_inquiries(alloc)?
+        .subcommand(serve_command(alloc)?)?
+        .subcommand(journal_command(alloc)?)
+}
+
+/// `casa` with these, and with the subcommands that ask for all regulations or for a flight.
+fn casa_of_inquiries<'a>(alloc: Global) -> Result<Command<'a>, AllocError>
+    ensures app { IfOk result (λ command. app_of command ≡ casa_of_inquiries) }
+    ensures local { IfOk result (λ command. (fields_of command).has_globals ≡ false) }
+{
     casa_of_lists(alloc)?
         .subcommand(summary_command(alloc)?)?
-        .subcommand(why_command(alloc)?)?
-        .subcommand(serve_command(alloc)?)
+        .subcommand(why_command(alloc)?)
 }
 
 /// `casa` with the subcommands that answer each line or ask for one regulation.
@@ -26,7 +35,7 @@ fn casa_of_lists<'a>(alloc: Global) -> Result<Command<'a>, AllocError>
     ensures local { IfOk result (λ command. (fields_of command).has_globals ≡ false) }
 {
     casa_alone(alloc)?
-        .subcommand(run_command(alloc))?
+        .subcommand(run_command(alloc)?)?
         .subcommand(report_command(alloc)?)?
         .subcommand(load_command(alloc)?)
 }
@@ -45,12 +54,15 @@ fn casa_alone<'a>(alloc: Global) -> Result<Command<'a>, AllocError>
         .bin_name("casa")
 }
 
-/// `casa run`.
-fn run_command<'a>(alloc: Global) -> Command<'a>
-    ensures app { app_of result ≡ run_app }
-    ensures local { (fields_of result).has_globals ≡ false }
+/// `casa run` with its options.
+pub fn run_command<'a>(alloc: Global) -> Result<Command<'a>, AllocError>
+    ensures app { IfOk result (λ command. app_of command ≡ run_app) }
+    ensures local { IfOk result (λ command. (fields_of command).has_globals ≡ false) }
 {
     described(alloc, "run", help::RUN_ABOUT, help::RUN_AFTER_HELP)
+        .override_usage(help::RUN_USAGE)
+        .arg(journal_option(alloc))?
+        .arg(force_flag(alloc))
 }
 
 /// `casa report` with its options.
@@ -130,13 +142,23 @@ fn serve_listening<'a>(alloc: Global) -> Result<Command<'a>, AllocError>
     ensures app { IfOk result (λ command. app_of command ≡ serve_listening) }
     ensures local { IfOk result (λ command. (fields_of command).has_globals ≡ false) }
 {
-    serve_ending(alloc)?
+    serve_noting(alloc)?
         .arg(flag(alloc, "stay", help::STAY_HELP))?
         .arg(value_option(alloc, "socket", "PATH", help::SOCKET_HELP))?
         .arg(flag(alloc, "group", help::GROUP_HELP))
 }
 
-/// `casa serve` with the options of one that ends.
+/// `casa serve` with the options of one that ends, and its journal.
+fn serve_noting<'a>(alloc: Global) -> Result<Command<'a>, AllocError>
+    ensures app { IfOk result (λ command. app_of command ≡ serve_noting) }
+    ensures local { IfOk result (λ command. (fields_of command).has_globals ≡ false) }
+{
+    serve_ending(alloc)?
+        .arg(journal_option(alloc))?
+        .arg(force_flag(alloc))
+}
+
+/// `casa serve` with the options of one that ends, its journal apart.
 fn serve_ending<'a>(alloc: Global) -> Result<Command<'a>, AllocError>
     ensures app { IfOk result (λ command. app_of command ≡ serve_ending) }
     ensures local { IfOk result (λ command. (fields_of command).has_globals ≡ false) }
@@ -158,12 +180,41 @@ fn serve_without_clock<'a>(alloc: Global) -> Result<Command<'a>, AllocError>
         .arg(connections)
 }
 
+/// `casa journal` with its words.
+pub fn journal_command<'a>(alloc: Global) -> Result<Command<'a>, AllocError>
+    ensures app { IfOk result (λ command. app_of command ≡ journal_app) }
+    ensures local { IfOk result (λ command. (fields_of command).has_globals ≡ false) }
+{
+    let action = word(alloc, "action", "ACTION", help::ACTION_HELP);
+    let file = word(alloc, "file", "FILE", help::FILE_HELP);
+    described(
+        alloc,
+        "journal",
+        help::JOURNAL_ABOUT,
+        help::JOURNAL_AFTER_HELP,
+    )
+    .override_usage(help::JOURNAL_USAGE)
+    .arg(action)?
+    .arg(file)
+}
+
 /// A subcommand that takes no words, with what stands above its options and below them in its help.
 fn described<'a>(alloc: Global, name: &'a str, about: &'a str, after: &'a str) -> Command<'a>
     ensures app { app_of result ≡ new_app name.entry.now }
     ensures local { (fields_of result).has_globals ≡ false }
 {
     Command::new(alloc, name).about(about).after_help(after)
+}
+
+/// A word that must be given.
+fn word<'a>(alloc: Global, name: &'a str, value: &'a str, text: &'a str) -> Arg<'a>
+    ensures rule { rule_of result ≡ needed (word_rule name.entry.now) }
+    ensures local { result.global ≡ false }
+{
+    Arg::new(alloc, name)
+        .value_name(value)
+        .help(text)
+        .required(true)
 }
 
 /// An option with a value.
@@ -242,6 +293,22 @@ fn day_option<'a>(alloc: Global) -> Arg<'a>
     ensures local { result.global ≡ false }
 {
     value_option(alloc, "day", "YYYY-MM-DD", help::DAY_HELP).required(true)
+}
+
+/// `--journal`.
+fn journal_option<'a>(alloc: Global) -> Arg<'a>
+    ensures rule { rule_of result ≡ option_rule (codes "journal") }
+    ensures local { result.global ≡ false }
+{
+    value_option(alloc, "journal", "FILE", help::JOURNAL_HELP)
+}
+
+/// `--force`.
+fn force_flag<'a>(alloc: Global) -> Arg<'a>
+    ensures rule { rule_of result ≡ flag_rule (codes "force") }
+    ensures local { result.global ≡ false }
+{
+    flag(alloc, "force", help::FORCE_HELP)
 }
 
 /// `--step`, in minutes.

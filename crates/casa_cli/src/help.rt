@@ -17,17 +17,23 @@ Examples:
   casa why --key A --day 2025-06-01 < examples/first.jsonl
   casa serve --port 4750 --connections 8
   casa serve --port 4750 --stay
+  casa serve --port 4750 --stay --journal day.journal
+  casa journal check day.journal
 
 Commands are lines of JSON, on standard input or over a connection; docs/COMMANDS.md describes each, and its reply.";
 
 /// What `run` does.
 pub const RUN_ABOUT: &str = "Answers the command lines on standard input, each by a reply line";
 
+/// How `run` is called.
+pub const RUN_USAGE: &str = "casa run [OPTIONS]";
+
 /// What stands below the options of `run`.
 pub const RUN_AFTER_HELP: &str = "\
 Examples:
   casa run < examples/first.jsonl
   echo '{\"cmd\":\"tick\",\"at\":22800}' | casa run
+  casa run --journal day.journal < examples/first.jsonl
 
 A command is a line of JSON, and so is its reply; docs/COMMANDS.md describes each.";
 
@@ -108,6 +114,7 @@ Examples:
   casa serve --port 4750 --connections 8 --day 2025-06-01 --turns 86400
   casa serve --port 4750 --stay
   casa serve --socket /run/casa/desk --stay --clock --day 2025-06-01
+  casa serve --port 4750 --stay --journal day.journal
 
 All desks work on one set of regulations and flights, and a connection is one desk: it sends the lines that
 `casa run` reads and gets the same replies. docs/PROTOCOL.md describes what else there is to know.";
@@ -126,6 +133,14 @@ pub const CLOCK_DAY_HELP: &str =
 /// What stands after `--turns`.
 pub const TURNS_HELP: &str =
     "How many times to move the clock, once a second: 0 to 4294967295, 0 if not given";
+
+/// What stands after `--journal`.
+pub const JOURNAL_HELP: &str =
+    "Write each call to FILE before its reply goes out, and begin with the calls that FILE has";
+
+/// What stands after `--force`.
+pub const FORCE_HELP: &str =
+    "With --journal: set aside also more than a torn line behind the journal's whole lines";
 
 /// What stands after `--stay`.
 pub const STAY_HELP: &str =
@@ -154,6 +169,25 @@ pub const CLOCK_HELP: &str = "Move the clock to the present second, counted from
 /// What stands after `--every`.
 pub const EVERY_HELP: &str =
     "The seconds from one move of the clock to the next: 1 to 3600, 1 if not given";
+
+/// What `journal` does.
+pub const JOURNAL_ABOUT: &str = "Answers the calls of a journal again, and says how many they are";
+
+/// How `journal` is called.
+pub const JOURNAL_USAGE: &str = "casa journal check <FILE>";
+
+/// What stands below the words of `journal`.
+pub const JOURNAL_AFTER_HELP: &str = "\
+Example:
+  casa journal check day.journal
+
+A journal is the file that `casa run --journal` or `casa serve --journal` writes.";
+
+/// What stands after the action of `journal`.
+pub const ACTION_HELP: &str = "What is to be done with the journal: check";
+
+/// What stands after the file of `journal`.
+pub const FILE_HELP: &str = "The journal, as it was given to --journal";
 
 /// What stands after `--strict`.
 pub const STRICT_HELP: &str =

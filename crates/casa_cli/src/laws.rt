@@ -1,10 +1,10 @@
 //! The law of the definition of what words ask for, on a function that does nothing.
 
-ghost use Rattle.std.specs.Prelude.{◌≡◌, List, [], Ok, Err, None, Some, true, false, codes};
+ghost use Rattle.std.specs.Prelude.{◌≡◌, List, [], Err, None, Some, true, false, codes};
 ghost use Rattle.clap.specs.Words.{Row, fault_of};
 ghost use Rattle.casa_filing.specs.Text.{Text};
-ghost use Rattle.casa_cli.specs.Checks.{AreRead, AreServed, first_wrong, load_request, report_checks, report_request, serve_checks, serve_request, stay_checks, stay_request, summary_checks, summary_request, unless_wrong, why_checks, why_request};
-ghost use Rattle.casa_cli.specs.Words.{Clash, clash_of, clashing, whole_app, request_of, run};
+ghost use Rattle.casa_cli.specs.Checks.{AreRead, AreServed, first_wrong, journal_checks, journal_request, load_request, report_checks, report_request, run_checks, run_request, serve_checks, serve_request, stay_checks, stay_request, summary_checks, summary_request, unless_wrong, why_checks, why_request};
+ghost use Rattle.casa_cli.specs.Words.{Clash, clash_of, clashing, whole_app, request_of};
 
 /// Words in which clap finds a fault ask for nothing. Of words that it reads, what is wrong is a clash of options;
 /// where there is none, it is that of the first check that holds, in the order of the subcommand's list; where none
@@ -13,7 +13,7 @@ pub fn words_have_the_first_wrong_value()
     ensures unread { (words : List Text) → (fault_of whole_app words ≡ [] → ⊥)
         → request_of words ≡ None }
     ensures run { (words : List Text) (rows : List Row) → AreRead words (codes "run") rows →
-        request_of words ≡ Some (Ok run) }
+        request_of words ≡ unless_wrong (first_wrong (run_checks rows)) (run_request rows) }
     ensures report { (words : List Text) (rows : List Row) → AreRead words (codes "report") rows →
         request_of words ≡ unless_wrong (first_wrong (report_checks rows)) (report_request rows) }
     ensures load { (words : List Text) (rows : List Row) → AreRead words (codes "load") rows →
@@ -28,4 +28,6 @@ pub fn words_have_the_first_wrong_value()
         request_of words ≡ unless_wrong (first_wrong (serve_checks rows)) (serve_request rows) }
     ensures stay { (words : List Text) (rows : List Row) → AreServed words true rows →
         request_of words ≡ unless_wrong (first_wrong (stay_checks rows)) (stay_request rows) }
+    ensures journal { (words : List Text) (rows : List Row) → AreRead words (codes "journal") rows →
+        request_of words ≡ unless_wrong (first_wrong (journal_checks rows)) (journal_request rows) }
 {}

@@ -1,8 +1,10 @@
 //! The words of the command line: what they ask for, and what the program ends with.
 #![tactic(auto)]
 
+mod clashes;
 mod commands;
 mod help;
+mod journals;
 mod laws;
 mod serving;
 mod tasks;
@@ -10,5 +12,5 @@ mod values;
 mod words;
 
 pub use laws::words_have_the_first_wrong_value;
-pub use tasks::{Service, Socket, Task, TaskFault, Ticking};
+pub use tasks::{Journal, Service, Socket, Task, TaskFault, Ticking};
 pub use words::task;

@@ -1,31 +1,17 @@
 //! What the options of `casa serve` ask for, and which of them do not go together.
 
-ghost use Rattle.std.specs.Prelude.{◌≡◌, Err, IfOk, codes, find, option_map};
-ghost use Rattle.clap.specs.Words.{found_of, kind_of, rows_of};
-ghost use Rattle.casa_cli.specs.Tasks.{AreChecked, IsNumber, IsOutcome, clash_found, kind_of_clash};
-ghost use Rattle.casa_cli.specs.Words.{clash_of, clash_of_staying, clashing, is_given, seats_of, serve_at, serve_of, socket_of, stay_at, staying_options};
+ghost use Rattle.std.specs.Prelude.{◌≡◌, codes, find, option_map};
+ghost use Rattle.clap.specs.Words.{found_of, rows_of};
+ghost use Rattle.casa_cli.specs.Tasks.{AreChecked, IsNumber, IsOutcome, clash_found};
+ghost use Rattle.casa_cli.specs.Words.{clash_by_stay, clash_of, clash_of_ending, clash_of_staying, is_given, seats_of, serve_at, serve_of, socket_of, stay_at, staying_options};
 
+use crate::clashes::{Clash, clash_fault};
 use crate::commands::serve_command;
+use crate::journals::{journal_clash, journal_in};
 use crate::tasks::{Service, Socket, Task, TaskFault, Ticking};
 use crate::values::{checked_day, is_given, number_in, port_in, value_of};
 use clap::ArgMatches;
-use clap::error::ErrorKind;
-use std::alloc::{AllocError, Global};
-
-/// Options that do not go together, by their names.
-#[derive(Clone, Copy, PartialEq, Eq, Debug)]
-pub enum Clash {
-    /// One without the one that it needs.
-    Needs(&'static str, &'static str),
-    /// Two that exclude each other.
-    Excludes(&'static str, &'static str),
-    /// No `--port`, for a server that ends.
-    NoPort,
-    /// Neither `--port` nor `--socket`, for one that stays.
-    NoAddress,
-    /// More than 500 seats at each of two addresses.
-    TooManySeats,
-}
+use std::alloc::Global;
 
 /// The task of `casa serve` with the values of its options.
 pub fn serve_task<'a>(alloc: Global, values: &ArgMatches<'a>) -> Result<Task<'a>, TaskFault>
@@ -33,7 +19,7 @@ pub fn serve_task<'a>(alloc: Global, values: &ArgMatches<'a>) -> Result<Task<'a>
     ensures { IsOutcome (serve_of (rows_of (found_of values.now))) result }
 {
     if let Some(found) = clash_in(values) {
-        return Err(clash_fault(alloc, found));
+        return Err(clash_fault(alloc, serve_command(alloc), found));
     }
     if is_given(values, "stay") {
         stay_task(values)
@@ -43,13 +29,13 @@ pub fn serve_task<'a>(alloc: Global, values: &ArgMatches<'a>) -> Result<Task<'a>
 }
 
 /// The task of a server that ends, whose options go together.
-fn ending_task<'a>(alloc: Global, values: &ArgMatches<'_>) -> Result<Task<'a>, TaskFault>
+fn ending_task<'a>(alloc: Global, values: &ArgMatches<'a>) -> Result<Task<'a>, TaskFault>
     requires { AreChecked (rows_of (found_of values.now)) }
     ensures { IsOutcome (serve_at (rows_of (found_of values.now))) result }
 {
     let port = match port_in(values) {
         Some(port) => port,
-        None => return Err(clash_fault(alloc, Clash::NoPort)),
+        None => return Err(clash_fault(alloc, serve_command(alloc), Clash::NoPort)),
     };
     let connections = number_in(values, "connections").unwrap_or(1);
     let turns = number_in(values, "turns").unwrap_or(0);
@@ -62,6 +48,7 @@ fn ending_task<'a>(alloc: Global, values: &ArgMatches<'_>) -> Result<Task<'a>, T
         connections,
         turns,
         day,
+        journal: journal_in(values),
     })
 }
 
@@ -85,6 +72,7 @@ fn stay_task<'a>(values: &ArgMatches<'a>) -> Result<Task<'a>, TaskFault>
         idle: number_in(values, "idle"),
         quiet: is_given(values, "quiet"),
         clock,
+        journal: journal_in(values),
     }))
 }
 
@@ -111,9 +99,28 @@ fn clash_in(values: &ArgMatches<'_>) -> Option<Clash>
     requires { IsNumber 1 1000 (codes "seats") (rows_of (found_of values.now)) }
     ensures { option_map clash_found result ≡ clash_of (rows_of (found_of values.now)) }
 {
-    if is_given(values, "stay") {
-        return staying_clash(values);
+    match clash_by_stay(values) {
+        Some(found) => Some(found),
+        None => journal_clash(values),
     }
+}
+
+/// The first clash of its options but for those of a journal.
+fn clash_by_stay(values: &ArgMatches<'_>) -> Option<Clash>
+    requires { IsNumber 1 1000 (codes "seats") (rows_of (found_of values.now)) }
+    ensures { option_map clash_found result ≡ clash_by_stay (rows_of (found_of values.now)) }
+{
+    if is_given(values, "stay") {
+        staying_clash(values)
+    } else {
+        ending_clash(values)
+    }
+}
+
+/// The first clash of the options of a server that ends.
+fn ending_clash(values: &ArgMatches<'_>) -> Option<Clash>
+    ensures { option_map clash_found result ≡ clash_of_ending (rows_of (found_of values.now)) }
+{
     let option = staying_option(values)?;
     Some(Clash::Needs(option, "stay"))
 }
@@ -162,75 +169,5 @@ fn staying_clash(values: &ArgMatches<'_>) -> Option<Clash>
         Some(Clash::TooManySeats)
     } else {
         None
-    }
-}
-
-/// The fault for a clash, as clap's own.
-fn clash_fault(alloc: Global, found: Clash) -> TaskFault
-    ensures { IsOutcome (Err (clashing (clash_found found))) (Err result) }
-{
-    match clash_error(alloc, found) {
-        Ok(error) => TaskFault::Words(error),
-        Err(refused) => TaskFault::Words(clap::Error::from(refused)),
-    }
-}
-
-/// clap's error for a clash, with the usage of `casa serve`.
-fn clash_error(alloc: Global, found: Clash) -> Result<clap::Error, AllocError>
-    ensures { IfOk result (λ error. kind_of error ≡ kind_of_clash (clash_found found)) }
-{
-    let text = clash_text(alloc, found)?;
-    let mut command = serve_command(alloc)?;
-    command.error(kind_of_clash(found), text.as_str())
-}
-
-/// The kind of that error.
-fn kind_of_clash(found: Clash) -> ErrorKind
-    ensures { result ≡ kind_of_clash (clash_found found) }
-{
-    match found {
-        Clash::Needs(..) | Clash::NoPort | Clash::NoAddress => ErrorKind::MissingRequiredArgument,
-        Clash::Excludes(..) | Clash::TooManySeats => ErrorKind::ArgumentConflict,
-    }
-}
-
-/// What it says.
-fn clash_text(alloc: Global, found: Clash) -> Result<String, AllocError> {
-    match found {
-        Clash::Needs(option, other) => {
-            let (option, other) = (shown(option), shown(other));
-            format!(in alloc; "the argument '{option}' needs '{other}'")
-        }
-        Clash::Excludes(option, other) => {
-            let (option, other) = (shown(option), shown(other));
-            format!(in alloc; "the argument '{option}' cannot be used with '{other}'")
-        }
-        Clash::NoPort => missing(alloc, "--port <P>"),
-        Clash::NoAddress => missing(alloc, "<--port <P>|--socket <PATH>>"),
-        Clash::TooManySeats => String::from_str(
-            alloc,
-            "the argument '--seats <S>' above 500 cannot be used with both '--port <P>' and '--socket <PATH>'",
-        ),
-    }
-}
-
-/// What clap says of an argument that is missing.
-fn missing(alloc: Global, argument: &str) -> Result<String, AllocError> {
-    format!(in alloc; "the following required arguments were not provided:\n  {argument}")
-}
-
-/// An option of `serve` as clap shows it.
-fn shown(option: &str) -> &'static str {
-    match option {
-        "connections" => "--connections <N>",
-        "turns" => "--turns <T>",
-        "stay" => "--stay",
-        "socket" => "--socket <PATH>",
-        "group" => "--group",
-        "seats" => "--seats <S>",
-        "idle" => "--idle <SECONDS>",
-        "quiet" => "--quiet",
-        "clock" => "--clock",
-        _ => "--every <SECONDS>",
     }
 }

@@ -6,7 +6,10 @@ use thiserror::Error;
 #[derive(Clone, Copy, PartialEq, Eq, Debug)]
 pub enum Task<'a> {
     /// `casa run`: a session on standard input and output.
-    Run,
+    Run {
+        /// The journal to keep, if one is given.
+        journal: Option<Journal<'a>>,
+    },
     /// `casa report`: the list of a regulation as a table, under a heading with the day.
     Report {
         /// The regulation.
@@ -53,9 +56,16 @@ pub enum Task<'a> {
         turns: u32,
         /// The day from whose midnight UTC the clock counts; it is there where the clock is to be moved.
         day: Option<Date>,
+        /// The journal to keep, if one is given.
+        journal: Option<Journal<'a>>,
     },
     /// `casa serve --stay`: desks that come and go until the server is ended.
     Stay(Service<'a>),
+    /// `casa journal check`: the calls of a journal, answered again.
+    CheckJournal {
+        /// The path of its file, as it was given.
+        path: &'a str,
+    },
 }
 
 /// What a server that stays is to do. It has a port or a socket, or both; with both at most 500 seats.
@@ -73,6 +83,8 @@ pub struct Service<'a> {
     pub quiet: bool,
     /// How its clock is moved, if it is.
     pub clock: Option<Ticking>,
+    /// The journal to keep, if one is given.
+    pub journal: Option<Journal<'a>>,
 }
 
 /// A socket in the file system.
@@ -82,6 +94,15 @@ pub struct Socket<'a> {
     pub path: &'a str,
     /// Whether the socket's group may connect too.
     pub group: bool,
+}
+
+/// The file of a day's journal.
+#[derive(Clone, Copy, PartialEq, Eq, Debug)]
+pub struct Journal<'a> {
+    /// Its path, as it was given.
+    pub path: &'a str,
+    /// Whether more than a torn line may be set aside, too.
+    pub force: bool,
 }
 
 /// How the clock of a server that stays is moved.

@@ -5,6 +5,7 @@ ghost use Rattle.casa_cli.specs.Tasks.{AreRefused, Asks, HasRead, IsOutcome, IsS
 ghost use Rattle.casa_cli.specs.Words.{whole_app, load_of, report_of, summary_of, why_of};
 
 use crate::commands::casa_command;
+use crate::journals::{journal_task, run_task};
 use crate::serving::serve_task;
 use crate::tasks::{Task, TaskFault};
 use crate::values::{day_in, is_given, name_in, number_in};
@@ -14,10 +15,10 @@ use std::alloc::Global;
 /// What the words ask for; the first is the program's name.
 ///
 /// `Words` where clap refuses them, or where they ask for help or the version; then too, with a fault as clap's own,
-/// where options of `serve` do not go together, and then where it lacks its port. Then `BadReg` where what stands
-/// after `--reg` is no identifier, and `BadKey` where what stands after `--key` is none; then `BadDay` where what
-/// stands after `--day` is not four digits, a hyphen, two digits, a hyphen and two digits, or no date, and where
-/// `serve` is to move the clock and no day is given.
+/// where options of `run` or `serve` do not go together, where `serve` then lacks its port, and where `journal` is
+/// given another action than `check`. Then `BadReg` where what stands after `--reg` is no identifier, and `BadKey`
+/// where what stands after `--key` is none; then `BadDay` where what stands after `--day` is not four digits, a hyphen,
+/// two digits, a hyphen and two digits, or no date, and where `serve` is to move the clock and no day is given.
 pub fn task<'a>(alloc: Global, words: &'a [&'a str]) -> Result<Task<'a>, TaskFault>
     ensures ok { IfOk result (Asks (map (λ word. word.now) words.entry.now)) }
     ensures err { IfErr result (AreRefused (map (λ word. word.now) words.entry.now)) }
@@ -26,9 +27,11 @@ pub fn task<'a>(alloc: Global, words: &'a [&'a str]) -> Result<Task<'a>, TaskFau
     match matches.subcommand() {
         Some((name, values)) => {
             if name == "run" {
-                Ok(Task::Run)
+                run_task(alloc, values)
             } else if name == "serve" {
                 serve_task(alloc, values)
+            } else if name == "journal" {
+                journal_task(alloc, values)
             } else if name == "load" {
                 load_task(values)
             } else if name == "summary" {

@@ -1,4 +1,4 @@
-use Rattle.casa_cli.proofs.FirstWrong.{nothing_asked, run_asked, report_asked, load_asked, summary_asked, why_asked, clash_asked, serve_asked, stay_asked}
+use Rattle.casa_cli.proofs.FirstWrong.{nothing_asked, run_asked, report_asked, load_asked, summary_asked, why_asked, clash_asked, serve_asked, stay_asked, journal_asked}
 use Rattle.casa_cli.proofs.laws.words_have_the_first_wrong_value.Goals as goal
 
 pub returns-clause-unread : goal.returns-clause-unread
@@ -27,3 +27,6 @@ returns-clause-serve c = serve_asked
 
 pub returns-clause-stay : goal.returns-clause-stay
 returns-clause-stay c = stay_asked
+
+pub returns-clause-journal : goal.returns-clause-journal
+returns-clause-journal c = journal_asked

@@ -2,7 +2,7 @@ use Rattle.std.proofs.Common.{rules, ◌≡◌, ◌∙◌, Some, Err, map, sym, 
 use Rattle.std.specs.Str.{bytes_eq}
 use Rattle.clap.specs.Walk.{rows_of}
 use Rattle.clap.specs.Words.{found_of, subcommand_rows_of}
-use Rattle.casa_cli.proofs.Served.{load_checked, serve_checked}
+use Rattle.casa_cli.proofs.Served.{journal_checked, load_checked, serve_checked}
 use Rattle.casa_cli.specs.declared.tasks.TaskFault.TheVariants.{Words}
 use Rattle.casa_cli.proofs.Refused.{refused_by_clap}
 use Rattle.casa_cli.proofs.words.task.Goals as goal
@@ -14,6 +14,14 @@ serve_task-requires c =
     let entered : subcommand_rows_of c.in_ok-matches.matches ≡ Some (c.in-Some.name.now, rows_of (found_of c.in-Some.values.now)) = search rules in
     let named : bytes_eq c.in-Some.name.now (codes "serve") ≡ true = search rules in
     serve_checked words c.in-Some.name.now (rows_of (found_of c.in-Some.values.now)) read.0 (sym read.1 ∙ entered) named
+
+pub journal_task-requires : goal.journal_task-requires
+journal_task-requires c =
+    let words = map (λ (word : Bor (List ℕ)). word.now) c.args.words.now in
+    let read = c.in_ok-matches.ensures.ok in
+    let entered : subcommand_rows_of c.in_ok-matches.matches ≡ Some (c.in-Some.name.now, rows_of (found_of c.in-Some.values.now)) = search rules in
+    let named : bytes_eq c.in-Some.name.now (codes "journal") ≡ true = search rules in
+    journal_checked words c.in-Some.name.now (rows_of (found_of c.in-Some.values.now)) read.0 (sym read.1 ∙ entered) named
 
 pub load_task-requires : goal.load_task-requires
 load_task-requires c =

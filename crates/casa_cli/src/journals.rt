@@ -1,0 +1,102 @@
+//! What `casa run` and `casa journal` ask for, and the journal that a server may keep too.
+
+ghost use Rattle.std.specs.Prelude.{◌≡◌, Err, IfOk, is_some, option_map, true};
+ghost use Rattle.clap.specs.Words.{first_of, found_of, kind_of, rows_of};
+ghost use Rattle.casa_cli.specs.Tasks.{AreThere, IsOutcome, clash_found, journal};
+ghost use Rattle.casa_cli.specs.Words.{check_of, clash_of_journal, journal_of, run_of, word_of, wrong_action};
+
+use crate::clashes::{Clash, clash_fault};
+use crate::commands::{journal_command, run_command};
+use crate::tasks::{Journal, Task, TaskFault};
+use crate::values::{is_given, value_of};
+use clap::ArgMatches;
+use clap::error::ErrorKind;
+use std::alloc::{AllocError, Global};
+
+/// The task of `casa run` with the values of its options.
+pub fn run_task<'a>(alloc: Global, values: &ArgMatches<'a>) -> Result<Task<'a>, TaskFault>
+    ensures { IsOutcome (run_of (rows_of (found_of values.now))) result }
+{
+    if let Some(found) = journal_clash(values) {
+        return Err(clash_fault(alloc, run_command(alloc), found));
+    }
+    Ok(Task::Run {
+        journal: journal_in(values),
+    })
+}
+
+/// The task of `casa journal` with its words.
+pub fn journal_task<'a>(alloc: Global, values: &ArgMatches<'a>) -> Result<Task<'a>, TaskFault>
+    requires { AreThere (rows_of (found_of values.now)) }
+    ensures { IsOutcome (check_of (rows_of (found_of values.now))) result }
+{
+    let action = word_in(values, "action");
+    if action != "check" {
+        return Err(action_fault(alloc, action));
+    }
+    Ok(Task::CheckJournal {
+        path: word_in(values, "file"),
+    })
+}
+
+/// The journal to keep.
+pub fn journal_in<'a>(values: &ArgMatches<'a>) -> Option<Journal<'a>>
+    ensures { journal result ≡ journal_of (rows_of (found_of values.now)) }
+{
+    let path = value_of(values, "journal")?;
+    let force = is_given(values, "force");
+    Some(Journal { path, force })
+}
+
+/// The clash of the options of a journal.
+pub fn journal_clash(values: &ArgMatches<'_>) -> Option<Clash>
+    ensures { option_map clash_found result ≡ clash_of_journal (rows_of (found_of values.now)) }
+{
+    if is_given(values, "force") && !is_given(values, "journal") {
+        Some(Clash::Needs("force", "journal"))
+    } else {
+        None
+    }
+}
+
+/// What stands where a word must.
+fn word_in<'a>(values: &ArgMatches<'a>, name: &str) -> &'a str
+    requires { is_some (first_of name.now (rows_of (found_of values.now))) ≡ true }
+    ensures { result.now ≡ word_of name.now (rows_of (found_of values.now)) }
+{
+    match value_of(values, name) {
+        Some(word) => word,
+        None => unreachable!(),
+    }
+}
+
+/// The fault for what cannot be done with a journal, as clap's own.
+fn action_fault(alloc: Global, action: &str) -> TaskFault
+    ensures { IsOutcome (Err wrong_action) (Err result) }
+{
+    match action_error(alloc, action) {
+        Ok(error) => TaskFault::Words(error),
+        Err(refused) => TaskFault::Words(clap::Error::from(refused)),
+    }
+}
+
+/// clap's error for it, with the usage of `casa journal`.
+fn action_error(alloc: Global, action: &str) -> Result<clap::Error, AllocError>
+    ensures { IfOk result (λ error. kind_of error ≡ ErrorKind.InvalidValue) }
+{
+    let text = action_text(alloc, action)?;
+    let mut command = journal_command(alloc)?;
+    command.error(ErrorKind::InvalidValue, text.as_str())
+}
+
+/// What it says.
+fn action_text(alloc: Global, action: &str) -> Result<String, AllocError> {
+    if action.is_empty() {
+        String::from_str(
+            alloc,
+            "a value is required for '<ACTION>' but none was supplied\n  [possible values: check]",
+        )
+    } else {
+        format!(in alloc; "invalid value '{action}' for '<ACTION>'\n  [possible values: check]")
+    }
+}

@@ -1,0 +1,293 @@
+//! Connections over TCP and over sockets of the file system.
+
+ghost use Rattle.std.specs.Io.{ReadsAtMost, WritesAtMost};
+
+use std::alloc::Global;
+use std::fmt::{Display, Formatter};
+use std::io::{ErrorKind, Read, Write};
+use std::net::{Shutdown, SocketAddr, TcpListener, TcpStream};
+use std::os::fd::OwnedFd;
+use std::os::unix::net::{UnixListener, UnixStream};
+use std::sync::Arc;
+use std::sync::atomic::{AtomicBool, Ordering};
+use std::time::Duration;
+use std::{fmt, io};
+
+/// How long a read or a write waits at a time where the server may have to end, in seconds.
+const LOOK: u64 = 1;
+
+/// What connections come to.
+#[derive(Drop)]
+pub(crate) enum Listener {
+    Tcp(TcpListener),
+    Unix(UnixListener),
+}
+
+/// A connection.
+#[derive(Drop)]
+pub(crate) enum Stream {
+    Tcp(TcpStream),
+    Unix(UnixStream),
+}
+
+/// Who is at the other end of a connection.
+#[derive(Clone, Copy)]
+pub(crate) enum Peer {
+    Tcp(SocketAddr),
+    Unix,
+}
+
+impl Display for Peer {
+    fn fmt<W: fmt::Write>(&self, f: &mut Formatter<W>) -> fmt::Result {
+        match self {
+            Peer::Tcp(address) => write!(f, "{address}"),
+            Peer::Unix => f.write_str("the socket"),
+        }
+    }
+}
+
+impl Listener {
+    /// The next connection, and who it comes from. It waits for one.
+    pub(crate) fn accept(&self) -> io::Result<(Stream, Peer)> {
+        match self {
+            Listener::Tcp(listener) => {
+                let (stream, address) = listener.accept()?;
+                // A system that refuses it may send replies later; it sends them all the same.
+                let _ = stream.set_nodelay(true);
+                Ok((Stream::Tcp(stream), Peer::Tcp(address)))
+            }
+            Listener::Unix(listener) => {
+                let (stream, _) = listener.accept()?;
+                Ok((Stream::Unix(stream), Peer::Unix))
+            }
+        }
+    }
+
+    /// Lets nobody connect any more, and wakes who waits for that.
+    pub(crate) fn shut(&self) -> io::Result<()> {
+        match self {
+            Listener::Tcp(listener) => {
+                let same = OwnedFd::from(listener.try_clone()?);
+                TcpStream::from(same).shutdown(Shutdown::Both)
+            }
+            Listener::Unix(listener) => {
+                let same = OwnedFd::from(listener.try_clone()?);
+                UnixStream::from(same).shutdown(Shutdown::Both)
+            }
+        }
+    }
+}
+
+impl Stream {
+    /// Lets no read or write wait longer than this, if it is to be bounded.
+    fn set_timeout(&self, most: Option<Duration>) -> io::Result<()> {
+        match self {
+            Stream::Tcp(stream) => {
+                stream.set_read_timeout(most)?;
+                stream.set_write_timeout(most)
+            }
+            Stream::Unix(stream) => {
+                stream.set_read_timeout(most)?;
+                stream.set_write_timeout(most)
+            }
+        }
+    }
+}
+
+/// How long a connection waits for its peer: at a time, and how often.
+#[derive(Clone, Copy)]
+pub(crate) struct Patience {
+    at_a_time: Option<Duration>,
+    times: u64,
+}
+
+impl Patience {
+    /// So many seconds, if they are bounded; a second at a time where the server may have to end meanwhile.
+    pub(crate) fn new(idle: Option<u32>, may_end: bool) -> Patience {
+        match idle {
+            Some(seconds) if may_end => Patience {
+                at_a_time: Some(Duration::from_secs(LOOK)),
+                times: u64::from(seconds),
+            },
+            None if may_end => Patience {
+                at_a_time: Some(Duration::from_secs(LOOK)),
+                times: u64::MAX,
+            },
+            Some(seconds) => Patience {
+                at_a_time: Some(Duration::from_secs(u64::from(seconds))),
+                times: 1,
+            },
+            None => Patience {
+                at_a_time: None,
+                times: 1,
+            },
+        }
+    }
+}
+
+/// A connection, as both of its ends share it.
+#[derive(Drop)]
+struct Wire<'a> {
+    stream: Arc<Stream>,
+    patience: Patience,
+    /// Whether the server ends, so that nobody waits any more.
+    is_ending: &'a AtomicBool,
+}
+
+impl<'a> Wire<'a> {
+    /// Whether the server ends.
+    fn is_ending(&self) -> bool {
+        self.is_ending.load(Ordering::SeqCst)
+    }
+
+    /// Whether to go on waiting, where a read or a write came to this.
+    fn waits(&self, done: &io::Result<usize>) -> bool {
+        match done {
+            Err(error) => error.kind() == ErrorKind::WouldBlock && !self.is_ending(),
+            Ok(_) => false,
+        }
+    }
+
+    /// Reads what has come, for which it waits.
+    fn read(&self, buf: &mut [u8]) -> io::Result<usize>
+        ensures { ReadsAtMost result buf.new }
+    {
+        for _ in 1..self.patience.times {
+            let read = self.read_once(buf);
+            if !self.waits(&read) {
+                return read;
+            }
+        }
+        self.read_once(buf)
+    }
+
+    fn read_once(&self, buf: &mut [u8]) -> io::Result<usize>
+        ensures { ReadsAtMost result buf.new }
+    {
+        match &*self.stream {
+            Stream::Tcp(stream) => read_from(stream, buf),
+            Stream::Unix(stream) => read_from(stream, buf),
+        }
+    }
+
+    /// Writes some bytes, which it waits to be taken.
+    fn write(&self, buf: &[u8]) -> io::Result<usize>
+        ensures { WritesAtMost result buf.now }
+    {
+        for _ in 1..self.patience.times {
+            let written = self.write_once(buf);
+            if !self.waits(&written) {
+                return written;
+            }
+        }
+        self.write_once(buf)
+    }
+
+    fn write_once(&self, buf: &[u8]) -> io::Result<usize>
+        ensures { WritesAtMost result buf.now }
+    {
+        match &*self.stream {
+            Stream::Tcp(stream) => write_to(stream, buf),
+            Stream::Unix(stream) => write_to(stream, buf),
+        }
+    }
+}
+
+/// The end of a connection at which lines are read.
+#[derive(Drop)]
+pub(crate) struct LineEnd<'a> {
+    wire: Wire<'a>,
+    /// By which seat they are answered.
+    pub(crate) seat: u32,
+    /// Who sends them.
+    pub(crate) peer: Peer,
+    /// How many line feeds have come.
+    pub(crate) lines: u64,
+    /// Whether a read has waited too long.
+    pub(crate) is_idle: bool,
+}
+
+/// The end of a connection at which replies are written.
+#[derive(Drop)]
+pub(crate) struct ReplyEnd<'a> {
+    wire: Wire<'a>,
+}
+
+impl<'a> Read for LineEnd<'a> {
+    fn read(&mut self, buf: &mut [u8]) -> io::Result<usize> {
+        let read = self.wire.read(buf);
+        match &read {
+            Ok(n) => self.lines = self.lines.saturating_add(line_feeds(&buf[..*n])),
+            Err(error) => {
+                self.is_idle = error.kind() == ErrorKind::WouldBlock && !self.wire.is_ending();
+            }
+        }
+        read
+    }
+}
+
+impl<'a> Write for ReplyEnd<'a> {
+    fn write(&mut self, buf: &[u8]) -> io::Result<usize> {
+        self.wire.write(buf)
+    }
+
+    fn flush(&mut self) -> io::Result<()> {
+        Ok(())
+    }
+}
+
+/// The two ends of a connection, which is closed when both are dropped. `OutOfMemory` where there is no memory for them.
+pub(crate) fn ends_of<'a>(
+    alloc: Global,
+    stream: Stream,
+    seat: u32,
+    peer: Peer,
+    patience: Patience,
+    is_ending: &'a AtomicBool,
+) -> io::Result<(LineEnd<'a>, ReplyEnd<'a>)> {
+    stream.set_timeout(patience.at_a_time)?;
+    let stream = Arc::new(alloc, stream)?;
+    let same = stream.clone()?;
+    let reader = LineEnd {
+        wire: Wire {
+            stream,
+            patience,
+            is_ending,
+        },
+        seat,
+        peer,
+        lines: 0,
+        is_idle: false,
+    };
+    let wire = Wire {
+        stream: same,
+        patience,
+        is_ending,
+    };
+    Ok((reader, ReplyEnd { wire }))
+}
+
+/// Reads from what is shared with a writer.
+fn read_from<R: Read + Drop>(mut stream: R, buf: &mut [u8]) -> io::Result<usize>
+    ensures { ReadsAtMost result buf.new }
+{
+    stream.read(buf)
+}
+
+/// Writes to what is shared with a reader.
+fn write_to<W: Write + Drop>(mut stream: W, buf: &[u8]) -> io::Result<usize>
+    ensures { WritesAtMost result buf.now }
+{
+    stream.write(buf)
+}
+
+/// How many line feeds there are.
+fn line_feeds(bytes: &[u8]) -> u64 {
+    let mut count: u64 = 0;
+    for byte in bytes {
+        if *byte == b'\n' {
+            count = count.saturating_add(1);
+        }
+    }
+    count
+}
