@@ -51,7 +51,7 @@ def whole_end(text):
 
 
 def is_refused(torn):
-    """Whether no crash leaves this behind the whole lines."""
+    """Whether this is more than a torn line, so that it is refused without --force."""
     return len(torn) > MOST_TORN or b"\n" in torn
 
 
