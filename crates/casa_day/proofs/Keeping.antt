@@ -1,24 +1,27 @@
 -- What was told is kept.
-use Rattle.std.proofs.Common.{◌≡◌, ⊎_elim, ℕ, ◌+◌, ◌-◌, ◌≤◌, List, [], ◌++◌, length, take, drop, sym, ◌∙◌, ap, subst, arith, length-append, length-take, length-drop, take-append-drop}
+use Rattle.std.proofs.Common.{◌≡◌, ⊎_elim, ℕ, ◌+◌, ◌-◌, ◌≤◌, List, [], ◌∷◌, ◌++◌, length, map, take, drop, refl, sym, ◌∙◌, ap, subst, arith, length-append, length-take, length-drop, take-append-drop}
 use Rattle.std.proofs.lemmas.List.{append-nil, take_all}
+use Rattle.std.specs.Prelude.{Bool, true, false, cond, filter, nat_le}
 use Rattle.std.specs.List.{AllByRecursion}
+use Rattle.std.proofs.lemmas.Bool.Decides.{nat_tests}
 use Rattle.casa_history.specs.declared.entry.Entry.{Entry}
 use Rattle.casa_tape.specs.declared.tape.Tape.{Ghosts as TapeOf}
 use Rattle.casa_tape.specs.Lines.{AreLines, journal_of, whole_lines, IsBetween}
 use Rattle.casa_tape.specs.Journals.{IsSettled, LeavesOnly}
+use Rattle.casa_tape.proofs.Moments.{no_call, leaves_each, leaves_on}
 use Rattle.casa_tape.proofs.Runs.{durable}
 use Rattle.casa_tape.proofs.WholeLines.{lines_again}
 use Rattle.casa_day.specs.declared.script.Script.{Ghosts as ScriptOf}
 use Rattle.casa_day.specs.declared.journal.Told.{Told}
 use Rattle.casa_day.specs.declared.journal.Journal.{Journal}
 use Rattle.casa_day.specs.Scripts.{Say}
-use Rattle.casa_day.specs.Journals.{Keeps, IsKept, IsSafe, IsRunning, IsBegun, IsToldNow}
+use Rattle.casa_day.specs.Journals.{Grows, Keeps, IsKept, IsSafe, IsRunning, IsBegun, IsToldNow}
 use Rattle.casa_day.proofs.Lists.{take_drop, take_front, all_append, all_each, all_both}
 use Rattle.casa_day.proofs.Saying.{say_append, say_length, say_take}
 
 module _ {S C R : Type 0} (script : ScriptOf S C R) where
   -- more entries keep what is kept
-  keeps_more : (es more : List (Entry C R)) (least : ℕ) (file : List ℕ) → Keeps script es least file → Keeps script (es ++ more) least file
+  pub keeps_more : (es more : List (Entry C R)) (least : ℕ) (file : List ℕ) → Keeps script es least file → Keeps script (es ++ more) least file
   keeps_more es more least file keeps = record {
     count = keeps.count;
     enough = keeps.enough;
@@ -27,7 +30,7 @@ module _ {S C R : Type 0} (script : ScriptOf S C R) where
   }
 
   -- a file that stands for the lines, and the first of those that were added, keeps what was told of the lines
-  between_keeps : (es : List (Entry C R)) (journaled least : ℕ) (lines added : List (List ℕ)) (c : List ℕ) → journaled ≤ length es → least ≤ journaled
+  pub between_keeps : (es : List (Entry C R)) (journaled least : ℕ) (lines added : List (List ℕ)) (c : List ℕ) → journaled ≤ length es → least ≤ journaled
       → Say script 1 lines (take journaled es) → Say script (journaled + 1) added (drop journaled es) → IsBetween lines added c → Keeps script es least c
   between_keeps es journaled least lines added c within enough old new between =
       let size : length lines ≡ journaled = omega (arith, say_length script 1 lines (take journaled es) old, length-take journaled es, within) in
@@ -42,7 +45,7 @@ module _ {S C R : Type 0} (script : ScriptOf S C R) where
       }
 
   -- a file of the lines alone does, too
-  settled_keeps : (es : List (Entry C R)) (journaled least : ℕ) (lines : List (List ℕ)) (c : List ℕ) → journaled ≤ length es → least ≤ journaled
+  pub settled_keeps : (es : List (Entry C R)) (journaled least : ℕ) (lines : List (List ℕ)) (c : List ℕ) → journaled ≤ length es → least ≤ journaled
       → AreLines lines → Say script 1 lines (take journaled es) → c ≡ journal_of lines → Keeps script es least c
   settled_keeps es journaled least lines c within enough are said is =
       let whole : whole_lines c ≡ lines = ap whole_lines (is ∙ sym (append-nil (journal_of lines))) ∙ lines_again lines [] are ∙ append-nil lines in
@@ -135,3 +138,40 @@ module _ {S C R : Type 0} (script : ScriptOf S C R) where
           said = subst (λ (n : ℕ). Say script 1 lines (take n es)) (sym begun.journaled) all;
           covered = subst (AllByRecursion (λ (t : Told D). t.position ≤ journal.journaled)) (sym begun.alone) (omega (arith, begun.all, begun.journaled), tt);
         }
+
+module _ {S C R D : Type 0} (script : ScriptOf S C R) (T : TapeOf D) where
+  -- where nothing is done to the tape, what the journal has is kept
+  pub kept_now : (es : List (Entry C R)) (journal : Journal D) → ((c : List ℕ) → T.left_since journal.tape (T.moment journal.tape) c → T.may_leave journal.tape c)
+      → IsRunning script T es journal → LeavesOnly T journal.tape journal.tape (Keeps script es journal.journaled)
+  kept_now es journal only r =
+      no_call T journal.tape (Keeps script es journal.journaled)
+      (λ c left. settled_keeps script es journal.journaled journal.journaled r.lines c r.within (omega arith) r.settled.are r.said (durable T journal.tape r.lines r.settled c (only c left)))
+
+  -- as time goes on, with more entries, what was journaled at first is kept
+  pub kept_on : (es fs : List (Entry C R)) (least more : ℕ) (old mid new : D) → Grows es fs → least ≤ more
+      → LeavesOnly T old mid (Keeps script es least) → LeavesOnly T mid new (Keeps script fs more) → LeavesOnly T old new (Keeps script fs least)
+  kept_on es fs least more old mid new grown le first then =
+      leaves_on T old mid new (Keeps script fs least)
+      (leaves_each T old mid (Keeps script es least) (Keeps script fs least)
+      (λ c keeps. subst (λ (gs : List (Entry C R)). Keeps script gs least c) (sym grown.1) (keeps_more script es grown.0 least c keeps)) first)
+      (leaves_each T mid new (Keeps script fs more) (Keeps script fs least)
+      (λ c keeps. record { count = keeps.count; enough = omega (arith, le, keeps.enough); within = keeps.within; said = keeps.said }) then)
+
+-- what a crash leaves at a moment keeps all that was told by then
+pub kept_by : {S C R D : Type 0} → (script : ScriptOf S C R) (T : TapeOf D) (es : List (Entry C R)) (tape : D) (moment : ℕ) (left : List ℕ)
+    → ((t u : ℕ) (c : List ℕ) → t ≤ u → T.left_since tape u c → T.left_since tape t c) → T.left_since tape moment left
+    → (told : List (Told D)) → AllByRecursion (IsKept script T es tape) told
+    → AllByRecursion (λ (p : ℕ). Keeps script es p left) (map (λ (t : Told D). t.position) (filter (λ (t : Told D). nat_le (T.moment t.at.value) moment) told))
+kept_by script T es tape moment left earlier since [] kept = tt
+kept_by {D = D} script T es tape moment left earlier since (t ∷ told) kept =
+    by (nat_le (T.moment t.at.value) moment) refl (kept_by script T es tape moment left earlier since told kept.1)
+  where
+    others : List (Told D)
+    others = filter (λ (t : Told D). nat_le (T.moment t.at.value) moment) told
+
+    Kept : List (Told D) → Type 0
+    Kept ts = AllByRecursion (λ (p : ℕ). Keeps script es p left) (map (λ (t : Told D). t.position) ts)
+
+    by : (b : Bool) → nat_le (T.moment t.at.value) moment ≡ b → Kept others → Kept (cond b (t ∷ others) others)
+    by true is rest = (kept.0.kept left (earlier (T.moment t.at.value) moment left (grind (arith, nat_tests)) since), rest)
+    by false is rest = rest

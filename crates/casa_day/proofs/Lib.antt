@@ -6,5 +6,4 @@ pub mod Telling
 pub mod Following
 pub mod Replaying
 pub mod Restoring
-pub mod Coursing
 pub mod Living

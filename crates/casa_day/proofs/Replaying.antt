@@ -4,7 +4,9 @@ use Rattle.std.proofs.lemmas.List.{append-nil, append_assoc}
 use Rattle.casa_history.specs.declared.entry.Entry.{Entry}
 use Rattle.casa_commit.specs.declared.world.World.{Ghosts as WorldOf}
 use Rattle.casa_commit.specs.Legal.{IsLegal}
-use Rattle.casa_tape.specs.Lines.{HasNoLine, IsLine, AreLines, journal_of}
+use Rattle.std.specs.Prelude.{Contains}
+use Rattle.casa_tape.specs.Lines.{IsLine, AreLines, journal_of}
+use Rattle.casa_tape.proofs.WholeLines.{no_lf_no_line}
 use Rattle.casa_day.specs.declared.script.Script.{Ghosts as ScriptOf}
 use Rattle.casa_day.specs.declared.event.OpenFault.{OpenFault}
 use Rattle.casa_day.specs.Scripts.{Says, Say}
@@ -70,7 +72,7 @@ module _ {S C R : Type 0} (script : ScriptOf S C R) where
       }
 
   -- where no line is left all are answered
-  pub replay_ends : (lines : List (List ℕ)) (rest : List ℕ) (es : List (Entry C R)) (position : ℕ) → HasNoLine rest → IsReplayed script lines rest es position → Say script 1 lines es × (position ≡ length es)
+  pub replay_ends : (lines : List (List ℕ)) (rest : List ℕ) (es : List (Entry C R)) (position : ℕ) → ¬ (Contains rest 10) → IsReplayed script lines rest es position → Say script 1 lines es × (position ≡ length es)
   replay_ends lines rest es position none r = step r.left r.split r.are_left r.rest_is
     where
       step : (left : List (List ℕ)) → lines ≡ r.done ++ left → AreLines left → rest ≡ journal_of left → Say script 1 lines es × (position ≡ length es)
@@ -78,7 +80,7 @@ module _ {S C R : Type 0} (script : ScriptOf S C R) where
         subst (λ (ls : List (List ℕ)). Say script 1 ls es) (sym (split ∙ append-nil r.done)) r.said,
         r.count ∙ say_length script 1 r.done es r.said,
       )
-      step (l ∷ ls) split are is = absurd (none l (journal_of ls) are.0 is)
+      step (l ∷ ls) split are is = absurd (no_lf_no_line rest none l (journal_of ls) are.0 is)
 
   -- a line at which a fault comes
   pub replay_refused : {W V G : Type 0} → (world : WorldOf W C V G R) (lines : List (List ℕ)) (rest line others : List ℕ) (es : List (Entry C R)) (position : ℕ) (fault : OpenFault) → rest ≡ line ++ 10 ∷ others

@@ -15,7 +15,7 @@ IsOfLines (opening.BadLine n) = Unit {0}
 IsOfLines (opening.ReplayDiffers n) = Unit {0}
 IsOfLines opening.NoMemory = ⊥
 
--- a line says a call at its position and is answered otherwise, after these entries
+-- a line says a call at its position, and does not vouch for the reply that this call has after these entries
 pub record IsAnsweredOtherwise {S W C V G R : Type 0} (script : ScriptOf S C R) (world : WorldOf W C V G R) (before : List (Entry C R)) (position : ℕ) (line : List ℕ) : Type 0 where
   pub call : C
   pub said : script.says position line ≡ Some call

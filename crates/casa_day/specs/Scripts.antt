@@ -1,5 +1,6 @@
 -- to believe: the entries that lines say, and the texts of entries
-use Rattle.std.specs.Prelude.{◌≡◌, ℕ, ◌+◌, Some, List, [], ◌∷◌, map}
+use Rattle.std.specs.Prelude.{◌≡◌, ℕ, Some, List, map}
+use Rattle.std.specs.List.{AllZip, enumerate_from}
 use Rattle.casa_history.specs.declared.entry.Entry.{Entry}
 use Rattle.casa_tape.specs.Lines.{AreLines, journal_of}
 use Rattle.casa_day.specs.declared.script.Script.{Ghosts as ScriptOf}
@@ -19,10 +20,7 @@ pub record Says {S C R : Type 0} (script : ScriptOf S C R) (position : ℕ) (lin
 
 -- the lines say these entries, one each, the first of them at this position
 abbrev pub Say : {S C R : Type 0} → ScriptOf S C R → ℕ → List (List ℕ) → List (Entry C R) → Type 0
-Say script position [] [] = Unit {0}
-Say script position [] (e ∷ es) = ⊥
-Say script position (l ∷ ls) [] = ⊥
-Say script position (l ∷ ls) (e ∷ es) = Says script position l e × Say script (position + 1) ls es
+Say script position lines es = AllZip (λ line at. Says script at.0 line at.1) lines (enumerate_from position es)
 
 -- a text of these entries, the first of them at this position: lines that say them, each with its LF
 pub record IsTextOf {S C R : Type 0} (script : ScriptOf S C R) (position : ℕ) (es : List (Entry C R)) (text : List ℕ) : Type 0 where

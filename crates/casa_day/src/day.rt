@@ -20,11 +20,11 @@ pub struct Day<W: World, S, T> {
 }
 
 impl<W: World, S: Script<W::Call, W::Reply>, T: Tape> Day<W, S, T> {
-    ghost use Rattle.casa_day.specs.Courses.{course_of, step, steps};
+    ghost use Rattle.casa_day.specs.Courses.{course_of, step, Happened};
     ghost use Rattle.casa_day.specs.Days.{IsRunningDay, WentOn};
 
     /// What happens, one event after the other. At each end, and so at each moment since the day began, the history is legal,
-    /// and a crash at any moment since a reply was told leaves a file that has its entry, at its position.
+    /// and a crash at any moment since a reply was told leaves a file that has its call, at its position.
     ///
     /// `NotWritten` where the tape fails, `NoMemory` where there is no memory; at both the day is to be opened again.
     pub fn live<G: Gate<W>>(
@@ -36,9 +36,9 @@ impl<W: World, S: Script<W::Call, W::Reply>, T: Tape> Day<W, S, T> {
         requires { IsRunningDay S.Script T.Tape self.old }
         ensures went_on { WentOn S.Script T.Tape self.old self.new result }
         ensures legal { IsLegal W.after W.reply W.opening (entries_of self.new.room) }
-        // What happened is what the events say.
-        ensures course { OnOk result (course_of self.new
-            ≡ steps (open_desks self.old.room) events.now (course_of self.old)) }
+        // What happened is what the events say, up to one that failed, and that did nothing.
+        ensures course { Happened (open_desks self.old.room) events.now result
+            (course_of self.old) (course_of self.new) }
     {
         for event in events {
             self.happen(alloc, gate, event)?;
@@ -57,6 +57,7 @@ impl<W: World, S: Script<W::Call, W::Reply>, T: Tape> Day<W, S, T> {
         ensures went_on { WentOn S.Script T.Tape self.old self.new result }
         ensures course { OnOk result (course_of self.new
             ≡ step (open_desks self.old.room) event.now (course_of self.old)) }
+        ensures nothing_happened { OnErr result (course_of self.new ≡ course_of self.old) }
     {
         match event {
             Event::Answer(desk, call) => self.answer(alloc, gate, *desk, call),
@@ -78,6 +79,7 @@ impl<W: World, S: Script<W::Call, W::Reply>, T: Tape> Day<W, S, T> {
         ensures running { IsRunningDay S.Script T.Tape self.new }
         ensures course { OnOk result (course_of self.new
             ≡ step (open_desks self.old.room) (Event.Answer desk call.now) (course_of self.old)) }
+        ensures nothing_happened { OnErr result (course_of self.new ≡ course_of self.old) }
         ensures not_written { IsErrOf result DayFault.NotWritten → ⊥ }
     {
         if desk < self.room.desks() {
@@ -93,11 +95,12 @@ impl<W: World, S: Script<W::Call, W::Reply>, T: Tape> Day<W, S, T> {
         ensures went_on { WentOn S.Script T.Tape self.old self.new result }
         ensures course { OnOk result (course_of self.new
             ≡ step (open_desks self.old.room) Event.Flush (course_of self.old)) }
+        ensures nothing_happened { OnErr result (course_of self.new ≡ course_of self.old) }
     {
         self.journal.flush(alloc, &self.script, self.room.history())
     }
 
-    /// The reply at this position, counted from 1, is told, where the journal has its entry. `NoMemory` where there is no
+    /// The reply at this position, counted from 1, is told, where the journal has its call. `NoMemory` where there is no
     /// memory to note that; the day can go on.
     pub fn tell(&mut self, position: usize) -> Result<(), DayFault>
         requires { IsRunningDay S.Script T.Tape self.old }
@@ -105,6 +108,7 @@ impl<W: World, S: Script<W::Call, W::Reply>, T: Tape> Day<W, S, T> {
         ensures running { IsRunningDay S.Script T.Tape self.new }
         ensures course { OnOk result (course_of self.new
             ≡ step (open_desks self.old.room) (Event.Tell position) (course_of self.old)) }
+        ensures nothing_happened { OnErr result (course_of self.new ≡ course_of self.old) }
         ensures not_written { IsErrOf result DayFault.NotWritten → ⊥ }
     {
         self.journal.tell(position)

@@ -4,6 +4,7 @@ ghost use Rattle.std.specs.Prelude.{◌≡◌, ◌+◌, ◌<◌, ◌^◌, nat_lt
 ghost use Rattle.casa_history.specs.declared.entry.Entry.{Entry};
 ghost use Rattle.casa_history.specs.Entries.{entries};
 ghost use Rattle.casa_tape.specs.Tape.{IsSynced};
+ghost use Rattle.casa_tape.specs.Journals.{LeavesOnly};
 
 use crate::event::DayFault;
 use crate::script::Script;
@@ -29,7 +30,7 @@ pub struct Journal<T> {
 }
 
 impl<T: Tape> Journal<T> {
-    ghost use Rattle.casa_day.specs.Journals.{IsBegun, IsRunning, IsSafe, IsToldNow};
+    ghost use Rattle.casa_day.specs.Journals.{IsBegun, IsRunning, IsSafe, IsToldNow, Keeps};
 
     /// The journal on a tape that has so many entries, all of which count as told. An error hands the tape back, where there
     /// is no memory.
@@ -60,6 +61,9 @@ impl<T: Tape> Journal<T> {
     ) -> Result<(), DayFault>
         requires { IsRunning S.Script T.Tape (entries history.now) self.old }
         ensures safe { IsSafe S.Script T.Tape (entries history.now) self.new }
+        // A crash at any moment of it leaves a file that keeps what the journal had.
+        ensures any_moment { LeavesOnly T.Tape self.old.tape self.new.tape
+            (Keeps S.Script (entries history.now) self.old.journaled) }
         ensures running { OnOk result (IsRunning S.Script T.Tape (entries history.now) self.new) }
         ensures all { OnOk result (self.new.journaled ≡ length (entries history.now)) }
         ensures less { OnErr result (self.new.journaled ≡ self.old.journaled) }
@@ -82,6 +86,10 @@ impl<T: Tape> Journal<T> {
         ensures safe { (history : List (Entry C R)) → IsRunning S.Script T.Tape history self.old
             → drop self.old.journaled history ≡ behind.now
             → IsSafe S.Script T.Tape history self.new }
+        ensures any_moment { (history : List (Entry C R)) → IsRunning S.Script T.Tape history self.old
+            → drop self.old.journaled history ≡ behind.now
+            → LeavesOnly T.Tape self.old.tape self.new.tape
+            (Keeps S.Script history self.old.journaled) }
         ensures running { OnOk result ((history : List (Entry C R))
             → IsRunning S.Script T.Tape history self.old
             → drop self.old.journaled history ≡ behind.now
@@ -99,7 +107,7 @@ impl<T: Tape> Journal<T> {
         Ok(())
     }
 
-    /// The reply at this position, counted from 1, is told, where the journal has its entry. `NoMemory` where there is no
+    /// The reply at this position, counted from 1, is told, where the journal has its call. `NoMemory` where there is no
     /// memory to note that.
     pub fn tell(&mut self, position: usize) -> Result<(), DayFault>
         ensures same { (self.new.tape ≡ self.old.tape) × (self.new.journaled ≡ self.old.journaled) }

@@ -1,6 +1,6 @@
 //! What definitions mean. The functions do nothing: the contract of each is the law.
 
-ghost use Rattle.std.specs.Prelude.{◌≡◌, ◌≤◌, List, ℕ, length, take};
+ghost use Rattle.std.specs.Prelude.{◌≡◌, ◌≤◌, ◌∷◌, List, ℕ, length, take};
 ghost use Rattle.casa_history.specs.declared.entry.Entry.{Entry};
 ghost use Rattle.casa_commit.specs.Legal.{IsLegal};
 ghost use Rattle.casa_tape.specs.Lines.{whole_lines};
@@ -29,10 +29,10 @@ pub fn replies_follow_from_calls<W: World>()
         → answers_in fs ≡ take count (answers_in es) }
 {}
 
-/// However often the program is cut short: the file that is left at the end says a legal history that has each call whose
-/// reply was told in some life, and all before it, with their replies, at their positions.
+/// However often the program is cut short, in one life or more: the file that is left at the end says one legal history, which
+/// has each call whose reply was told in any life, and all before it, with their replies, at their positions.
 pub fn nothing_told_is_lost<W: World, S: Script<W::Call, W::Reply>>()
-    ensures { (found left : List ℕ) (lives : List (Life W.Call W.Reply))
-        → AreLived S.Script W.World found lives left
-        → NothingIsLost S.Script W.World left lives }
+    ensures { (found left : List ℕ) (life : Life W.Call W.Reply) (lives : List (Life W.Call W.Reply))
+        → AreLived S.Script W.World found (life ∷ lives) left
+        → NothingIsLost S.Script W.World left (life ∷ lives) }
 {}

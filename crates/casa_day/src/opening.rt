@@ -5,7 +5,7 @@ ghost use Rattle.casa_history.specs.declared.entry.Entry.{Entry};
 ghost use Rattle.casa_commit.specs.Legal.{IsLegal};
 ghost use Rattle.casa_commit.specs.Rooms.{entries_of, open_desks};
 ghost use Rattle.casa_tape.specs.Lines.{AreLines, StandsAs, journal_of, whole_lines};
-ghost use Rattle.casa_tape.specs.Journals.{LeavesOnly};
+ghost use Rattle.casa_tape.specs.Journals.{IsSettled, LeavesOnly};
 ghost use Rattle.casa_day.specs.Scripts.{Says, Say};
 ghost use Rattle.casa_day.specs.Refusals.{IsOfLines, IsRefused, IsRefusedAt};
 ghost use Rattle.casa_day.specs.Days.{IsRestored, IsRunningDay, tape_left};
@@ -43,6 +43,8 @@ impl<W: World + Drop, S: Script<W::Call, W::Reply> + Drop, T: Tape + Drop> Day<W
             (length (entries_of day.room)) day.journal) }
         ensures said { IfOk result (λ day. (xs : List ℕ) → T.holds tape xs
             → Say S.Script 1 (whole_lines xs) (entries_of day.room)) }
+        ensures settled { IfOk result (λ day. (xs : List ℕ) → T.holds tape xs
+            → IsSettled T.Tape day.journal.tape (whole_lines xs)) }
         ensures desks { IfOk result (λ day. open_desks day.room ≡ open_desks room) }
         ensures refused { IfErr result (λ e. IsOfLines e.0 → (xs : List ℕ) → T.holds tape xs
             → IsRefused S.Script W.World (whole_lines xs) e.0) }
@@ -53,7 +55,7 @@ impl<W: World + Drop, S: Script<W::Call, W::Reply> + Drop, T: Tape + Drop> Day<W
             (xs : List ℕ) → IsLegal W.after W.reply W.opening history → T.holds tape xs
             → Keeps S.Script history least xs → ¬ (IsOfLines e.0)) }
         ensures cause { IfErr result (λ e. e.0 ≡ OpenFault.NotRead → T.has_failed (tape_left result)) }
-        // It may crash too, and then the file stands for the same lines.
+        // A crash at any moment of it leaves a file that stands for the same lines.
         ensures any_moment { LeavesOnly T.Tape tape (tape_left result)
             (StandsAs (T.may_leave tape)) }
     {

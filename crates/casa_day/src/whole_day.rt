@@ -5,9 +5,10 @@ ghost use Rattle.casa_history.specs.declared.entry.Entry.{Entry};
 ghost use Rattle.casa_commit.specs.Legal.{IsLegal};
 ghost use Rattle.casa_commit.specs.Rooms.{entries_of, open_desks};
 ghost use Rattle.casa_tape.specs.Lines.{whole_lines};
-ghost use Rattle.casa_day.specs.Courses.{course_of, IsCourse};
+ghost use Rattle.casa_tape.specs.declared.memory.MemoryTape.{MemoryTape as TapeInMemory};
+ghost use Rattle.casa_day.specs.Days.{HasPassed};
 ghost use Rattle.casa_day.specs.Refusals.{IsOfLines, IsRefused};
-ghost use Rattle.casa_day.specs.Journals.{BeginsAsSaid, IsSafe, Keeps};
+ghost use Rattle.casa_day.specs.Journals.{Keeps};
 
 use crate::day::Day;
 use crate::event::{DayFault, Event, OpenFault};
@@ -20,7 +21,7 @@ use std::alloc::Global;
 /// and then happens what these events ask for. The day as it stands at its end, also where it could not go on, which is
 /// where there was no memory.
 ///
-/// At each moment of it a crash leaves a file that says a beginning of the history, which is legal, with each entry whose
+/// At each moment of it a crash leaves a file that says a beginning of the history, which is legal, with each call whose
 /// reply was told before. The errors are those of `Day::open`, but for `NotRead`.
 pub fn live_in_memory<W: World + Drop, S: Script<W::Call, W::Reply> + Drop, G: Gate<W>>(
     alloc: Global,
@@ -32,14 +33,12 @@ pub fn live_in_memory<W: World + Drop, S: Script<W::Call, W::Reply> + Drop, G: G
 ) -> Result<(Day<W, S, MemoryTape>, Result<(), DayFault>), OpenFault>
     requires empty { entries_of room ≡ [] }
     requires desk { 0 < open_desks room }
-    ensures said { IfOk result (λ r. BeginsAsSaid S.Script (whole_lines found.items)
-        (entries_of r.0.room)) }
-    // What happened is what the events say, where none of them failed.
-    ensures course { IfOk result (λ r. OnOk r.1 (IsCourse S.Script (whole_lines found.items)
-        (open_desks room) events.now (course_of r.0))) }
+    ensures passed { IfOk result (λ r. (tape : TapeInMemory)
+        × ⟦<MemoryTape as Tape>⟧.holds tape found.items
+        × ((c : List ℕ) → ⟦<MemoryTape as Tape>⟧.may_leave tape c → c ≡ found.items)
+        × HasPassed S.Script ⟦<MemoryTape as Tape>⟧ tape found.items events.now r.1 r.0) }
+    ensures desks { IfOk result (λ r. open_desks r.0.room ≡ open_desks room) }
     ensures legal { IfOk result (λ r. IsLegal W.after W.reply W.opening (entries_of r.0.room)) }
-    ensures safe { IfOk result (λ r. IsSafe S.Script ⟦<MemoryTape as Tape>⟧
-        (entries_of r.0.room) r.0.journal) }
     ensures refused { IfErr result (λ fault. IsOfLines fault
         → IsRefused S.Script W.World (whole_lines found.items) fault) }
     ensures accepted { IfErr result (λ fault. (history : List (Entry W.Call W.Reply)) (least : ℕ)

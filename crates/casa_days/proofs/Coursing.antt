@@ -5,18 +5,19 @@ use Rattle.casa_flight.specs.declared.reply.Reply.{Reply}
 use Rattle.casa_tape.specs.declared.tape.Tape.{Ghosts as TapeOf}
 use Rattle.casa_day.specs.declared.script.Script.{Ghosts as ScriptOf}
 use Rattle.casa_day.specs.declared.journal.Journal.{Journal}
-use Rattle.casa_day.specs.Journals.{IsRunning, IsToldNow}
+use Rattle.casa_tape.specs.Journals.{LeavesOnly}
+use Rattle.casa_day.specs.Journals.{IsRunning, IsToldNow, Keeps}
 use Rattle.casa_world.specs.declared.event.Event.{Event}
 use Rattle.casa_world.specs.Runs.{Played, run_events, run_history, run_outcomes}
 use Rattle.casa_days.specs.declared.event.DayEvent.{DayEvent}
 use Rattle.casa_days.specs.declared.event.DayEvent.TheVariants.{Do, Flush, Tell}
-use Rattle.casa_days.specs.Courses.{Course, GoesOn, GoOn, tellable}
+use Rattle.casa_days.specs.Courses.{Stage, GoesOn, GoOn, tellable}
 use Rattle.casa_days.specs.Openings.{IsBoardRun}
 
 module _ {S D : Type 0} (script : ScriptOf S Call Reply) (T : TapeOf D) where
   -- one event more
-  pub goes_push : (es : List (DayEvent Call)) (e : DayEvent Call) (a b c : Course D) → GoOn script T es a b → GoesOn script T e b c → GoOn script T (es ++ e ∷ []) a c
-  goes_push [] e a b c is goes = (c, subst (λ (x : Course D). GoesOn script T e x c) is goes, refl)
+  pub goes_push : (es : List (DayEvent Call)) (e : DayEvent Call) (a b c : Stage D) → GoOn script T es a b → GoesOn script T e b c → GoOn script T (es ++ e ∷ []) a c
+  goes_push [] e a b c is goes = (c, subst (λ (x : Stage D). GoesOn script T e x c) (sym is) goes, refl)
   goes_push (x ∷ es) e a b c on goes = (on.0, on.1, goes_push es e on.0 b c on.2 goes)
 
   -- a deed
@@ -27,11 +28,11 @@ module _ {S D : Type 0} (script : ScriptOf S Call Reply) (T : TapeOf D) where
 
   -- a flush
   pub flushed : {B : Type 0} → (e : DayEvent Call) (run : Played B Call Reply) (old new : Journal D) → e ≡ Flush → IsBoardRun run → IsRunning script T (run_history run) new
-      → new.journaled ≡ length (run_history run) → new.told.items ≡ old.told.items
+      → new.journaled ≡ length (run_history run) → new.told.items ≡ old.told.items → LeavesOnly T old.tape new.tape (Keeps script (run_history run) old.journaled)
       → GoesOn script T e (record { deeds = run_events run; journal = old }) (record { deeds = run_events run; journal = new })
-  flushed e run old new is runs running all told =
+  flushed e run old new is runs running all told moments =
       subst (λ (x : DayEvent Call). GoesOn script T x (record { deeds = run_events run; journal = old }) (record { deeds = run_events run; journal = new })) (sym is)
-      (refl, record { history = run_history run; outcomes = run_outcomes run; is_run = runs; running = running; all = all; told = told })
+      (refl, record { history = run_history run; outcomes = run_outcomes run; is_run = runs; running = running; all = all; told = told; any_moment = moments })
 
   -- a reply that is told, or not
   pub told_on : (e : DayEvent Call) (position : ℕ) (deeds : List (Event Call)) (old new : Journal D) → e ≡ Tell position

@@ -27,6 +27,7 @@ module _ {B : Type 0} where
   -- a run and its journal at their opening: these lines say the history, which is that of their calls, answered again
   pub record IsOpened {S D : Type 0} (script : ScriptOf S Call Reply) (T : TapeOf D) (lines : List (List ℕ)) (run : Played B Call Reply) (journal : Journal D) : Type 0 where
     pub said : Say script 1 lines (run_history run)
+    pub settled : IsSettled T journal.tape lines
     pub is_run : IsBoardRun run
     pub events : run_events run ≡ again (calls_in (run_history run))
     pub begun : IsBegun journal.tape (length (run_history run)) journal

@@ -3,7 +3,7 @@
 //!
 //! A life begins with what a crash left of a journal: the calls of its whole lines are answered again, by worker 0. Then
 //! workers read, compute, commit and abandon as in casa_world; a flush writes the entries that the journal does not have
-//! yet; a reply is told where the journal has its entry.
+//! yet; a reply is told where the journal has its call.
 #![tactic(auto)]
 
 mod event;
@@ -14,6 +14,6 @@ mod whole_life;
 
 pub use event::DayEvent;
 pub use laws::told_replies_come_back;
-pub use living::{Life, happen, live};
+pub use living::{Ended, happen, live};
 pub use opening::open;
 pub use whole_life::live_in_memory;

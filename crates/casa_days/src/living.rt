@@ -1,19 +1,18 @@
 //! A life: a journal is opened, and then things happen.
 
-ghost use Rattle.std.specs.Prelude.{◌≡◌, ◌↔◌, ◌∷◌, ◌++◌, [], List, ℕ, length, IfErr, IfOk, IsErrOf};
+ghost use Rattle.std.specs.Prelude.{◌≡◌, ◌≤◌, ◌↔◌, ◌∷◌, ◌++◌, [], List, ℕ, length, IfErr, IfOk, IsErrOf};
 ghost use Rattle.casa_flight.specs.declared.call.Call.{Call};
 ghost use Rattle.casa_flight.specs.declared.reply.Reply.{Reply};
 ghost use Rattle.casa_history.specs.declared.entry.Entry.{Entry};
 ghost use Rattle.casa_plan.specs.Rooms.{IsSequential};
 ghost use Rattle.casa_tape.specs.Lines.{StandsAs, whole_lines};
 ghost use Rattle.casa_tape.specs.Journals.{LeavesOnly};
-ghost use Rattle.casa_day.specs.Journals.{Grows, IsSafe, Keeps, told_of};
-ghost use Rattle.casa_day.specs.Lives.{IsLived as IsLifeOn, Life as OneLife};
+ghost use Rattle.casa_day.specs.Journals.{Grows, IsSafe, Keeps};
 ghost use Rattle.casa_day.specs.Refusals.{IsOfLines, IsRefused};
 ghost use Rattle.casa_world.specs.Runs.{run_events, run_history};
 ghost use Rattle.casa_days.specs.Courses.{GoesOn};
 ghost use Rattle.casa_days.specs.Openings.{IsGoing};
-ghost use Rattle.casa_days.specs.Lives.{IsLived, WentOn};
+ghost use Rattle.casa_days.specs.Lives.{HasLived, HasGoneOn};
 
 use crate::event::DayEvent;
 use crate::opening::open;
@@ -26,7 +25,7 @@ use casa_world::Run;
 use std::alloc::Global;
 
 /// How a life ended: the run of its board, or why it could not go on; and the journal that it left.
-pub type Life<K, T> = (Result<Run<Board<K>>, DayFault>, Journal<T>);
+pub type Ended<K, T> = (Result<Run<Board<K>>, DayFault>, Journal<T>);
 
 /// Lives on a tape, as a crash may have left it, with a board over this store: the calls of the journal's whole lines are
 /// answered again, by worker 0, and what stands behind them is cut; and then these events happen, one after the other.
@@ -39,15 +38,11 @@ pub fn live<K: Store, S: Script<Call, Reply>, T: Tape + Drop>(
     script: &S,
     tape: T,
     events: &[DayEvent<Call>],
-) -> Result<Life<K, T>, (OpenFault, T)>
-    // What workers did is a run; what was told, the events say; and nothing that was told is lost.
+) -> Result<Ended<K, T>, (OpenFault, T)>
+    // What workers did is a run; what was told, the events say; and nothing that was told is lost. Whenever it was cut short,
+    // it is a life of those of which `nothing_told_is_lost` speaks.
     ensures lived { IfOk result (λ life. (xs : List ℕ) → T.holds tape xs
-        → IsLived S.Script T.Tape tape (whole_lines xs) events.now life.0 life.1) }
-    // Whatever a crash at its end leaves, it is a life of those of which `nothing_told_is_lost` speaks.
-    ensures life { IfOk result (λ life. (found left : List ℕ) → T.holds tape found
-        → T.may_leave life.1.tape left
-        → (one : OneLife Call Reply) × (one.told ≡ told_of life.1)
-        × IsLifeOn S.Script ⟦<Board<K> as World>⟧ found one left) }
+        → HasLived S.Script T.Tape ⟦<Board<K> as World>⟧ tape xs events.now life.0 life.1) }
     // No file that a life left is refused.
     ensures accepted { IfErr result (λ e. (history : List (Entry Call Reply)) (least : ℕ)
         (xs : List ℕ) → IsSequential history → T.holds tape xs → Keeps S.Script history least xs
@@ -72,9 +67,9 @@ fn go_on<K: Store, S: Script<Call, Reply>, T: Tape>(
     begun: Run<Board<K>>,
     opened: Journal<T>,
     events: &[DayEvent<Call>],
-) -> Life<K, T>
+) -> Ended<K, T>
     requires { IsGoing S.Script T.Tape begun opened }
-    ensures { WentOn S.Script T.Tape (run_history begun)
+    ensures { HasGoneOn S.Script T.Tape (run_history begun)
         (record { deeds = run_events begun; journal = opened }) events.now result.0 result.1 }
 {
     let mut run = begun;
@@ -105,6 +100,11 @@ pub fn happen<K: Store, S: Script<Call, Reply>, T: Tape>(
         (record { deeds = run_events next; journal = journal.new })) }
     ensures safe { IfErr result (λ _. IsSafe S.Script T.Tape (run_history run) journal.new) }
     ensures told { IfErr result (λ _. journal.new.told.items ≡ journal.old.told.items) }
+    ensures not_journaled { IfErr result (λ _. journal.new.journaled ≡ journal.old.journaled) }
+    ensures journaled { journal.old.journaled ≤ journal.new.journaled }
+    // A crash at any moment of it leaves a file that keeps what was journaled before.
+    ensures any_moment { LeavesOnly T.Tape journal.old.tape journal.new.tape
+        (Keeps S.Script (run_history run) journal.old.journaled) }
     ensures cause { IsErrOf result DayFault.NotWritten → T.has_failed journal.new.tape }
 {
     match event {

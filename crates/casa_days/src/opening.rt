@@ -50,7 +50,7 @@ pub fn open<K: Store, S: Script<Call, Reply>, T: Tape + Drop>(
         (xs : List ℕ) → IsSequential history → T.holds tape xs → Keeps S.Script history least xs
         → ¬ (IsOfLines e.0)) }
     ensures cause { IfErr result (λ e. e.0 ≡ OpenFault.NotRead → T.has_failed e.1) }
-    // It may crash too, and then the file stands for the same lines.
+    // A crash at any moment of it leaves a file that stands for the same lines.
     ensures any_moment { IfOk result (λ opened. LeavesOnly T.Tape tape opened.1.tape
         (StandsAs (T.may_leave tape))) }
     ensures any_moment_err { IfErr result (λ e. LeavesOnly T.Tape tape e.1

@@ -9,10 +9,10 @@ ghost use Rattle.casa_tape.specs.declared.memory.MemoryTape.{MemoryTape as TapeI
 ghost use Rattle.casa_tape.specs.Lines.{whole_lines};
 ghost use Rattle.casa_day.specs.Journals.{Keeps};
 ghost use Rattle.casa_day.specs.Refusals.{IsOfLines, IsRefused};
-ghost use Rattle.casa_days.specs.Lives.{IsLived};
+ghost use Rattle.casa_days.specs.Lives.{HasLived};
 
 use crate::event::DayEvent;
-use crate::living::{Life, live};
+use crate::living::{Ended, live};
 use casa_commit::World;
 use casa_day::{DayFault, OpenFault, Script};
 use casa_flight::{Call, Reply};
@@ -28,11 +28,11 @@ pub fn live_in_memory<K: Store, S: Script<Call, Reply>>(
     script: &S,
     found: Vec<u8>,
     events: &[DayEvent<Call>],
-) -> Result<Life<K, MemoryTape>, OpenFault>
+) -> Result<Ended<K, MemoryTape>, OpenFault>
     ensures lived { IfOk result (λ life. (tape : TapeInMemory)
         × ⟦<MemoryTape as Tape>⟧.holds tape found.items
         × ((c : List ℕ) → ⟦<MemoryTape as Tape>⟧.may_leave tape c → c ≡ found.items)
-        × IsLived S.Script ⟦<MemoryTape as Tape>⟧ tape (whole_lines found.items) events.now
+        × HasLived S.Script ⟦<MemoryTape as Tape>⟧ ⟦<Board<K> as World>⟧ tape found.items events.now
         life.0 life.1) }
     ensures refused { IfErr result (λ fault. IsOfLines fault
         → IsRefused S.Script ⟦<Board<K> as World>⟧ (whole_lines found.items) fault) }

@@ -2,7 +2,8 @@
 use Rattle.std.proofs.Common.{◌≡◌, ℕ, zero, suc, List, [], ◌∷◌, ◌++◌, ◌-◌, length, take, drop, refl, sym, ◌∙◌, ap, subst, arith, length-drop, take-append-drop}
 use Rattle.std.proofs.lemmas.List.{append-nil, take_all}
 use Rattle.casa_tape.specs.Tape.{IsTorn, TornBehind, CutTo}
-use Rattle.casa_tape.specs.Memory.{shown_bytes, left_by, shown_left}
+use Rattle.casa_tape.specs.Memory.{shown_bytes, left_by}
+use Rattle.casa_tape.specs.Standings.{shown_left}
 use Rattle.casa_tape.specs.declared.memory.Standing.{Standing}
 use Rattle.casa_tape.proofs.Torn.{torn_whole}
 

@@ -3,8 +3,8 @@ use Rattle.std.proofs.Common.{◌≡◌, ◌⊎◌, inl, inr, ⊎_elim, ℕ, suc
 use Rattle.std.proofs.lemmas.Bool.{cases_eq}
 use Rattle.std.proofs.lemmas.List.{append-nil, append_assoc, drop_at}
 use Rattle.casa_tape.specs.Tape.{IsTorn, TornBehind, CutTo}
-use Rattle.casa_tape.specs.Lines.{IsLine, AreLines, journal_of, onto_first, whole_lines, IsBetween}
-use Rattle.casa_tape.proofs.WholeLines.{at_lf, at_nul, at_other, lines_again, parts}
+use Rattle.casa_tape.specs.Lines.{IsLine, AreLines, journal_of, whole_lines, IsBetween}
+use Rattle.casa_tape.proofs.WholeLines.{with_first, at_lf, at_nul, at_other, lines_again, parts}
 
 -- of a line that is torn nothing counts, or all of it is there
 pub torn_line : (line rest torn : List ℕ) → IsLine line → IsTorn (line ++ 10 ∷ rest) torn
@@ -16,10 +16,10 @@ torn_line [] rest (c ∷ cs) is torn = elim torn.0 [
 ]
 torn_line (b ∷ line) rest (c ∷ cs) is torn = elim torn.0 [
   | inl same ↦
-      let on : whole_lines (c ∷ cs) ≡ onto_first b (whole_lines cs) = ap (λ x. whole_lines (x ∷ cs)) same ∙ at_other cs b is.0.0 is.0.1 in
-      ⊎_elim (λ none. inl (on ∙ ap (onto_first b) none))
+      let on : whole_lines (c ∷ cs) ≡ with_first b (whole_lines cs) = ap (λ x. whole_lines (x ∷ cs)) same ∙ at_other cs b is.0.0 is.0.1 in
+      ⊎_elim (λ none. inl (on ∙ ap (with_first b) none))
       (λ (found : (t : List ℕ) × IsTorn rest t × (whole_lines cs ≡ line ∷ whole_lines t)).
-      inr (found.0, found.1, on ∙ ap (onto_first b) found.2))
+      inr (found.0, found.1, on ∙ ap (with_first b) found.2))
       (torn_line line rest cs is.1 torn.1)
   | inr nul ↦ inl (at_nul cs c nul)
 ]
@@ -41,7 +41,7 @@ torn_behind lines added c are news torn =
     let found = torn_lines added torn.0 news torn.1 in
     (found.0, found.1, ap whole_lines torn.2 ∙ lines_again lines torn.0 are ∙ ap (λ ls. lines ++ ls) found.2)
 
-first_of_none : (b : ℕ) (lines : List (List ℕ)) → onto_first b lines ≡ [] → lines ≡ []
+first_of_none : (b : ℕ) (lines : List (List ℕ)) → with_first b lines ≡ [] → lines ≡ []
 first_of_none b [] none = refl
 first_of_none b (line ∷ lines) none = absurd (cc none)
 
@@ -57,7 +57,7 @@ torn_nothing (b ∷ end) (c ∷ cs) none is = elim is.0 [
       | inl nul ↦ at_nul cs c (same ∙ nul)
       | inr no_nul ↦
           ap (λ x. whole_lines (x ∷ cs)) same ∙ at_other cs b no_lf no_nul
-          ∙ ap (onto_first b) (torn_nothing end cs (first_of_none b (whole_lines end) (sym (at_other end b no_lf no_nul) ∙ none)) is.1)
+          ∙ ap (with_first b) (torn_nothing end cs (first_of_none b (whole_lines end) (sym (at_other end b no_lf no_nul) ∙ none)) is.1)
     ]
   ]
 ]

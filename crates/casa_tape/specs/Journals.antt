@@ -14,9 +14,10 @@ pub record IsSettled {D : Type 0} (T : TapeOf D) (tape : D) (lines : List (List 
   pub synced : IsSynced T.holds T.may_leave tape
   pub held : HoldsOnly T tape (journal_of lines)
 
--- A crash at any moment since old leaves a file that has P.
+-- From old to new, a crash at any moment leaves a file that has P; and of the moments before, what one might have left is as it
+-- was, all of that and, but for the moments since, nothing else.
 pub record LeavesOnly {D : Type 0} (T : TapeOf D) (old new : D) (P : List ℕ → Type 0) : Type 0 where
   pub later : T.moment old ≤ T.moment new
   pub each : (c : List ℕ) → T.left_since new (T.moment old) c → P c
-  -- for a run that began earlier
   pub before : (t : ℕ) (c : List ℕ) → t ≤ T.moment old → T.left_since new t c → T.left_since old t c ⊎ P c
+  pub keeps : (t : ℕ) (c : List ℕ) → t ≤ T.moment old → T.left_since old t c → T.left_since new t c

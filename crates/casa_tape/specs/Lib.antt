@@ -2,5 +2,5 @@ pub mod Tape
 pub mod Lines
 pub mod Journals
 pub mod Recovery
-pub mod Past
 pub mod Memory
+pub mod Standings

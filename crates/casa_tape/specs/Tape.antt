@@ -25,13 +25,14 @@ Follows step old new = (c : List ℕ) → new c → (d : List ℕ) × old d × s
 abbrev pub IsSynced : {D : Type 0} → (D → List ℕ → Type 0) → (D → List ℕ → Type 0) → D → Type 0
 IsSynced holds may_leave tape = (c : List ℕ) → may_leave tape c → holds tape c
 
--- Time goes on: a crash since t might have left what it might have left before, or what it may leave now.
+-- Time goes on in a call: a crash since t might have left all that it might have left before the call, and besides nothing but
+-- what it may leave now.
 pub record Elapses (before now : ℕ) (past since : ℕ → List ℕ → Type 0) (may_leave : List ℕ → Type 0) : Type 0 where
   pub later : before ≤ now
   pub nothing_else : (t : ℕ) (c : List ℕ) → t ≤ before → since t c → past t c ⊎ may_leave c
   pub keeps : (t : ℕ) (c : List ℕ) → t ≤ before → past t c → since t c
 
--- `Failed` is told only of a file that has failed, now or before
+-- a file that has failed stays so, and `Failed` is told only of such a file
 pub record HasCause {T : Type 0} (before now : Type 0) (result : Result T TapeError) : Type 0 where
   pub stays : before → now
   pub failed : IsErrOf result Failed → now

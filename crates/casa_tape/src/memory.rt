@@ -1,9 +1,9 @@
-//! A file in memory of which a crash leaves all that the contract of a tape allows.
+//! A file in memory of which a crash leaves all that the contract of a tape allows, of calls that end well.
 
-ghost use Rattle.std.specs.Prelude.{◌≡◌, ◌⊎◌, [], ◌∷◌, ◌++◌, List, ℕ, length, take, drop, IfOk, OnOk, OnErr};
-ghost use Rattle.std.proofs.Common.{inl};
-ghost use Rattle.casa_tape.specs.Past.{HadLeft, IsLeft, none_left};
-ghost use Rattle.casa_tape.specs.Memory.{shown_bytes, left_by, left_with, shown_left};
+ghost use Rattle.std.specs.Prelude.{◌≡◌, ◌≤◌, [], ◌∷◌, ◌++◌, List, ℕ, length, take, drop, IfOk, OnOk, OnErr};
+ghost use Rattle.casa_tape.specs.Tape.{CutTo, Elapses, Follows, HasCause, TornBehind};
+ghost use Rattle.casa_tape.specs.Memory.{shown_bytes, left_by, left_with, standings, WasLeft};
+ghost use Rattle.casa_tape.specs.Standings.{shown_left, left_now, left_only_now, left_earlier};
 
 use crate::tape::{Tape, TapeError};
 use std::alloc::{AllocError, Global};
@@ -85,21 +85,33 @@ impl Tape for MemoryTape {
 
     ghost moment = { λ m. length m.past.items };
 
-    ghost left_since = { λ m t c. left_by m.state c ⊎ HadLeft left_by (drop t m.past.items) c };
+    ghost left_since = { λ m. WasLeft (standings m) };
 
     ghost has_failed = { λ m. ⊥ };
 
     ghost may_leave_all = { λ m xs is. shown_left m.state xs is };
 
-    ghost counts_now = { λ m t c le now. inl now };
+    ghost counts_now = { λ m t c le now. left_now m.past.items m.state t c le now };
 
-    ghost only_now = { λ m c left. none_left left_by m.past.items m.state c left };
+    ghost only_now = { λ m c left. left_only_now m.past.items m.state c left };
+
+    ghost since_earlier = { λ m t u c le left. left_earlier (standings m) t u c le left };
 
     fn read(&mut self, alloc: Global) -> Result<Vec<u8>, TapeError> {
         Ok(self.state.bytes(alloc)?)
     }
 
-    fn append(&mut self, bytes: &[u8]) -> Result<(), TapeError> {
+    // As a tape has it, and until a sync a crash may leave each torn part.
+    fn append(&mut self, bytes: &[u8]) -> Result<(), TapeError>
+        ensures written { OnOk result ((ys : List ℕ) → ys ≡ shown_bytes self.new.state →
+            (xs : List ℕ) × (xs ≡ shown_bytes self.old.state) × (ys ≡ xs ++ bytes.now)) }
+        ensures crash { Follows (TornBehind bytes.now) (left_by self.old.state) (left_by self.new.state) }
+        ensures time { Elapses (length self.old.past.items) (length self.new.past.items)
+            (WasLeft (standings self.old)) (WasLeft (standings self.new)) (left_by self.new.state) }
+        ensures cause { HasCause ⊥ ⊥ result }
+        ensures tears { OnOk result ((left : List ℕ)
+            → TornBehind bytes.now (shown_bytes self.old.state) left → left_by self.new.state left) }
+    {
         let solid = self.state.bytes(self.alloc)?;
         let loose = bytes.to_vec(self.alloc)?;
         let shown = loose.len();
@@ -111,7 +123,18 @@ impl Tape for MemoryTape {
         Ok(())
     }
 
-    fn cut(&mut self, len: usize) -> Result<(), TapeError> {
+    // As a tape has it, and until a sync a crash may leave each torn part of what stood behind.
+    fn cut(&mut self, len: usize) -> Result<(), TapeError>
+        requires within { (xs : List ℕ) → xs ≡ shown_bytes self.old.state → len ≤ length xs }
+        ensures cut { OnOk result ((ys : List ℕ) → ys ≡ shown_bytes self.new.state →
+            (xs : List ℕ) × (xs ≡ shown_bytes self.old.state) × (ys ≡ take len xs)) }
+        ensures crash { Follows (CutTo len) (left_by self.old.state) (left_by self.new.state) }
+        ensures time { Elapses (length self.old.past.items) (length self.new.past.items)
+            (WasLeft (standings self.old)) (WasLeft (standings self.new)) (left_by self.new.state) }
+        ensures cause { HasCause ⊥ ⊥ result }
+        ensures tears { OnOk result ((left : List ℕ)
+            → CutTo len (shown_bytes self.old.state) left → left_by self.new.state left) }
+    {
         let mut solid = self.state.bytes(self.alloc)?;
         let loose = solid[len..].to_vec(self.alloc)?;
         solid.truncate(len);

@@ -16,9 +16,9 @@ use std::alloc::Global;
 pub fn look<T: Tape>(alloc: Global, tape: &mut T) -> Result<Found, TapeError>
     ensures found { IfOk result (λ found. HoldsOnly T.Tape tape.new (bytes_found found)) }
     ensures synced { OnOk result (IsSynced T.holds T.may_leave tape.new) }
-    // The file stays as it is.
+    // The file stays as it is, whenever a crash comes.
     ensures held { (xs : List ℕ) → T.holds tape.new xs ↔ T.holds tape.old xs }
-    ensures any_moment { LeavesOnly T.Tape tape.old tape.new (StandsAs (T.may_leave tape.old)) }
+    ensures any_moment { LeavesOnly T.Tape tape.old tape.new (T.may_leave tape.old) }
     ensures cause { HasCause (T.has_failed tape.old) (T.has_failed tape.new) result }
 {
     tape.sync()?;
@@ -33,7 +33,7 @@ pub fn mend<T: Tape>(tape: &mut T, found: &Found) -> Result<(), TapeError>
     requires synced { IsSynced T.holds T.may_leave tape.old }
     requires found { HoldsOnly T.Tape tape.old (bytes_found found.now) }
     ensures settled { OnOk result (IsSettled T.Tape tape.new (lines_found found.now)) }
-    // It may crash too, and then the file stands for the same lines.
+    // A crash at any moment of this call leaves a file that stands for the same lines.
     ensures any_moment { LeavesOnly T.Tape tape.old tape.new (StandsAs (T.may_leave tape.old)) }
     ensures cause { HasCause (T.has_failed tape.old) (T.has_failed tape.new) result }
 {

@@ -106,4 +106,8 @@ pub trait Tape {
     /// Since this moment there is no other.
     ghost only_now: { (tape : Self) (c : List ℕ) → left_since tape (moment tape) c
         → may_leave tape c };
+
+    /// What a crash might have left since a moment, it might have left since an earlier one.
+    ghost since_earlier: { (tape : Self) (t u : ℕ) (c : List ℕ) → t ≤ u → left_since tape u c
+        → left_since tape t c };
 }

@@ -39,6 +39,8 @@ impl Tape for Failing {
 
     ghost only_now = { λ tape c none. none };
 
+    ghost since_earlier = { λ tape t u c le none. none };
+
     fn read(&mut self, alloc: Global) -> Result<Vec<u8>, TapeError> {
         self.call()?;
         Ok(self.bytes.to_vec(alloc)?)

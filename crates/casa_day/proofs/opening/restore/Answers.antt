@@ -20,3 +20,7 @@ returns-in_err-count-clause-refused g c =
 pub returns-in_err-mend-clause-any_moment : goal.returns-in_err-mend-clause-any_moment
 returns-in_err-mend-clause-any_moment g c =
     stands_on g.T.Tape c.args.tape.now c.look.new.tape c.mend.new.tape (g.met.T.Tape.counts_now c.look.new.tape) c.look.ensures.any_moment c.mend.ensures.any_moment
+
+pub returns-clause-any_moment : goal.returns-clause-any_moment
+returns-clause-any_moment g c =
+    stands_on g.T.Tape c.args.tape.now c.look.new.tape c.mend.new.tape (g.met.T.Tape.counts_now c.look.new.tape) c.look.ensures.any_moment c.mend.ensures.any_moment

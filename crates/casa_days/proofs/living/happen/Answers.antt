@@ -1,7 +1,9 @@
 use Rattle.std.proofs.Common.{◌≡◌, Err, length, sym, ap, subst, ◌∙◌, rules}
 use Rattle.std.specs.Prelude.{IfErr}
 use Rattle.casa_world.specs.Runs.{run_events, run_history}
-use Rattle.casa_day.specs.Journals.{IsRunning, IsSafe}
+use Rattle.casa_tape.specs.Journals.{LeavesOnly}
+use Rattle.casa_day.specs.Journals.{IsRunning, IsSafe, Keeps}
+use Rattle.casa_day.proofs.Keeping.{kept_now}
 use Rattle.casa_day.proofs.Telling.{tell_running}
 use Rattle.casa_days.proofs.Going.{next_grows, next_goes}
 use Rattle.casa_days.proofs.Coursing.{done, flushed, told_on}
@@ -28,6 +30,7 @@ returns-in_ok-flush-in-Flush-clause-course g c =
     let history = c.history.ensures.same in
     flushed g.S.Script g.T.Tape c.args.event.now c.args.run c.args.journal.now c.flush.new.self c.in-Flush.is c.requires.is_run
     (subst (λ es. IsRunning g.S.Script g.T.Tape es c.flush.new.self) history done.running) (done.all ∙ ap (λ es. length es) history) done.told
+    (subst (λ es. LeavesOnly g.T.Tape c.args.journal.now.tape c.flush.new.self.tape (Keeps g.S.Script es c.args.journal.now.journaled)) history done.any_moment)
 
 pub returns-in_ok-tell-in-Tell-clause-going : goal.returns-in_ok-tell-in-Tell-clause-going
 returns-in_ok-tell-in-Tell-clause-going g c = record {
@@ -48,3 +51,23 @@ returns-in_err-tell-in-Tell-clause-safe g c =
     subst (λ r. IfErr r (λ _. IsSafe g.S.Script g.T.Tape (run_history c.args.run) c.tell.new.self)) (sym is)
     (tell_running g.S.Script g.T.Tape (run_history c.args.run) c.args.journal.now c.tell.new.self c.tell.result _ (g.met.T.Tape.only_now c.args.journal.now.tape)
     c.tell.ensures.same c.tell.ensures.told c.tell.ensures.untold c.requires.journaled).safe
+
+pub returns-in_err-next-in-Do-clause-any_moment : goal.returns-in_err-next-in-Do-clause-any_moment
+returns-in_err-next-in-Do-clause-any_moment g c =
+    kept_now g.S.Script g.T.Tape (run_history c.args.run) c.args.journal.now (g.met.T.Tape.only_now c.args.journal.now.tape) c.requires.journaled
+
+pub returns-in_ok-next-in-Do-clause-any_moment : goal.returns-in_ok-next-in-Do-clause-any_moment
+returns-in_ok-next-in-Do-clause-any_moment g c =
+    kept_now g.S.Script g.T.Tape (run_history c.args.run) c.args.journal.now (g.met.T.Tape.only_now c.args.journal.now.tape) c.requires.journaled
+
+pub returns-in_err-tell-in-Tell-clause-any_moment : goal.returns-in_err-tell-in-Tell-clause-any_moment
+returns-in_err-tell-in-Tell-clause-any_moment g c =
+    let journal = c.args.journal.now in
+    subst (λ tape. LeavesOnly g.T.Tape journal.tape tape (Keeps g.S.Script (run_history c.args.run) journal.journaled)) (sym c.tell.ensures.same.0)
+    (kept_now g.S.Script g.T.Tape (run_history c.args.run) journal (g.met.T.Tape.only_now journal.tape) c.requires.journaled)
+
+pub returns-in_ok-tell-in-Tell-clause-any_moment : goal.returns-in_ok-tell-in-Tell-clause-any_moment
+returns-in_ok-tell-in-Tell-clause-any_moment g c =
+    let journal = c.args.journal.now in
+    subst (λ tape. LeavesOnly g.T.Tape journal.tape tape (Keeps g.S.Script (run_history c.args.run) journal.journaled)) (sym c.tell.ensures.same.0)
+    (kept_now g.S.Script g.T.Tape (run_history c.args.run) journal (g.met.T.Tape.only_now journal.tape) c.requires.journaled)

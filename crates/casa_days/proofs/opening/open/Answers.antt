@@ -1,6 +1,7 @@
 use Rattle.std.proofs.Common.{◌≡◌, length, refl, sym, ◌∙◌, ap, subst}
 use Rattle.std.specs.Prelude.{take}
 use Rattle.casa_tape.specs.Lines.{whole_lines}
+use Rattle.casa_tape.specs.Journals.{IsSettled}
 use Rattle.casa_day.specs.Scripts.{Say}
 use Rattle.casa_day.proofs.Following.{not_refused}
 use Rattle.casa_day.proofs.Keeping.{running_begun}
@@ -21,6 +22,7 @@ returns-in-Ok-begin-clause-opened g c xs held =
     let count : c.len-journaled.result ≡ length (run_history run) = c.len-journaled.ensures ∙ ap (λ es. length es) c.history.ensures.same in
     record {
       said = subst (λ ls. Say g.S.Script 1 ls (run_history run)) (r.found xs held) r.said;
+      settled = subst (λ tape. IsSettled g.T.Tape tape (whole_lines xs)) (sym begun.tape_is) (subst (IsSettled g.T.Tape c.reopen.new.tape) (r.found xs held) r.settled);
       is_run = r.answered.is_run;
       events = r.answered.events;
       begun = record {

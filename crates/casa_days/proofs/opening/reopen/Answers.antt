@@ -1,12 +1,10 @@
-use Rattle.std.proofs.Common.{◌≡◌, [], Err, ◌∙◌, ap, rules}
+use Rattle.std.proofs.Common.{◌≡◌, Err, ◌∙◌, ap, rules}
 use Rattle.std.proofs.lemmas.Result.{err_from_is_err_and}
 use Rattle.casa_tape.specs.Lines.{whole_lines}
 use Rattle.casa_tape.specs.Recovery.{lines_found}
 use Rattle.casa_tape.proofs.WholeLines.{parts}
 use Rattle.casa_day.specs.Faults.{open_fault}
-use Rattle.casa_day.proofs.Restoring.{stands_on}
-use Rattle.casa_day.proofs.Coursing.{if_err}
-use Rattle.casa_day.proofs.Restoring.{refused_same}
+use Rattle.casa_day.proofs.Restoring.{if_err, refused_same, stands_on}
 use Rattle.casa_days.proofs.Refusing.{not_of_lines, cause_of}
 use Rattle.casa_days.proofs.opening.reopen.Goals as goal
 

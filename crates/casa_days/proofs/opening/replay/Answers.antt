@@ -1,7 +1,7 @@
-use Rattle.std.proofs.Common.{◌≡◌, ◌+◌, ◌∷◌, [], length, Err, ◌∙◌, ap, arith, rules, length-append}
-use Rattle.casa_day.proofs.Replaying.{replay_goes_on, replay_ends, replay_refused}
+use Rattle.std.proofs.Common.{◌≡◌, ◌+◌, ◌∷◌, [], length, Err, sym, ◌∙◌, ap, arith, rules, length-append}
+use Rattle.casa_day.proofs.Restoring.{if_err}
+use Rattle.casa_day.proofs.Replaying.{replay_begins, replay_goes_on, replay_ends, replay_refused}
 use Rattle.casa_world.specs.Runs.{run_events, run_history, run_outcomes}
-use Rattle.casa_day.proofs.Coursing.{if_err}
 use Rattle.casa_days.proofs.Legal.{legal, sequential_run}
 use Rattle.casa_days.proofs.opening.replay.Goals as goal
 
@@ -37,3 +37,11 @@ loop-line-preserved g c =
 pub returns-clause-said : goal.returns-clause-said
 returns-clause-said g c lines are whole =
     (replay_ends g.S.Script lines c.loop-line.rest.now (run_history c.loop-line.run) c.loop-line.position c.in_default.ensures.none (c.loop-line.invariant.said lines are whole)).0
+
+pub loop-line-init : goal.loop-line-init
+loop-line-init g c = record {
+  answered = c.requires.again;
+  place = ap (λ es. length es) (sym c.requires.empty);
+  within = omega arith;
+  said = λ lines are whole. replay_begins g.S.Script lines c.args.text.now (run_history c.args.empty) c.requires.empty are whole;
+}

@@ -1,5 +1,5 @@
 use Rattle.std.proofs.Common.{take, rules}
-use Rattle.casa_tape.specs.Memory.{torn_take}
+use Rattle.casa_tape.specs.Standings.{torn_take}
 use Rattle.casa_tape.proofs.memory.MemoryTape.crashed.Goals as goal
 
 pub returns-clause-left : goal.returns-clause-left

@@ -1,5 +1,5 @@
 use Rattle.std.proofs.Common.{◌≡◌, List, ℕ, length, ◌-◌, take, drop, refl, ◌∙◌, ap, rules}
-use Rattle.casa_tape.specs.Memory.{shown_bytes, left_by}
+use Rattle.casa_tape.specs.Memory.{shown_bytes}
 use Rattle.casa_tape.proofs.Kept.{elapses_to}
 use Rattle.casa_tape.proofs.Standings.{cut_not, cut_done, rest_of}
 use Rattle.casa_tape.proofs.memory.MemoryTapeTape.cut.Goals as goal
@@ -25,4 +25,4 @@ returns-clause-crash c =
 
 pub returns-clause-time : goal.returns-clause-time
 returns-clause-time c =
-    elapses_to left_by c.args.self.now.past.items c.change.new.self.past.items c.args.self.now.state c.change.new.self.state c.change.new.self.state refl c.in_ok-change.ensures.ok.1
+    elapses_to c.args.self.now.past.items c.change.new.self.past.items c.args.self.now.state c.change.new.self.state c.change.new.self.state refl c.in_ok-change.ensures.ok.1

@@ -1,5 +1,5 @@
 use Rattle.std.proofs.Common.{◌≡◌, [], refl, rules}
-use Rattle.casa_tape.specs.Memory.{shown_bytes, left_by}
+use Rattle.casa_tape.specs.Memory.{shown_bytes}
 use Rattle.casa_tape.proofs.Kept.{elapses_to}
 use Rattle.casa_tape.proofs.Standings.{synced, sync_leaves}
 use Rattle.casa_tape.proofs.memory.MemoryTapeTape.sync.Goals as goal
@@ -17,4 +17,4 @@ returns-clause-crash c =
 
 pub returns-clause-time : goal.returns-clause-time
 returns-clause-time c =
-    elapses_to left_by c.args.self.now.past.items c.change.new.self.past.items c.args.self.now.state c.change.new.self.state c.change.new.self.state refl c.in_ok-change.ensures.ok.1
+    elapses_to c.args.self.now.past.items c.change.new.self.past.items c.args.self.now.state c.change.new.self.state c.change.new.self.state refl c.in_ok-change.ensures.ok.1
