@@ -253,13 +253,14 @@ class Disk:
     def environment(self, journal, **failures):
         """What a program is to be started with; the bytes of the journal are on the disk."""
         length = journal.stat().st_size if journal.exists() else 0
-        self.state.write_bytes(struct.pack("4l", length, 0, 0, 0))
+        self.state.write_bytes(struct.pack("5l", length, 0, 0, 0, 0))
         names = {f"DISK_{name.upper()}": str(number) for name, number in failures.items()}
         return {**os.environ, "LD_PRELOAD": str(self.library), "DISK_FILE": str(journal), "DISK_STATE": str(self.state), **names}
 
     def read(self):
-        """How many bytes are on the disk, how many writes there were, how many syncs, and how many cuts that came too early."""
-        return struct.unpack("4l", self.state.read_bytes())
+        """How many bytes are on the disk, how many writes there were, how many syncs, how many cuts that came too early, and how
+        many requests for memory."""
+        return struct.unpack("5l", self.state.read_bytes())
 
 
 class Server:

@@ -96,7 +96,10 @@ fn carry_out<
     match task {
         Task::Run {
             journal: Some(file),
-        } => Ok(run_journaled(rt, alloc, file, input, writer)?),
+        } => {
+            let (ended, _) = run_journaled(rt, alloc, file, input, writer);
+            Ok(ended?)
+        }
         Task::Run { journal: None } => answer_lines(alloc, input, writer),
         Task::Report { reg, day, strict } => {
             report(alloc, reg, *day, *strict, input, writer, errors)

@@ -2,8 +2,8 @@
 //!
 //! Entries stand in the room's history first. A flush writes those that the journal does not have, and syncs. A reply is
 //! told only where the journal has its call on the disk. So a crash at any moment leaves lines that say the first calls of
-//! the history, and among them each one whose reply was told. A line has an entry's call, and vouches for its reply: who answers the
-//! calls again finds the same replies, or the line at which they differ.
+//! the history, and among them each one whose reply was told. A line has an entry's call, and vouches for its reply: who
+//! answers the calls again finds the same replies, or the line at which they differ.
 #![tactic(auto)]
 
 mod day;

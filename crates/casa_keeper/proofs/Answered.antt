@@ -7,10 +7,12 @@ use Rattle.std.proofs.lemmas.Option.{same_Some}
 use Rattle.casa_history.specs.declared.entry.Entry.{Entry}
 use Rattle.casa_history.specs.declared.entry.Receipt.{Receipt}
 use Rattle.casa_commit.specs.declared.world.World.{Ghosts as WorldOf}
-use Rattle.casa_commit.specs.Legal.{replay}
+use Rattle.casa_commit.specs.Legal.{IsLegal, replay}
+use Rattle.casa_tape.specs.Lines.{whole_lines}
 use Rattle.casa_day.specs.declared.script.Script.{Ghosts as ScriptOf}
-use Rattle.casa_day.specs.Refusals.{IsAnsweredOtherwise}
-use Rattle.casa_day.proofs.Following.{get_middle}
+use Rattle.casa_day.specs.Journals.{Keeps}
+use Rattle.casa_day.specs.Refusals.{IsAnsweredOtherwise, IsOfLines, IsRefused}
+use Rattle.casa_day.proofs.Following.{get_middle, not_refused, right_take}
 use Rattle.casa_engine.specs.Fronts.{IsSeenIn}
 use Rattle.casa_day.specs.declared.event.OpenFault.{OpenFault}
 use Rattle.casa_keeper.specs.declared.recovery.RecoveryFault.{RecoveryFault}
@@ -53,3 +55,9 @@ pub refused_for : (P Q : OpenFault → Type 0) (fault : RecoveryFault) → ((why
 refused_for P Q (Refused why) step is = step why is
 refused_for P Q NotAlone step is = is
 refused_for P Q NotSetAside step is = is
+
+-- a file that keeps a legal history is not refused for its lines
+pub kept_not_refused : {S W C V G R : Type 0} → (script : ScriptOf S C R) (world : WorldOf W C V G R) (history : List (Entry C R)) (least : ℕ) (file : List ℕ) (fault : OpenFault)
+    → IsLegal world.after world.reply world.opening history → Keeps script history least file → IsRefused script world (whole_lines file) fault → IsOfLines fault → ⊥
+kept_not_refused script world history least file fault legal keeps =
+    not_refused script world (whole_lines file) (take keeps.count history) fault (right_take world.after world.reply keeps.count 1 world.opening history legal) keeps.said

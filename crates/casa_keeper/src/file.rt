@@ -150,6 +150,8 @@ impl Tape for FileTape {
 
     ghost only_now = { λ tape c none. none };
 
+    ghost since_earlier = { λ tape t u c le none. none };
+
     fn read(&mut self, alloc: Global) -> Result<Vec<u8>, TapeError> {
         let mut bytes = Vec::new(alloc);
         let read = read_whole(&mut self.file, &mut bytes);

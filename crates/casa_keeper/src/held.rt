@@ -45,7 +45,7 @@ pub trait Syncs<E> {
     fn sync_all<R: Wait>(&self, rt: &R, engine: &E) -> Result<Self::Synced, Unkept>;
 }
 
-/// A beginning of the engine's history that the disk has.
+/// By `SharedJournal::sync`, whose `Synced` has at least all that the engine had.
 impl<
     K: Store,
     L: EngineName,
@@ -100,6 +100,13 @@ impl<'a, O, P> Held<'a, O, P> {
     {
         let sealed = Sealed::new(writer);
         Held { sealed, keeper }
+    }
+
+    /// Gives the writer back.
+    pub fn into_writer(self) -> O
+        ensures { result ≡ self.entry.sealed.writer }
+    {
+        self.sealed.into_writer()
     }
 }
 

@@ -1,12 +1,20 @@
 //! Opening the journal of an engine.
 
-ghost use Rattle.std.specs.Prelude.{◌≡◌, List, ℕ, length, false, IfErr, IfOk, IsErrOf};
-ghost use Rattle.casa_tape.specs.Lines.{whole_lines};
+ghost use Rattle.std.specs.Prelude.{◌≡◌, ◌↔◌, ◌++◌, List, ℕ, length, true, false, IfErr, IfOk, IsErrOf};
+ghost use Rattle.casa_tape.specs.Lines.{StandsAs, journal_of, whole_lines};
+ghost use Rattle.casa_tape.specs.Journals.{LeavesOnly};
+ghost use Rattle.casa_day.specs.Days.{IsRestored};
 ghost use Rattle.casa_day.specs.Refusals.{IsOfLines, IsRefused};
 ghost use Rattle.casa_day.specs.Scripts.{Say};
 ghost use Rattle.casa_engine.specs.Fronts.{front_of};
-ghost use Rattle.casa_keeper.specs.Recoveries.{IfRefused};
-ghost use Rattle.casa_keeper.specs.declared.recovery.RecoveryFault.TheVariants.{NotSetAside};
+ghost use Rattle.casa_day.specs.Journals.{Keeps};
+ghost use Rattle.casa_day.specs.declared.event.OpenFault.TheVariants.{NotRead};
+ghost use Rattle.casa_flight.specs.declared.call.Call.{Call};
+ghost use Rattle.casa_flight.specs.declared.reply.Reply.{Reply};
+ghost use Rattle.casa_history.specs.declared.entry.Entry.{Entry};
+ghost use Rattle.casa_commit.specs.Legal.{IsLegal};
+ghost use Rattle.casa_keeper.specs.Recoveries.{IfRefused, IsBeforeCut};
+ghost use Rattle.casa_keeper.specs.declared.recovery.RecoveryFault.TheVariants.{NotSetAside, Refused};
 
 use crate::recovery::{RecoveryFault, replay};
 use crate::shared::SharedJournal;
@@ -21,19 +29,24 @@ use std::sync::Wait;
 
 /// Where what stands behind the whole lines of a journal goes before it is cut.
 pub trait Aside {
+    /// That it has these bytes, which stood behind so many whole lines.
+    ghost has: { Self → ℕ → List ℕ → Type 0 };
+
     /// That it has refused to set something aside.
     ghost has_refused: { Self → Type 0 };
 
     /// Sets aside the bytes that stand behind so many whole lines; there may be none. False where that can't or may not be.
     fn set_aside(&mut self, lines: usize, torn: &[u8]) -> bool
-        ensures { result ≡ false → has_refused self.new };
+        ensures kept { result ≡ true → has self.new lines torn.now }
+        ensures refused { result ≡ false → has_refused self.new };
 }
 
 /// Opens the journal of an engine that nobody has asked anything: the calls of its whole lines are answered again, by this
 /// desk; what stands behind them is set aside, and then cut. How many calls they were.
 ///
-/// `Refused` as `OpenFault` says; `NotAlone` where somebody has asked the engine, or asks it meanwhile; and `NotSetAside` where
-/// what is to be cut can't or may not be set aside. Nothing is cut before all of that went well.
+/// An error hands the file back; of the engine nobody knows then which calls were answered, so it is to be given up. `Refused`
+/// as `OpenFault` says; `NotAlone` where somebody has asked the engine, or asks it meanwhile; and `NotSetAside` where what is to
+/// be cut can't or may not be set aside. Nothing is cut before all of that went well.
 pub fn open<
     K: Store,
     L: EngineName,
@@ -50,22 +63,75 @@ pub fn open<
     script: S,
     tape: T,
     aside: &mut A,
-) -> Result<(SharedJournal<S, L, T>, usize), RecoveryFault>
+) -> Result<(SharedJournal<S, L, T>, usize), (RecoveryFault, T)>
     // The desk has then seen just what the whole lines say.
     ensures said { IfOk result (λ opened. (xs : List ℕ) → T.holds tape xs
         → Say S.Script 1 (whole_lines xs) (front_of desk.new)) }
     ensures count { IfOk result (λ opened. opened.1 ≡ length (front_of desk.new)) }
-    ensures refused { IfErr result (IfRefused (λ why. IsOfLines why → (xs : List ℕ) → T.holds tape xs
-        → IsRefused S.Script ⟦<Board<K> as World>⟧ (whole_lines xs) why)) }
-    ensures not_set_aside { IsErrOf result NotSetAside → A.has_refused aside.new }
+    // What stood behind them was set aside.
+    ensures set_aside { IfOk result (λ opened. (xs : List ℕ) → T.holds tape xs
+        → (torn : List ℕ) × (xs ≡ journal_of (whole_lines xs) ++ torn) × A.has aside.new opened.1 torn) }
+    ensures refused { IfErr result (λ e. IfRefused (λ why. IsOfLines why → (xs : List ℕ)
+        → T.holds tape xs → IsRefused S.Script ⟦<Board<K> as World>⟧ (whole_lines xs) why) e.0) }
+    ensures not_set_aside { IfErr result (λ e. e.0 ≡ NotSetAside → A.has_refused aside.new) }
+    // A fault that comes before the cut leaves the file as it was.
+    ensures untouched { IfErr result (λ e. IsBeforeCut e.0 → (xs : List ℕ)
+        → T.holds e.1 xs ↔ T.holds tape xs) }
+    // No file that a life left is refused.
+    ensures accepted { IfErr result (λ e. IfRefused (λ why. (history : List (Entry Call Reply))
+        (least : ℕ) (xs : List ℕ) → IsLegal ⟦<Board<K> as World>⟧.after ⟦<Board<K> as World>⟧.reply
+        ⟦<Board<K> as World>⟧.opening history → T.holds tape xs
+        → Keeps S.Script history least xs → ¬ (IsOfLines why)) e.0) }
+    ensures cause { IfErr result (λ e. e.0 ≡ Refused NotRead → T.has_failed e.1) }
+    // A crash at any moment of an opening that fails leaves a file that stands for the same lines.
+    ensures any_moment { IfErr result (λ e. LeavesOnly T.Tape tape e.1 (StandsAs (T.may_leave tape))) }
 {
     let mut tape = tape;
-    let found = look(alloc, &mut tape)?;
-    let count = replay(rt, alloc, engine, desk, &script, found.lines())?;
+    match restore(rt, alloc, engine, desk, &script, &mut tape, aside) {
+        Ok(count) => {
+            let journal = SharedJournal::new(alloc, script, tape, &desk.front(), count);
+            Ok((journal, count))
+        }
+        Err(fault) => Err((fault, tape)),
+    }
+}
+
+/// Reads a journal, answers the calls of its whole lines again, sets aside what stands behind them, and then cuts that. How
+/// many calls they are.
+fn restore<
+    K: Store,
+    L: EngineName,
+    G: Gate<Board<K>>,
+    S: Script<Call, Reply>,
+    T: Tape,
+    A: Aside,
+    R: Wait,
+>(
+    rt: &R,
+    alloc: Global,
+    engine: &Engine<K, L, G>,
+    desk: &mut DeskPass<K, L>,
+    script: &S,
+    tape: &mut T,
+    aside: &mut A,
+) -> Result<usize, RecoveryFault>
+    ensures restored { IfOk result (λ count. IsRestored S.Script T.Tape tape.old tape.new
+        (front_of desk.new) count) }
+    ensures set_aside { IfOk result (λ count. (xs : List ℕ) → T.holds tape.old xs
+        → (torn : List ℕ) × (xs ≡ journal_of (whole_lines xs) ++ torn) × A.has aside.new count torn) }
+    ensures refused { IfErr result (IfRefused (λ why. IsOfLines why → (xs : List ℕ)
+        → T.holds tape.old xs → IsRefused S.Script ⟦<Board<K> as World>⟧ (whole_lines xs) why)) }
+    ensures not_set_aside { IsErrOf result NotSetAside → A.has_refused aside.new }
+    ensures untouched { IfErr result (λ fault. IsBeforeCut fault → (xs : List ℕ)
+        → T.holds tape.new xs ↔ T.holds tape.old xs) }
+    ensures cause { IsErrOf result (Refused NotRead) → T.has_failed tape.new }
+    ensures any_moment { LeavesOnly T.Tape tape.old tape.new (StandsAs (T.may_leave tape.old)) }
+{
+    let found = look(alloc, tape)?;
+    let count = replay(rt, alloc, engine, desk, script, found.lines())?;
     if !aside.set_aside(count, found.torn()) {
         return Err(RecoveryFault::NotSetAside);
     }
-    mend(&mut tape, &found)?;
-    let journal = SharedJournal::new(alloc, script, tape, &desk.front(), count);
-    Ok((journal, count))
+    mend(tape, &found)?;
+    Ok(count)
 }

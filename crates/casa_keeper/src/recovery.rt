@@ -8,7 +8,7 @@ ghost use Rattle.casa_commit.specs.Legal.{IsLegal};
 ghost use Rattle.casa_tape.specs.Lines.{AreLines, journal_of};
 ghost use Rattle.casa_day.specs.Scripts.{Says, Say};
 ghost use Rattle.casa_engine.specs.Fronts.{front_of};
-ghost use Rattle.casa_day.specs.declared.event.OpenFault.TheVariants.{NoMemory};
+ghost use Rattle.casa_day.specs.declared.event.OpenFault.TheVariants.{NoMemory, NotRead};
 ghost use Rattle.casa_day.specs.Faults.{open_fault};
 ghost use Rattle.casa_day.specs.Refusals.{IsRefused, IsRefusedAt};
 ghost use Rattle.casa_keeper.specs.declared.recovery.RecoveryFault.TheVariants.{NotSetAside, Refused};
@@ -75,6 +75,7 @@ pub fn replay<K: Store, L: EngineName, G: Gate<Board<K>>, S: Script<Call, Reply>
         → text.now ≡ journal_of lines
         → IsRefused S.Script ⟦<Board<K> as World>⟧ lines why)) }
     ensures nothing_set_aside { ¬ (IsErrOf result NotSetAside) }
+    ensures nothing_read { ¬ (IsErrOf result (Refused NotRead)) }
 {
     let mut front = desk.front();
     if engine.see(rt, &mut front) > 0 {
@@ -100,6 +101,7 @@ fn answer_all<K: Store, L: EngineName, G: Gate<Board<K>>, S: Script<Call, Reply>
         → text.now ≡ journal_of lines
         → IsRefused S.Script ⟦<Board<K> as World>⟧ lines why)) }
     ensures nothing_set_aside { ¬ (IsErrOf result NotSetAside) }
+    ensures nothing_read { ¬ (IsErrOf result (Refused NotRead)) }
 {
     let mut rest = text;
     let mut position = 0;
@@ -129,6 +131,7 @@ fn answer_again<K: Store, L: EngineName, G: Gate<Board<K>>, S: Script<Call, Repl
     ensures refused { IfErr result (IfRefused (IsRefusedAt S.Script ⟦<Board<K> as World>⟧
         (front_of desk.old) position line.now)) }
     ensures nothing_set_aside { ¬ (IsErrOf result NotSetAside) }
+    ensures nothing_read { ¬ (IsErrOf result (Refused NotRead)) }
 {
     let Some(call) = script.read(alloc, position, line)? else {
         return Err(RecoveryFault::Refused(OpenFault::BadLine(position)));

@@ -15,6 +15,13 @@ pub struct Sealed<O, P> {
 }
 
 impl<O, P> Sealed<O, P> {
+    /// Gives the writer back.
+    pub(crate) fn into_writer(self) -> O
+        ensures { result ≡ self.writer }
+    {
+        self.writer
+    }
+
     /// Seals a writer.
     pub(crate) fn new(writer: O) -> Sealed<O, P>
         ensures { result.writer ≡ writer }

@@ -164,9 +164,10 @@ impl<S: Script<Call, Reply> + Drop, L: EngineName, T: Tape + Drop> SharedJournal
     /// Waits until the disk has all entries that the engine has now, and writes them where nobody else does. What the disk
     /// has then, which is all that the front has seen, at least.
     ///
-    /// Who finds the file idle takes it, and writes all entries of that moment with one write and one sync, with no lock held. Who comes meanwhile waits for that, and goes on if it was enough; else one of them writes the next. `Failed`
-    /// where the file could not be written or synced, and from then on where the disk has less; `NoMemory` where there is no
-    /// memory for the entries or their text, and a later call may write all.
+    /// Who finds the file idle takes it, and writes all entries of that moment with one write and one sync, with no lock held.
+    /// Who comes meanwhile waits for that, and goes on if it was enough; else one of them writes the next. `Failed` where the
+    /// file could not be written or synced, and from then on where the disk has less; `NoMemory` where there is no memory for
+    /// the entries or their text, and a later call may write all.
     pub fn sync<K: Store, G: Gate<Board<K>>, R: Wait>(
         &self,
         rt: &R,

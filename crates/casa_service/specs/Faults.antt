@@ -26,8 +26,13 @@ service_fault_name (Session fault) = session_fault_name fault
 service_fault_name (Journal fault) = trouble_name fault.trouble
 service_fault_name NoMemory = codes "NoMemory"
 
--- inner: a fault of a journal, or of memory
+-- inner: what can be wrong as a journal is opened
+abbrev pub IsOfOpening : Trouble → Type 0
+IsOfOpening (NotWritten error) = ⊥
+IsOfOpening other = ⊤
+
+-- inner: a journal could not be opened, or there is no memory
 abbrev pub IsOfJournal : ServiceFault → Type 0
-IsOfJournal (Journal fault) = ⊤
+IsOfJournal (Journal fault) = IsOfOpening fault.trouble
 IsOfJournal NoMemory = ⊤
 IsOfJournal other = ⊥

@@ -1,5 +1,5 @@
 ghost use Rattle.std.specs.Prelude.{◌≡◌};
-ghost use Rattle.casa_service.specs.Faults.{IsOfJournal, service_fault_name, trouble_name};
+ghost use Rattle.casa_service.specs.Faults.{IsOfJournal, IsOfOpening, service_fault_name, trouble_name};
 
 use casa_keeper::FileFault;
 use casa_server::ServeFault;
@@ -45,7 +45,7 @@ impl ServiceFault {
 
     /// What is wrong with this journal. `NoMemory` where there is none for its path.
     pub(crate) fn of_journal(alloc: Global, path: &str, trouble: Trouble) -> ServiceFault
-        ensures { IsOfJournal result }
+        ensures { IsOfOpening trouble → IsOfJournal result }
     {
         match format!(in alloc; "{path}") {
             Ok(path) => ServiceFault::Journal(JournalFault { path, trouble }),

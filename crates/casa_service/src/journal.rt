@@ -64,7 +64,7 @@ pub(crate) fn open_journal<
             tell_opened(rt, log, path, count, begun);
             Ok(journal)
         }
-        Err(fault) => Err(refused(alloc, path, fault, aside.trouble, last)),
+        Err((fault, _)) => Err(refused(alloc, path, fault, aside.trouble, last)),
     }
 }
 
@@ -104,7 +104,11 @@ fn refused(
         RecoveryFault::NotAlone => Trouble::NotAlone,
         RecoveryFault::Refused(OpenFault::BadLine(line)) => Trouble::BadLine(line),
         RecoveryFault::Refused(OpenFault::ReplayDiffers(line)) => Trouble::ReplayDiffers(line),
-        RecoveryFault::NotSetAside => trouble.unwrap_or(Trouble::NotAlone),
+        RecoveryFault::NotSetAside => match trouble {
+            Some(Trouble::MoreThanTorn(line, bytes)) => Trouble::MoreThanTorn(line, bytes),
+            Some(Trouble::NotSetAside(error)) => Trouble::NotSetAside(error),
+            _ => Trouble::NotAlone,
+        },
     };
     ServiceFault::of_journal(alloc, path, trouble)
 }

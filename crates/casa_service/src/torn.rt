@@ -30,9 +30,11 @@ pub(crate) struct TornFiles<'t, 'g, 'r, 'p, R> {
     pub(crate) trouble: Option<Trouble>,
 }
 
-/// Of what is set aside nothing is known.
+/// Of what is set aside no clause knows more than that it was asked for.
 impl<'t, 'g, 'r, 'p, R: Files<File = File> + Eprint + Clock> Aside
     for TornFiles<'t, 'g, 'r, 'p, R> {
+    ghost has = { λ _ lines torn. Unit {0} };
+
     ghost has_refused = { λ _. Unit {0} };
 
     fn set_aside(&mut self, lines: usize, torn: &[u8]) -> bool {

@@ -20,7 +20,7 @@ left_with s kept = s.solid.items ++ take kept s.loose.items
 abbrev pub standings : MemoryTape → List Standing
 standings tape = tape.past.items ++ tape.state ∷ []
 
--- as a file stood at some moment from this one on, a crash left these bytes
+-- as a file stood at this moment or later, a crash may have left these bytes
 pub record WasLeft (standings : List Standing) (since : ℕ) (left : List ℕ) : Type 0 where
   pub moment : ℕ
   pub later : since ≤ moment

@@ -1,7 +1,7 @@
 use Rattle.std.proofs.Common.{◌≡◌, ◌+◌, ◌∷◌, [], length, Err, ◌∙◌, ap, arith, rules, length-append}
+use Rattle.casa_day.proofs.Restoring.{if_err}
 use Rattle.casa_day.proofs.Replaying.{replay_goes_on, replay_ends, replay_refused}
 use Rattle.casa_engine.specs.Fronts.{front_of}
-use Rattle.casa_day.proofs.Coursing.{if_err}
 use Rattle.casa_keeper.proofs.Answered.{refused_for}
 use Rattle.casa_keeper.proofs.recovery.answer_all.Goals as goal
 
