@@ -53,13 +53,13 @@ impl<
     S: Script<Call, Reply> + Drop,
     T: Tape + Drop,
 > Syncs<Engine<K, L, G>> for SharedJournal<S, L, T> {
-    type Synced = Synced<Call, Reply, L>;
+    type Synced = Synced<Call, Reply, L, T>;
 
     fn sync_all<R: Wait>(
         &self,
         rt: &R,
         engine: &Engine<K, L, G>,
-    ) -> Result<Synced<Call, Reply, L>, Unkept> {
+    ) -> Result<Synced<Call, Reply, L, T>, Unkept> {
         let front = engine.front(rt);
         self.sync(rt, engine, &front)
     }

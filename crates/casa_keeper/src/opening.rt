@@ -74,6 +74,9 @@ pub fn open<
     ensures refused { IfErr result (λ e. IfRefused (λ why. IsOfLines why → (xs : List ℕ)
         → T.holds tape xs → IsRefused S.Script ⟦<Board<K> as World>⟧ (whole_lines xs) why) e.0) }
     ensures not_set_aside { IfErr result (λ e. e.0 ≡ NotSetAside → A.has_refused aside.new) }
+    // Nothing is set aside where a line is at fault, or somebody has asked the engine.
+    ensures not_asked { IfErr result (λ e. IfRefused IsOfLines e.0 → (e.0 ≡ NotSetAside → ⊥)
+        → aside.new ≡ aside.old) }
     // A fault that comes before the cut leaves the file as it was.
     ensures untouched { IfErr result (λ e. IsBeforeCut e.0 → (xs : List ℕ)
         → T.holds e.1 xs ↔ T.holds tape xs) }
@@ -122,6 +125,8 @@ fn restore<
     ensures refused { IfErr result (IfRefused (λ why. IsOfLines why → (xs : List ℕ)
         → T.holds tape.old xs → IsRefused S.Script ⟦<Board<K> as World>⟧ (whole_lines xs) why)) }
     ensures not_set_aside { IsErrOf result NotSetAside → A.has_refused aside.new }
+    ensures not_asked { IfErr result (λ fault. IfRefused IsOfLines fault → (fault ≡ NotSetAside → ⊥)
+        → aside.new ≡ aside.old) }
     ensures untouched { IfErr result (λ fault. IsBeforeCut fault → (xs : List ℕ)
         → T.holds tape.new xs ↔ T.holds tape.old xs) }
     ensures cause { IsErrOf result (Refused NotRead) → T.has_failed tape.new }

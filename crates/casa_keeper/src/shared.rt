@@ -35,7 +35,7 @@ struct Keeping<C, R, S: Script<C, R>, L: Named, T: Tape> {
     tape: Option<T>,
     /// Whether the file has failed, so that it is gone.
     is_broken: bool,
-    synced: Synced<C, R, L>,
+    synced: Synced<C, R, L, T>,
     count: usize,
     script: PhantomData<S>,
 }
@@ -68,8 +68,8 @@ impl<C, R, S: Script<C, R>, L: Named, T: Tape + Drop> Drop for Keeping<C, R, S, 
 /// Whose turn it is: the disk has enough, which is this; or who asked is to write the file, which has this. With the number
 /// of entries.
 enum Turn<C, R, L: Named, T: Tape> {
-    Done(Synced<C, R, L>, usize),
-    Mine(T, Synced<C, R, L>, usize),
+    Done(Synced<C, R, L, T>, usize),
+    Mine(T, Synced<C, R, L, T>, usize),
 }
 
 impl<C, R, S: Script<C, R>, L: Named, T: Tape + Drop> Keeping<C, R, S, L, T> {
@@ -86,7 +86,7 @@ impl<C, R, S: Script<C, R>, L: Named, T: Tape + Drop> Keeping<C, R, S, L, T> {
     }
 
     /// What the disk has.
-    fn synced(&self) -> Synced<C, R, L>
+    fn synced(&self) -> Synced<C, R, L, T>
         ensures { result ≡ self.now }
     {
         self.synced.again()
@@ -101,7 +101,7 @@ impl<C, R, S: Script<C, R>, L: Named, T: Tape + Drop> Keeping<C, R, S, L, T> {
     }
 
     /// Puts the file back, and what it has, so many entries; or nothing, where it has failed.
-    fn put_back(&mut self, tape: Option<T>, synced: Synced<C, R, L>, count: usize)
+    fn put_back(&mut self, tape: Option<T>, synced: Synced<C, R, L, T>, count: usize)
         requires count { count ≡ length synced }
         requires has { IfSome tape (Has S.Script T.Tape synced) }
     {
@@ -173,7 +173,7 @@ impl<S: Script<Call, Reply> + Drop, L: EngineName, T: Tape + Drop> SharedJournal
         rt: &R,
         engine: &Engine<K, L, G>,
         front: &Front<Call, Reply, L>,
-    ) -> Result<Synced<Call, Reply, L>, Unkept>
+    ) -> Result<Synced<Call, Reply, L, T>, Unkept>
         ensures { IfOk result (λ synced. IsPrefix front.now synced) }
     {
         let mut seen = front.again();
@@ -216,9 +216,9 @@ impl<S: Script<Call, Reply> + Drop, L: EngineName, T: Tape + Drop> SharedJournal
         rt: &R,
         engine: &Engine<K, L, G>,
         tape: T,
-        had: Synced<Call, Reply, L>,
+        had: Synced<Call, Reply, L, T>,
         count: usize,
-    ) -> Result<(Synced<Call, Reply, L>, usize), Unkept>
+    ) -> Result<(Synced<Call, Reply, L, T>, usize), Unkept>
         requires has { Has S.Script T.Tape had tape }
         requires count { count ≡ length had }
         ensures { IfOk result (λ r. r.1 ≡ length r.0) }
@@ -248,7 +248,7 @@ impl<S: Script<Call, Reply> + Drop, L: EngineName, T: Tape + Drop> SharedJournal
         &self,
         rt: &R,
         tape: Option<T>,
-        synced: Synced<Call, Reply, L>,
+        synced: Synced<Call, Reply, L, T>,
         count: usize,
     )
         requires count { count ≡ length synced }

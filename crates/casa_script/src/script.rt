@@ -1,6 +1,8 @@
 //! Lines of calls as the lines of a journal.
 
-ghost use Rattle.std.specs.Prelude.{◌≡◌, true};
+ghost use Rattle.std.specs.Prelude.{◌≡◌, ◌++◌, List, ℕ, Some, OnOk, true};
+ghost use Rattle.casa_tape.specs.Lines.{IsLine};
+ghost use Rattle.casa_script.specs.Lines.{entry_text};
 ghost use Rattle.casa_script.specs.Said.{call_at, line_vouches_for};
 
 use crate::reading::{call_at, line_vouches_for};
@@ -25,7 +27,12 @@ impl Script<Call, Reply> for CallScript {
         out: &mut Vec<u8>,
         position: usize,
         entry: &Entry<Call, Reply>,
-    ) -> Result<(), AllocError> {
+    ) -> Result<(), AllocError>
+        ensures { OnOk result ((line : List ℕ) × (out.new.items ≡ out.old.items ++ line)
+            × IsLine line × (call_at position line ≡ Some entry.now.call)
+            × (line_vouches_for position line entry.now.reply ≡ true)
+            × (line ≡ entry_text position entry.now)) }
+    {
         push_entry(out, position, entry)?;
         Ok(())
     }

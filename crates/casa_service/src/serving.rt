@@ -196,7 +196,7 @@ fn serve_written<
     L: EngineName + Send + Sync,
     R: Threads + Wait + Clock + Eprint + Sync,
     S: Script<Call, Reply> + Send + Sync + Drop,
-    T: Tape + Send + Drop,
+    T: Tape + Send + Sync + Drop,
 >(
     rt: &R,
     alloc: Global,

@@ -180,7 +180,7 @@ fn stay_written<
     L: EngineName + Send + Sync,
     R: Threads + Wait + Clock + Eprint + Sync,
     S: Script<Call, Reply> + Send + Sync + Drop,
-    T: Tape + Send + Drop,
+    T: Tape + Send + Sync + Drop,
 >(
     rt: &R,
     alloc: Global,

@@ -1,5 +1,5 @@
 -- to believe: what the calls of a tape do to its file, and what a crash leaves
-use Rattle.std.specs.Prelude.{◌≡◌, ◌⊎◌, ℕ, ◌≤◌, List, [], ◌∷◌, ◌++◌, take, drop, Result, IsErrOf}
+use Rattle.std.specs.Prelude.{◌≡◌, ◌⊎◌, ℕ, ◌≤◌, List, [], ◌∷◌, ◌++◌, take, drop, Result, OnOk, IsErrOf}
 use Rattle.casa_tape.specs.declared.tape.TapeError.{TapeError}
 use Rattle.casa_tape.specs.declared.tape.TapeError.TheVariants.{Failed}
 
@@ -32,7 +32,8 @@ pub record Elapses (before now : ℕ) (past since : ℕ → List ℕ → Type 0)
   pub nothing_else : (t : ℕ) (c : List ℕ) → t ≤ before → since t c → past t c ⊎ may_leave c
   pub keeps : (t : ℕ) (c : List ℕ) → t ≤ before → past t c → since t c
 
--- a file that has failed stays so, and `Failed` is told only of such a file
+-- a file that has failed stays so; `Failed` is told only of such a file, and `Ok` only where it did not fail in this call
 pub record HasCause {T : Type 0} (before now : Type 0) (result : Result T TapeError) : Type 0 where
   pub stays : before → now
   pub failed : IsErrOf result Failed → now
+  pub ok : OnOk result (now → before)

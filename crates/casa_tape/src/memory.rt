@@ -1,6 +1,6 @@
 //! A file in memory of which a crash leaves all that the contract of a tape allows, of calls that end well.
 
-ghost use Rattle.std.specs.Prelude.{◌≡◌, ◌≤◌, [], ◌∷◌, ◌++◌, List, ℕ, length, take, drop, IfOk, OnOk, OnErr};
+ghost use Rattle.std.specs.Prelude.{◌≡◌, ◌≤◌, ◌↔◌, [], ◌∷◌, ◌++◌, List, ℕ, length, take, drop, IfOk, OnOk, OnErr};
 ghost use Rattle.casa_tape.specs.Tape.{CutTo, Elapses, Follows, HasCause, TornBehind};
 ghost use Rattle.casa_tape.specs.Memory.{shown_bytes, left_by, left_with, standings, WasLeft};
 ghost use Rattle.casa_tape.specs.Standings.{shown_left, left_now, left_only_now, left_earlier};
@@ -97,7 +97,17 @@ impl Tape for MemoryTape {
 
     ghost since_earlier = { λ m t u c le left. left_earlier (standings m) t u c le left };
 
-    fn read(&mut self, alloc: Global) -> Result<Vec<u8>, TapeError> {
+    // As a tape has it, and nothing gets to the disk by it.
+    fn read(&mut self, alloc: Global) -> Result<Vec<u8>, TapeError>
+        ensures bytes { IfOk result (λ bytes. (xs : List ℕ) → xs ≡ shown_bytes self.old.state
+            → bytes.items ≡ xs) }
+        ensures held { (xs : List ℕ) → xs ≡ shown_bytes self.new.state ↔ xs ≡ shown_bytes self.old.state }
+        ensures crash { (left : List ℕ) → left_by self.new.state left → left_by self.old.state left }
+        ensures time { Elapses (length self.old.past.items) (length self.new.past.items)
+            (WasLeft (standings self.old)) (WasLeft (standings self.new)) (left_by self.new.state) }
+        ensures cause { HasCause ⊥ ⊥ result }
+        ensures same { self.new ≡ self.old }
+    {
         Ok(self.state.bytes(alloc)?)
     }
 
