@@ -32,8 +32,8 @@ step desks (Tell position) a = if nat_lt 0 position && nat_le position a.journal
 abbrev pub steps : {C : Type 0} → ℕ → List (Event C) → Course C → Course C
 steps desks events a = fold (λ so_far event. step desks event so_far) a events
 
--- The first so many of these events happened, all of them where it ended well, and else the next one failed: that led from one
--- course to another.
+-- The first so many of these events happened, all of them where it ended well, and else the next one failed, of which nothing
+-- counts: that led from one course to another.
 pub record Happened {C A F : Type 0} (desks : ℕ) (events : List (Event C)) (result : Result A F) (before now : Course C) : Type 0 where
   pub happened : ℕ
   pub within : happened ≤ length events

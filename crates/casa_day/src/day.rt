@@ -36,7 +36,7 @@ impl<W: World, S: Script<W::Call, W::Reply>, T: Tape> Day<W, S, T> {
         requires { IsRunningDay S.Script T.Tape self.old }
         ensures went_on { WentOn S.Script T.Tape self.old self.new result }
         ensures legal { IsLegal W.after W.reply W.opening (entries_of self.new.room) }
-        // What happened is what the events say, up to one that failed, and that did nothing.
+        // What happened is what the events say, up to one that failed, of which nothing counts.
         ensures course { Happened (open_desks self.old.room) events.now result
             (course_of self.old) (course_of self.new) }
     {
