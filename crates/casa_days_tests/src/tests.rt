@@ -1,7 +1,7 @@
 //! A morning of two workers, whose journal is cut short at each byte.
 
 use casa_day::OpenFault;
-use casa_days::{DayEvent, Life, live_in_memory};
+use casa_days::{DayEvent, Ended, live_in_memory};
 use casa_flight::Call;
 use casa_script::CallScript;
 use casa_tape::{MemoryTape, Tape};
@@ -80,7 +80,7 @@ fn life(
     alloc: Global,
     file: Vec<u8>,
     events: &[DayEvent<Call>],
-) -> Result<Life<Copies, MemoryTape>, OpenFault> {
+) -> Result<Ended<Copies, MemoryTape>, OpenFault> {
     live_in_memory(alloc, Copies::new(), &CallScript, file, events)
 }
 
