@@ -20,12 +20,6 @@ take_front zero xs ys le = refl
 take_front (suc n) [] ys le = absurd (omega (arith, le))
 take_front (suc n) (x ∷ xs) ys le = ap (λ zs. x ∷ zs) (take_front n xs ys (omega (arith, le)))
 
-pub take_take : {A : Type 0} → (m n : ℕ) (xs : List A) → m ≤ n → take m (take n xs) ≡ take m xs
-take_take zero n xs le = refl
-take_take (suc m) zero xs le = absurd (omega (arith, le))
-take_take (suc m) (suc n) [] le = refl
-take_take (suc m) (suc n) (x ∷ xs) le = ap (λ ys. x ∷ ys) (take_take m n xs (omega (arith, le)))
-
 pub all_append : {A : Type 0} → (P : A → Type 0) (xs ys : List A) → AllByRecursion P xs → AllByRecursion P ys → AllByRecursion P (xs ++ ys)
 all_append P [] ys all also = also
 all_append P (x ∷ xs) ys all also = (all.0, all_append P xs ys all.1 also)

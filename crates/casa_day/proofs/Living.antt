@@ -10,7 +10,8 @@ use Rattle.casa_day.specs.declared.script.Script.{Ghosts as ScriptOf}
 use Rattle.casa_day.specs.Scripts.{Say, answers_in, calls_in}
 use Rattle.casa_day.specs.Journals.{Keeps, Grows}
 use Rattle.casa_day.specs.Lives.{Life, AreLived, HasStill, NothingIsLost}
-use Rattle.casa_day.proofs.Lists.{take_front, take_take, grows_not}
+use Rattle.casa_tape.proofs.WholeLines.{take_take}
+use Rattle.casa_day.proofs.Lists.{take_front, grows_not}
 use Rattle.casa_day.proofs.Saying.{say_calls}
 use Rattle.casa_day.proofs.Following.{calls_take, answers_take, length-answers, right_take, answers_follow}
 

@@ -149,17 +149,17 @@ up_to_last (b ∷ bs) (suc k) lt is none =
     on_first [] same = absurd (omega (arith, lt, ap length same, length-take (k + 1) bs))
     on_first (line ∷ ls) same = refl
 
+pub take_take : {A : Type 0} → (m n : ℕ) (xs : List A) → m ≤ n → take m (take n xs) ≡ take m xs
+take_take zero n xs le = refl
+take_take (suc m) zero xs le = absurd (omega (arith, le))
+take_take (suc m) (suc n) [] le = refl
+take_take (suc m) (suc n) (x ∷ xs) le = ap (λ ys. x ∷ ys) (take_take m n xs (omega (arith, le)))
+
 -- the bytes before the first NUL are the first of all
 before_nul_is : (bytes : List ℕ) (end : ℕ) → end ≤ length (before_nul bytes) → (take end bytes ≡ take end (before_nul bytes)) × (end ≤ length bytes)
 before_nul_is bytes end within =
     let cut = length-take (position_or_len (λ b. b == 0) bytes) bytes in
-    (sym (take_first (position_or_len (λ b. b == 0) bytes) end bytes (omega (arith, within, cut))), omega (arith, within, cut))
-  where
-    take_first : (n m : ℕ) (xs : List ℕ) → m ≤ n → take m (take n xs) ≡ take m xs
-    take_first n zero xs le = refl
-    take_first zero (suc m) xs le = absurd (omega (arith, le))
-    take_first (suc n) (suc m) [] le = refl
-    take_first (suc n) (suc m) (x ∷ xs) le = ap (λ l. x ∷ l) (take_first n m xs (omega (arith, le)))
+    (sym (take_take end (position_or_len (λ b. b == 0) bytes) bytes (omega (arith, within, cut))), omega (arith, within, cut))
 
 pub whole_at : (bytes : List ℕ) (k : ℕ) → k < length (before_nul bytes) → get_or (before_nul bytes) k 0 ≡ 10
     → ((j : ℕ) → k < j → j < length (before_nul bytes) → get_or (before_nul bytes) j 0 ≢ 10) → IsWholeEnd bytes (k + 1)
