@@ -110,7 +110,7 @@ fn carry_out<
             step,
             strict,
         } => load(alloc, reg, *day, *step, *strict, input, writer, errors),
-        Task::Summary { day, strict } => summary(rt, alloc, *day, *strict, input, writer, errors),
+        Task::Summary { day, strict } => summary(alloc, *day, *strict, input, writer, errors),
         Task::Why { key, day, strict } => why(alloc, key, *day, *strict, input, writer, errors),
         Task::Serve {
             port,

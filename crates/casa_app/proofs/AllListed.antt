@@ -1,29 +1,24 @@
 -- the lists of all open regulations, by their numbers in the catalogue
-use Rattle.std.proofs.Common.{◌≡◌, ℕ, ◌≤◌, zero, suc, List, [], ◌∷◌, length, take, map, Option, None, Some, refl, sym, ap, subst, ◌∙◌, inl, inr}
+use Rattle.std.proofs.Common.{◌≡◌, ℕ, zero, suc, List, [], ◌∷◌, map, Option, None, Some, refl, sym, ap, ◌∙◌, inl, inr}
 use Rattle.std.specs.Prelude.{◌⊎◌, slice_get, Result, Ok, Err, IfErr, IsErrAnd}
-use Rattle.std.proofs.lemmas.List.{length-map, take_all}
 use Rattle.std.specs.Option.{option_map_or}
-use Rattle.std.specs.List.{AllByRecursion, filter, sum_by}
+use Rattle.std.specs.List.{AllByRecursion}
 use Rattle.casa_flight.specs.declared.call.Call.{Call}
 use Rattle.casa_flight.specs.declared.call.Call.TheVariants.{List as ListOf}
 use Rattle.casa_filing.specs.declared.regulation.Measure.{Measure}
 use Rattle.casa_filing.specs.declared.regulation.Regulation.{Regulation}
 use Rattle.casa_flight.specs.declared.reply.Answer.TheVariants.{Done, List as ListAnswer}
 use Rattle.casa_flight.specs.declared.reply.ListReply.{ListReply}
-use Rattle.casa_flight.specs.declared.row.Stance.{Stance}
-use Rattle.casa_flight.specs.declared.row.Stance.TheVariants.{Competing, Issued, Forced}
 use Rattle.casa_flight.specs.declared.state.State.{State}
 use Rattle.casa_flight.specs.Good.{IsGood}
-use Rattle.casa_flight.specs.Listing.{Listing, delay_in, listing}
-use Rattle.casa_flight.specs.Replies.{kind_of, list_reply, reply, reply_of}
+use Rattle.casa_flight.specs.Listing.{listing}
+use Rattle.casa_flight.specs.Replies.{list_reply, reply, reply_of}
 use Rattle.casa_filing.specs.Subject.{regulation}
 use Rattle.casa_flight.specs.State.{catalogue, measure_of}
 use Rattle.casa_flight.specs.Steps.{list}
 use Rattle.casa_filing.specs.Text.{Text, at_name}
 use Rattle.casa_filing.proofs.Entries.{each_found}
-use Rattle.casa_inquiry.specs.Summary.{delays_in, governs, lists_told, total_delay}
-use Rattle.casa_inquiry.proofs.Told.{told_delays}
-use Rattle.casa_engine.specs.Delays.{delays, is_governed, lists_in}
+use Rattle.casa_inquiry.specs.Summary.{lists_told}
 use Rattle.casa_session.specs.Played.{state_after}
 use Rattle.casa_app.specs.declared.fault.ProgramFault.{ProgramFault}
 use Rattle.casa_app.specs.declared.fault.ProgramFault.TheVariants.{NoMemory, NoRegulation}
@@ -56,32 +51,6 @@ nth_in m (e ∷ es) (suc i) r held found = nth_in m es i r held.1 found
 pub nth_told : (m : State) → IsGood m → (i : ℕ) (r : Regulation) → slice_get (catalogue m) i ≡ Some r
     → (shown : ListReply) × (list_in (reply m (ListOf r.id)) ≡ Some shown) × (slice_get (lists_told m) i ≡ Some shown)
 nth_told m good i r found = nth_in m m.regs i r (each_found m.regs good.regs_in_order) found
-
--- a list's regulation governs the same flights by their stances and by what the list says of them
-same_delays : (l : Listing) (es : List (Text × Stance))
-    → sum_by (λ (e : Text × Stance). delay_in l e.0) (filter (λ (e : Text × Stance). is_governed e.1) es)
-    ≡ sum_by (λ (e : Text × Stance). delay_in l e.0) (filter (λ (e : Text × Stance). governs (kind_of e.1)) es)
-same_delays l es = ap (sum_by (λ (e : Text × Stance). delay_in l e.0)) (same es)
-  where
-    same : (es : List (Text × Stance)) → filter (λ (e : Text × Stance). is_governed e.1) es ≡ filter (λ (e : Text × Stance). governs (kind_of e.1)) es
-    same [] = refl
-    same ((key, Competing eto) ∷ es) = ap (λ (fs : List (Text × Stance)). (key, Competing eto) ∷ fs) (same es)
-    same ((key, Issued eto cto) ∷ es) = ap (λ (fs : List (Text × Stance)). (key, Issued eto cto) ∷ fs) (same es)
-    same ((key, Forced eto) ∷ es) = same es
-
-same_sums : (ls : List Listing) → sum_by delays ls ≡ sum_by delays_in ls
-same_sums ls = ap (λ (f : Listing → ℕ). sum_by f ls) (λ i l. same_delays l l.flights i)
-
--- what an audit adds up is the delays that the lists tell
-pub audited_delays : (m : State) → IsGood m → sum_by delays (lists_in m) ≡ total_delay (lists_told m)
-audited_delays m good = same_sums (lists_in m) ∙ sym (told_delays m good.rows_in_order)
-
--- as many lists as there are regulations, or more, are all
-pub all_shared : (m : State) (ls : List Listing) (n : ℕ) → length (catalogue m) ≤ n → ls ≡ take n (lists_in m) → ls ≡ lists_in m
-all_shared m ls n past is =
-    let same : length (catalogue m) ≡ length (lists_in m) =
-    length-map m.regs (λ (e : Text × Measure). regulation e.0 e.1) ∙ sym (length-map m.regs (λ (e : Text × Measure). listing m.rows e.0 e.1)) in
-    is ∙ take_all n (lists_in m) (subst (λ (k : ℕ). k ≤ n) same past)
 
 -- where a regulation is open, its list is refused for want of memory alone
 pub only_no_memory : {X : Type 0} {Untold : Type 0} (result : Result X ProgramFault) (fault : ProgramFault) → IsErrAnd result (λ f. f ≡ fault)

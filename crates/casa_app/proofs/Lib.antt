@@ -7,8 +7,5 @@ pub mod Told
 pub mod Remarked
 pub mod ListTimes
 pub mod LastReply
-pub mod Reported
+pub mod Printed
 pub mod AllListed
-pub mod Summarized
-pub mod Explained
-pub mod Loaded

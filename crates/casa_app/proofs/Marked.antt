@@ -5,7 +5,7 @@ use Rattle.std.proofs.lemmas.Fmt.{decimal_digit}
 use Rattle.std.proofs.lemmas.Slice.Eq.{bytes_eq-Decides}
 use Rattle.std.specs.Prelude.{codes}
 use Rattle.std.specs.List.{flat_map}
-use Rattle.casa_output.specs.Sending.{saturating_count}
+use Rattle.casa_session.specs.Sending.{saturating_count}
 use Rattle.casa_app.specs.Notes.{first_no_json}
 use Rattle.casa_app.specs.Remarks.{Remark, head, remark_line, remark_on, remarks_from, tells_fault, tells_no_json, tells_refusal}
 

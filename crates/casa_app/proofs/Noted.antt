@@ -4,7 +4,7 @@ use Rattle.std.proofs.lemmas.Bool.{ne_eqb}
 use Rattle.std.proofs.lemmas.List.{take_all}
 use Rattle.std.proofs.lemmas.List.Concat.{flat_map-append}
 use Rattle.std.specs.List.{flat_map}
-use Rattle.casa_output.specs.Sending.{saturating_count}
+use Rattle.casa_session.specs.Sending.{saturating_count}
 use Rattle.casa_session.proofs.Splitting.{ended_from-append, rest_from-append}
 use Rattle.casa_session.specs.Lines.{ended_lines, is_lf, rest_from}
 use Rattle.casa_app.specs.declared.notes.Notes.{Notes}

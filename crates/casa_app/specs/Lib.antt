@@ -4,6 +4,7 @@ pub mod Notes
 pub mod Told
 pub mod Inputs
 pub mod Remarked
+pub mod Printed
 pub mod Listed
 pub mod Reports
 pub mod Summaries

@@ -1,7 +1,7 @@
 -- inner contracts: what is kept of the replies
 use Rattle.std.specs.Prelude.{◌≡◌, ℕ, List, [], ◌∷◌, length, take, Bool, false}
 use Rattle.std.specs.List.{flat_map}
-use Rattle.casa_output.specs.Sending.{saturating_count}
+use Rattle.casa_session.specs.Sending.{saturating_count}
 use Rattle.casa_session.specs.Lines.{ended_lines, rest_from}
 use Rattle.casa_app.specs.declared.notes.Notes.{Notes}
 use Rattle.casa_app.specs.Remarks.{head, remark_line, remarks, tells_no_json}

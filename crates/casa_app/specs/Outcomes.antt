@@ -5,10 +5,9 @@ use Rattle.clap.specs.declared.error.kind.ErrorKind.{ErrorKind}
 use Rattle.clap.specs.declared.error.kind.ErrorKind.TheVariants.{DisplayHelp, DisplayVersion}
 use Rattle.casa_cli.specs.declared.tasks.TaskFault.TheVariants.{Words, BadReg, BadKey, BadDay}
 use Rattle.casa_session.specs.Faults.{session_fault_name}
-use Rattle.casa_report.specs.Faults.{name_of as report_fault_name}
 use Rattle.casa_service.specs.Faults.{service_fault_name}
 use Rattle.casa_app.specs.declared.fault.ProgramFault.{ProgramFault}
-use Rattle.casa_app.specs.declared.fault.ProgramFault.TheVariants.{Task, Session, Report, NoRegulation, NoFlight, Service, FaultyLines, NoMemory}
+use Rattle.casa_app.specs.declared.fault.ProgramFault.TheVariants.{Task, Session, WriteFailed, NoRegulation, NoFlight, Service, FaultyLines, NoMemory}
 
 -- who asks for help or the version made no mistake
 abbrev pub words_status : ErrorKind → ℕ
@@ -23,7 +22,7 @@ outcome_of (Task BadReg) = (2, codes "BadReg")
 outcome_of (Task BadKey) = (2, codes "BadKey")
 outcome_of (Task BadDay) = (2, codes "BadDay")
 outcome_of (Session fault) = (1, session_fault_name fault)
-outcome_of (Report fault) = (1, report_fault_name fault)
+outcome_of WriteFailed = (1, codes "WriteFailed")
 outcome_of NoRegulation = (1, codes "NoRegulation")
 outcome_of NoFlight = (1, codes "NoFlight")
 outcome_of (Service fault) = (1, service_fault_name fault)

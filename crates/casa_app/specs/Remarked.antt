@@ -2,12 +2,13 @@
 use Rattle.std.specs.Prelude.{◌≡◌, ◌≢◌, ◌⊎◌, ℕ, List, [], Bool, IsTrue, Option, Some, Result, Ok, Err, IfSome}
 use Rattle.std.specs.Io.KnownBytes.{Appends}
 use Rattle.casa_flight.specs.declared.call.Call.{Call}
-use Rattle.casa_report.specs.Writing.{IsCutOff}
 use Rattle.casa_session.specs.declared.fault.SessionFault.{SessionFault}
-use Rattle.casa_session.specs.Alone.{LoneEnds, transcript_after}
+use Rattle.casa_session.specs.Alone.{lone_sides, transcript_after}
 use Rattle.casa_session.specs.Lines.{lines_of}
+use Rattle.casa_session.specs.Sending.{IsCutOff}
+use Rattle.casa_session.specs.Transcript.{Ends}
 use Rattle.casa_app.specs.declared.fault.ProgramFault.{ProgramFault}
-use Rattle.casa_app.specs.declared.fault.ProgramFault.TheVariants.{Task, Session, Report, NoRegulation, NoFlight, Service, FaultyLines, NoMemory}
+use Rattle.casa_app.specs.declared.fault.ProgramFault.TheVariants.{Task, Session, WriteFailed, NoRegulation, NoFlight, Service, FaultyLines, NoMemory}
 use Rattle.casa_app.specs.Remarks.{remarks, said}
 
 -- a text was written, or its first bytes and not all of it, where the writer failed
@@ -29,7 +30,8 @@ SaysSome marked r v w = IfSome r (λ xs. IsSaid v w (said marked (replies_to xs)
 -- the session over an input with r to s left ended by this fault, and it was said what is said of the replies until then
 abbrev pub SaysUntil : SessionFault → (marked : Bool) → (r s v w : Option (List ℕ)) → Type 0
 SaysUntil fault marked r s v w =
-    (answered : List Call) × (replies : List ℕ) × LoneEnds [] answered (Err fault) r s (Some []) (Some replies) × IsSaid v w (said marked replies)
+    (answered : List Call) × (replies : List ℕ) × Ends ⊥ (Err fault) (lone_sides [] answered r s (Some []) (Some replies))
+    × IsSaid v w (said marked replies)
 
 -- what is said where it ends so, of an input with r to s left: of the replies to all lines; of those until the session's
 -- fault; and nothing where there was no memory for the desk. Where faulty lines are not to be, it ends by them exactly where
@@ -40,7 +42,7 @@ Says strict marked (Err (Session fault)) r s v w = SaysUntil fault marked r s v 
 Says strict marked (Err FaultyLines) r s v w = IsTrue strict × SaysSome marked r v w
 Says strict marked (Err NoRegulation) r s v w = SaysAll strict marked r v w
 Says strict marked (Err NoFlight) r s v w = SaysAll strict marked r v w
-Says strict marked (Err (Report fault)) r s v w = SaysAll strict marked r v w
+Says strict marked (Err WriteFailed) r s v w = SaysAll strict marked r v w
 Says strict marked (Err NoMemory) r s v w = (w ≡ v) ⊎ SaysAll strict marked r v w
 Says strict marked (Err (Task fault)) r s v w = ⊥
 Says strict marked (Err (Service fault)) r s v w = ⊥

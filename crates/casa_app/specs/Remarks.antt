@@ -1,7 +1,7 @@
 -- to believe: what is said of lines that are no calls, and of refused calls
 use Rattle.std.specs.Prelude.{ℕ, zero, suc, ◌+◌, ◌-◌, ◌==◌, ◌&&◌, ◌||◌, List, [], ◌∷◌, ◌++◌, length, take, Bool, true, false, codes, decimal, bytes_eq, nat_eq, if◌then◌else◌}
 use Rattle.std.specs.List.{after_first, before_first, flat_map, starts_with}
-use Rattle.casa_output.specs.Sending.{saturating_count}
+use Rattle.casa_session.specs.Sending.{saturating_count}
 use Rattle.casa_session.specs.Lines.{ended_lines}
 
 -- a reply that tells of a fault or of a refusal, and the number of the line that has this reply, from 1

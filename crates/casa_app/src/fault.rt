@@ -2,7 +2,6 @@ ghost use Rattle.std.specs.Prelude.{◌≡◌};
 ghost use Rattle.casa_app.specs.Outcomes.{outcome_of, words_status};
 
 use casa_cli::TaskFault;
-use casa_report::ReportFault;
 use casa_service::ServiceFault;
 use casa_session::SessionFault;
 use clap::error::ErrorKind;
@@ -24,9 +23,9 @@ pub enum ProgramFault {
     /// The session ended before its input did.
     #[error("{0}")]
     Session(SessionFault),
-    /// The report was not written whole.
-    #[error("{0}")]
-    Report(ReportFault),
+    /// The writer failed or took no more bytes.
+    #[error("the text could not be written")]
+    WriteFailed,
     /// The regulation is not open.
     #[error("the regulation is not open")]
     NoRegulation,
@@ -64,16 +63,6 @@ impl From<SessionFault> for ProgramFault {
     }
 }
 
-impl From<ReportFault> for ProgramFault {
-    ghost use Rattle.casa_app.specs.declared.fault.ProgramFault.TheVariants.{Report};
-
-    ghost from_gives = { λ cause fault. fault ≡ Report cause };
-
-    fn from(cause: ReportFault) -> ProgramFault {
-        ProgramFault::Report(cause)
-    }
-}
-
 impl From<ServiceFault> for ProgramFault {
     ghost use Rattle.casa_app.specs.declared.fault.ProgramFault.TheVariants.{Service};
 
@@ -95,7 +84,7 @@ pub fn outcome(fault: &ProgramFault) -> (u8, &'static str)
         ProgramFault::Task(TaskFault::BadKey) => (BAD_WORDS, "BadKey"),
         ProgramFault::Task(TaskFault::BadDay) => (BAD_WORDS, "BadDay"),
         ProgramFault::Session(fault) => (FAILED, fault.name()),
-        ProgramFault::Report(fault) => (FAILED, fault.name()),
+        ProgramFault::WriteFailed => (FAILED, "WriteFailed"),
         ProgramFault::NoRegulation => (FAILED, "NoRegulation"),
         ProgramFault::NoFlight => (FAILED, "NoFlight"),
         ProgramFault::Service(fault) => (FAILED, fault.name()),

@@ -7,6 +7,7 @@ mod fault;
 mod input;
 mod laws;
 mod notes;
+mod printing;
 mod reasons;
 mod remarks;
 mod reports;

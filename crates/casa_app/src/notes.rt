@@ -3,7 +3,7 @@
 ghost use Rattle.std.specs.Prelude.{◌≡◌, ◌+◌, ◌-◌, ◌*◌, ◌==◌, ◌&&◌, ◌||◌, ◌≤◌, ◌<◌, ◌^◌, [], ◌∷◌, ◌++◌, ℕ, List, false, min, length, take};
 ghost use Rattle.std.specs.List.{after_first, flat_map, position_or_len};
 ghost use Rattle.arrayvec.specs.ArrayVec.{array_vec_len};
-ghost use Rattle.casa_output.specs.Sending.{saturating_count};
+ghost use Rattle.casa_session.specs.Sending.{saturating_count};
 ghost use Rattle.casa_app.specs.Remarks.{is_mark, more_line, remark_line, remark_on, spaced, tells_fault, tells_no_json, tells_refusal, told, word};
 
 use arrayvec::ArrayVec;

@@ -8,12 +8,13 @@ ghost use Rattle.casa_flight.specs.Entry.{offer, offers, situation};
 ghost use Rattle.casa_inquiry.specs.Why.{holdings, why};
 ghost use Rattle.casa_session.specs.Played.{state_after};
 ghost use Rattle.casa_app.specs.Inputs.{is_marked};
+ghost use Rattle.casa_app.specs.Printed.{PrintEnds};
 ghost use Rattle.casa_app.specs.Remarked.{Says};
-ghost use Rattle.casa_app.specs.Whys.{WhyEnds, why_after};
+ghost use Rattle.casa_app.specs.Whys.{reasons_after, why_after};
 
 use crate::fault::ProgramFault;
 use crate::input::Input;
-use crate::reports::answer_lines;
+use crate::printing::{Question, print};
 use casa_flight::{FlightReply, Key, Offer, Plan, Regulation, Row, SharedSlice};
 use casa_inquiry::{Holding, Reasons, delay_in, holdings, offer, rule_of};
 use casa_list::SlotList;
@@ -26,12 +27,7 @@ use std::io::{Read, Write};
 /// Answers the command lines of the input as a session does, without its replies, says at `errors` which lines had
 /// faults or were refused, and then writes why the flight with this key stands as it does: what it is shown with, the
 /// rule by which a regulation governs it, what each regulation to which it is subject would offer it, and who holds the
-/// slots that it waits for.
-///
-/// The session's fault comes first, then `FaultyLines` where there were such lines and `strict` is true, then `NoFlight`
-/// where there is no such flight after all lines, and nothing is written at any of them; then a fault of the report,
-/// with the beginning of the text written at `WriteFailed` and nothing at its `NoMemory`. `NoMemory` where there is none
-/// for the desk or for the answer, and then nothing is written. Where `errors` fails, nothing else changes.
+/// slots that it waits for. It ends as `report` does, by `NoFlight` where there is no such flight after all lines.
 pub fn why<R: Read + Drop, W: Write, E: Write>(
     alloc: Global,
     key: &Key,
@@ -41,23 +37,37 @@ pub fn why<R: Read + Drop, W: Write, E: Write>(
     writer: &mut W,
     errors: &mut E,
 ) -> Result<(), ProgramFault>
-    ensures ends { WhyEnds key.now day result (R.remaining input.old.source)
+    ensures ends { PrintEnds (why_after key.now day) result (R.remaining input.old.source)
         (R.remaining input.new.source) (W.contents writer.old) (W.contents writer.new) }
     ensures says { Says strict (is_marked input.new.first.items) result
         (R.remaining input.old.source) (R.remaining input.new.source)
         (E.contents errors.old) (E.contents errors.new) }
 {
-    let lone = answer_lines(alloc, strict, input, errors)?;
-    let reasons = explained(alloc, &lone, key)?;
-    why_text(alloc, day, &reasons, writer)?;
-    Ok(())
+    let question = WhyOf { key: *key, day };
+    print(alloc, &question, strict, input, writer, errors)
+}
+
+/// Asks why a flight stands as it does.
+#[derive(Drop)]
+struct WhyOf {
+    key: Key,
+    day: Date,
+}
+
+impl Question for WhyOf {
+    ghost text_after = { λ question. why_after question.key question.day };
+
+    fn text(&self, alloc: Global, lone: &mut Lone) -> Result<Vec<u8>, ProgramFault> {
+        let reasons = explain(alloc, lone, &self.key)?;
+        Ok(why_text(alloc, self.day, &reasons)?)
+    }
 }
 
 /// Why a flight stands as it does after the desk's calls; `NoFlight` where there is none with this key.
-fn explained(alloc: Global, lone: &Lone, key: &Key) -> Result<Reasons, ProgramFault>
-    ensures told { IfOk result (λ reasons. why_after lone.now key.now ≡ Some reasons) }
+fn explain(alloc: Global, lone: &Lone, key: &Key) -> Result<Reasons, ProgramFault>
+    ensures told { IfOk result (λ reasons. reasons_after lone.now key.now ≡ Some reasons) }
     ensures untold { IfErr result (λ fault. (fault ≡ ProgramFault.NoMemory)
-        ⊎ ((fault ≡ ProgramFault.NoFlight) × (why_after lone.now key.now ≡ None))) }
+        ⊎ ((fault ≡ ProgramFault.NoFlight) × (reasons_after lone.now key.now ≡ None))) }
 {
     let Some(row) = lone.row(key) else {
         return Err(ProgramFault::NoFlight);
@@ -72,7 +82,7 @@ fn reasons(alloc: Global, lone: &Lone, key: Key, row: &Row) -> Result<Reasons, A
     let offers = offers(alloc, lone, key, &row.plan)?;
     let rule = rule_of(lone.clock(), row, offers.as_slice());
     let offers = SharedSlice::from_vec(offers)?;
-    let holdings = held(alloc, lone, &key, row)?;
+    let holdings = holdings_of(alloc, lone, &key, row)?;
     Ok(Reasons {
         flight: FlightReply::of(key, row, delay(lone, &key, row)),
         rule,
@@ -103,7 +113,7 @@ fn delay(lone: &Lone, key: &Key, row: &Row) -> u32
 }
 
 /// Who holds the slots of the governing list for which a flight waits.
-fn held(
+fn holdings_of(
     alloc: Global,
     lone: &Lone,
     key: &Key,

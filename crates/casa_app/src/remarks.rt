@@ -4,14 +4,14 @@ ghost use Rattle.std.specs.Prelude.{◌≡◌, ◌↔◌, ℕ, List, [], ◌++�
 ghost use Rattle.std.specs.Io.KnownBytes.{Appends};
 ghost use Rattle.std.specs.List.{flat_map};
 ghost use Rattle.arrayvec.specs.ArrayVec.{array_vec_len};
-ghost use Rattle.casa_report.specs.Writing.{IsCutOff};
+ghost use Rattle.casa_session.specs.Sending.{IsCutOff};
 ghost use Rattle.casa_app.specs.Notes.{AreOf};
 ghost use Rattle.casa_app.specs.Remarks.{remark_line, remarks, said};
 
 use crate::notes::{MOST, Notes, push_more, push_text};
 use crate::trail::Trail;
 use arrayvec::ArrayVec;
-use casa_output::{Unsent, send};
+use casa_session::{Unsent, send};
 use std::io;
 use std::io::Write;
 

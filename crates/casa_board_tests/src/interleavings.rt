@@ -1,8 +1,8 @@
 //! What comes of workers whose events are interleaved.
 
 use crate::played::comes_to;
-use casa_world::Event;
-use casa_world::Event::{Abandon, Commit, Compute, Read};
+use casa_interleavings::Event;
+use casa_interleavings::Event::{Abandon, Commit, Compute, Read};
 
 /// The opening of a regulation at LA with ten slots, and of one at LB with four.
 const OPEN_R1: &str =

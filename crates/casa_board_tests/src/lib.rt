@@ -1,4 +1,4 @@
-//! Tests of casa_view, casa_shelf, casa_plan and casa_world, through what is public of them.
+//! Tests of casa_view, casa_shelf, casa_plan and casa_interleavings, through what is public of them.
 //!
 //! They stand in a crate of their own, so that each library is proved once.
 #![tactic(auto)]
@@ -11,6 +11,8 @@ mod both;
 mod catalogue;
 #[cfg(test)]
 mod chance;
+#[cfg(test)]
+mod days;
 #[cfg(test)]
 mod interleavings;
 #[cfg(test)]

@@ -6,6 +6,7 @@
 #![tactic(auto)]
 
 mod commits;
+mod desk;
 mod fault;
 mod gate;
 mod planning;
@@ -15,6 +16,7 @@ mod tally;
 mod world;
 
 pub use commits::commit;
+pub use desk::Desk;
 pub use fault::{CallFault, CommitFault, DeskFault};
 pub use gate::Gate;
 pub use planning::prepare;

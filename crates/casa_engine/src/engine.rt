@@ -21,8 +21,7 @@ use crate::desk::SharedDesk;
 use crate::name::{Blank, EngineName};
 use crate::pass::CountedPass;
 use crate::shared::{Shareable, SharedRoom};
-use casa_commit::{CallFault, Gate, World};
-use casa_desk::Desk;
+use casa_commit::{CallFault, Desk, Gate, World};
 use casa_flight::{Call, Reply};
 use casa_front::Front;
 use casa_history::Receipt;
@@ -107,6 +106,10 @@ impl<K: Store, L: EngineName, G: Gate<Board<K>> + Drop> SharedRoom<Board<K>, L, 
 /// A desk of an engine has answered what its pass has receipts of: all of one desk, and each next after those before it
 /// in a legal history. Memory comes from the engine's allocator.
 impl<'a, K: Store, L: EngineName, G: Gate<Board<K>>, R: Wait> Desk for EngineDesk<'a, K, L, G, R> {
+    type Call = Call;
+
+    type Reply = Reply;
+
     ghost answered = { λ desk. receipts (pass_of desk.pass) };
 
     ghost lawful = { λ given. ∥ ((desk : ℕ) × AreReceiptsOf ⟦<Board<K> as World>⟧ desk given) ∥₁ };

@@ -17,10 +17,7 @@ mod pass;
 mod shared;
 
 pub use audit::{Audit, audit_lists, audit_shared};
-pub use casa_commit::Gate;
-pub use casa_plan::Direct;
 pub use engine::{DeskPass, Engine, EngineDesk};
 pub use laws::legal_histories_are_sequential;
-pub use lists::push_shared;
 pub use name::{Blank, EngineName};
 pub use parts::blank;

@@ -34,7 +34,7 @@ pub(crate) fn shared_lists<K: Store>(
 }
 
 /// Adds a list, if there is one, which is shared. `AllocError` where there is no memory for that.
-pub fn push_shared(lists: &mut Vec<SharedList>, list: Option<&SharedList>) -> Result<(), AllocError>
+fn push_shared(lists: &mut Vec<SharedList>, list: Option<&SharedList>) -> Result<(), AllocError>
     ensures { OnOk result (lists.new.items
         ≡ lists.old.items ++ cons_option (option_copied list.entry) []) }
 {

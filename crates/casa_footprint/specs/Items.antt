@@ -1,9 +1,9 @@
 -- to believe: the items of a state, and what each contains
-use Rattle.std.specs.Prelude.{◌≡◌, ℕ, List, Bool, true, false, Option}
+use Rattle.std.specs.Prelude.{◌≡◌, ℕ, List, Bool, true, Option}
 use Rattle.casa_filing.specs.declared.regulation.Regulation.{Regulation}
 use Rattle.casa_flight.specs.declared.row.Row.{Row}
 use Rattle.casa_flight.specs.declared.state.State.{State}
-use Rattle.casa_filing.specs.Text.{Text, same_text}
+use Rattle.casa_filing.specs.Text.{Text}
 use Rattle.casa_flight.specs.State.{row_of, catalogue}
 use Rattle.casa_flight.specs.Listing.{Listing, list_of}
 
@@ -21,14 +21,6 @@ pub data Content : Type 0 where
   regulations : List Regulation → Content
   row_or_none : Option Row → Content
   list_or_none : Option Listing → Content
-
--- inner: whether items have the same name
-abbrev pub is_item : ItemName → ItemName → Bool
-is_item the_clock the_clock = true
-is_item the_catalogue the_catalogue = true
-is_item (a_row key) (a_row other) = same_text key other
-is_item (a_list id) (a_list other) = same_text id other
-is_item _ _ = false
 
 -- what an item contains in a state
 abbrev pub contents : State → ItemName → Content

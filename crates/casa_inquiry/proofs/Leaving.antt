@@ -3,9 +3,8 @@ use Rattle.std.proofs.Common.{◌≡◌, ℕ, sym, ap, ◌∙◌, Option, None, 
 use Rattle.std.specs.Prelude.{is_some, if◌then◌else◌}
 use Rattle.std.specs.Option.{option_and_then}
 use Rattle.casa_grid.specs.declared.slot.Place.{Place}
-use Rattle.casa_flight.specs.declared.row.Stance.{Stance}
 use Rattle.casa_flight.specs.declared.row.Stance.TheVariants.{Competing}
-use Rattle.casa_filing.specs.Text.{Text, put, without}
+use Rattle.casa_filing.specs.Text.{Text, without}
 use Rattle.casa_flight.specs.Listing.{Listing, stance_of}
 use Rattle.casa_flight.specs.Entry.{with_competitor}
 use Rattle.casa_flight.specs.Good.{AreInOrder}

@@ -1,6 +1,6 @@
 //! What each regulation costs.
 
-ghost use Rattle.std.specs.Prelude.{◌≡◌, ◌+◌, ◌^◌, [], filter, max};
+ghost use Rattle.std.specs.Prelude.{◌≡◌, ◌≤◌, ◌+◌, ◌^◌, [], filter, max, IfNone, IfSome};
 ghost use Rattle.std.specs.List.{sum_by};
 ghost use Rattle.casa_inquiry.specs.Summary.{AreAtMost, cost, count, cost_of, cost_of_all, delay, governed_delays, governs, greatest, is_forced, is_governed, is_issued, is_over, issues, mean_delay, total_delay};
 
@@ -36,16 +36,18 @@ impl Cost {
         cost
     }
 
-    /// What several regulations cost together, by their lists and the sum of the delays of all flights that they govern.
-    pub fn of_all(lists: &[ListReply], delay: u128) -> Cost
-        requires { delay ≡ total_delay lists.now }
-        ensures { result ≡ cost_of_all lists.now }
+    /// What several regulations cost together, by their lists. `None` where the delays of all flights that they govern, added
+    /// up, do not fit in 128 bits.
+    pub fn of_all(lists: &[ListReply]) -> Option<Cost>
+        ensures some { IfSome result (λ cost. cost ≡ cost_of_all lists.now) }
+        ensures none { IfNone result (2 ^ 128 ≤ total_delay lists.now) }
     {
-        let mut cost = Cost::nothing(delay);
+        let mut cost = Cost::nothing(0);
         for list in lists {
             cost.count(list);
+            cost.delay = cost.delay.checked_add(delay_in(list.rows.as_slice()))?;
         }
-        cost
+        Some(cost)
     }
 
     /// The mean delay of the governed flights, rounded down to whole seconds; `None` where there is no such flight.

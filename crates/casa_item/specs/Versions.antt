@@ -45,17 +45,6 @@ content_as the_catalogue v = regulations (option_map_or regulations_of v [])
 content_as (a_row key) v = row_or_none (option_and_then row_of v)
 content_as (a_list id) v = list_or_none (option_and_then list_of v)
 
--- inner: an item's name, and what the item contains
-abbrev pub name_of : Item → ItemName
-name_of (Clock at) = the_clock
-name_of (Catalogue all) = the_catalogue
-name_of (RowOf key row) = a_row key
-name_of (ListOf id list) = a_list id
-
--- inner: what the item contains, as under its name
-abbrev pub content_of : Item → Content
-content_of item = content_as (name_of item) (Some item)
-
 -- the versions of all items of a board
 pub record Versions (V : Type 0) : Type 0 where
   pub clock : V

@@ -18,9 +18,9 @@ ghost use Rattle.casa_keeper.specs.declared.recovery.RecoveryFault.TheVariants.{
 
 use crate::recovery::{RecoveryFault, replay};
 use crate::shared::SharedJournal;
-use casa_commit::World;
+use casa_commit::{Gate, World};
 use casa_day::Script;
-use casa_engine::{DeskPass, Engine, EngineName, Gate};
+use casa_engine::{DeskPass, Engine, EngineName};
 use casa_flight::{Call, Reply};
 use casa_tape::{Tape, look, mend};
 use casa_view::{Board, Store};

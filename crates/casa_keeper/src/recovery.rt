@@ -14,9 +14,9 @@ ghost use Rattle.casa_day.specs.Refusals.{IsRefused, IsRefusedAt};
 ghost use Rattle.casa_keeper.specs.declared.recovery.RecoveryFault.TheVariants.{NotSetAside, Refused};
 ghost use Rattle.casa_keeper.specs.Recoveries.{IfRefused};
 
-use casa_commit::World;
+use casa_commit::{Gate, World};
 use casa_day::{OpenFault, Script};
-use casa_engine::{DeskPass, Engine, EngineName, Gate};
+use casa_engine::{DeskPass, Engine, EngineName};
 use casa_flight::{Call, Reply};
 use casa_tape::{TapeError, first_line};
 use casa_view::{Board, Store};

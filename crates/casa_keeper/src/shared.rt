@@ -7,8 +7,9 @@ ghost use Rattle.casa_day.specs.Scripts.{Say};
 ghost use Rattle.casa_keeper.specs.Keepings.{Has};
 
 use crate::synced::Synced;
+use casa_commit::Gate;
 use casa_day::{Script, text_of};
-use casa_engine::{Engine, EngineName, Gate};
+use casa_engine::{Engine, EngineName};
 use casa_flight::{Call, Reply};
 use casa_front::{Front, Named};
 use casa_tape::{Tape, append};

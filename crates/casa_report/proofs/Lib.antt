@@ -1,4 +1,4 @@
-pub mod Written
+pub mod Lines
 pub mod Joined
 pub mod Parts
 pub mod Bars

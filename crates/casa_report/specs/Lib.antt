@@ -1,5 +1,3 @@
-pub mod Faults
-pub mod Writing
 pub mod Heading
 pub mod Columns
 pub mod Table

@@ -3,10 +3,12 @@ use Rattle.std.specs.Prelude.{ℕ, ◌-◌, ◌*◌, ◌≤◌, List, [], ◌∷
 use Rattle.std.specs.List.{flat_map, join_with_byte}
 use Rattle.std.specs.Option.{option_map_or}
 use Rattle.std.specs.Int.{div_ceil}
+use Rattle.jiff_core.specs.declared.civil.date.Date.{Date}
 use Rattle.casa_time.specs.Hhmm.{hhmm}
 use Rattle.casa_filing.specs.Text.{Text}
 use Rattle.casa_inquiry.specs.declared.load.Step.{Step}
 use Rattle.casa_report.specs.Columns.{Column, left, right, shown_line, titles}
+use Rattle.casa_report.specs.Heading.{heading_line}
 
 -- a bar of so many characters, and a line behind so many: what is behind the line is over capacity
 abbrev pub bar : ℕ → ℕ → ℕ → Text
@@ -66,3 +68,7 @@ sums_line flights slots =
 abbrev pub load_table : List Step → ℕ → ℕ → Text
 load_table steps flights slots =
     titles (columns (each_of steps)) ++ (flat_map (step_lines (each_of steps)) steps ++ sums_line flights slots)
+
+-- the heading with the regulation and the day, and below it that table
+abbrev pub load_text : Text → Date → List Step → ℕ → ℕ → Text
+load_text reg day steps flights slots = heading_line reg day ++ load_table steps flights slots

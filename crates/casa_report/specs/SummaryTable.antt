@@ -45,9 +45,8 @@ regulation_line list =
     cost_line (record { reg = list.reg; loc = list.loc; start = hhmm list.start; end = hhmm list.end; cost = cost_of list })
 
 -- the line of all regulations together, which no regulation is named as
-abbrev pub totals_line : List ListReply → Text
-totals_line lists =
-    cost_line (record { reg = codes "all"; loc = codes "-"; start = codes "-"; end = codes "-"; cost = cost_of_all lists })
+abbrev pub totals_line : Cost → Text
+totals_line cost = cost_line (record { reg = codes "all"; loc = codes "-"; start = codes "-"; end = codes "-"; cost = cost })
 
 -- the line above the table: the day
 abbrev pub day_line : Date → Text
@@ -55,4 +54,8 @@ day_line day = codes "CASA " ++ (date_text day ++ 10 ∷ [])
 
 -- the header, a line for each regulation, and the totals
 abbrev pub summary_table : List ListReply → Text
-summary_table lists = cost_header ++ (flat_map regulation_line lists ++ totals_line lists)
+summary_table lists = cost_header ++ (flat_map regulation_line lists ++ totals_line (cost_of_all lists))
+
+-- the heading with the day, and below it that table
+abbrev pub summary_text : Date → List ListReply → Text
+summary_text day lists = day_line day ++ summary_table lists

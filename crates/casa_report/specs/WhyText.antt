@@ -1,5 +1,5 @@
 -- to believe: why a flight waits, as a text
-use Rattle.std.specs.Prelude.{ℕ, List, [], ◌∷◌, ◌++◌, length, ◌==◌, Bool, true, false, codes, decimal, Option, None, Some, unwrap_or, if◌then◌else◌}
+use Rattle.std.specs.Prelude.{List, [], ◌∷◌, ◌++◌, length, ◌==◌, Bool, true, false, codes, decimal, Option, unwrap_or, if◌then◌else◌}
 use Rattle.std.specs.List.{flat_map}
 use Rattle.std.specs.Option.{option_map_or}
 use Rattle.jiff_core.specs.declared.civil.date.Date.{Date}

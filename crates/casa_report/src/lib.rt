@@ -1,19 +1,16 @@
-//! A regulation's list as a table, for a flow manager to read.
+//! What a flow manager reads: a regulation's list, demand and capacity, what regulations cost, and why a flight waits.
 //!
-//! A report is a heading, which `heading` writes, and below it the table that `list_table` writes.
+//! Each is a text that is made whole, to be written at once.
 #![tactic(auto)]
 
 mod columns;
-mod fault;
 mod heading_line;
 mod load;
 mod summary;
 mod table;
 mod why;
 
-pub use fault::ReportFault;
-pub use heading_line::heading;
-pub use load::load_table;
-pub use summary::{day_heading, summary_table};
-pub use table::list_table;
+pub use load::load_text;
+pub use summary::summary_text;
+pub use table::{list_table, report_text};
 pub use why::why_text;

@@ -1,20 +1,19 @@
 //! Demand and capacity of a regulation as a table with bars.
 
-ghost use Rattle.std.specs.Prelude.{◌≡◌, ◌+◌, ◌*◌, ◌<◌, ◌≤◌, [], ◌∷◌, ◌++◌, IfErr, OnErr, OnOk};
+ghost use Rattle.std.specs.Prelude.{◌≡◌, ◌+◌, ◌*◌, ◌<◌, ◌≤◌, [], ◌∷◌, ◌++◌, IfOk, OnOk};
 ghost use Rattle.std.specs.Int.{div_ceil};
-ghost use Rattle.std.specs.Io.KnownBytes.{Appends};
 ghost use Rattle.arrayvec.specs.ArrayVec.{array_vec_len};
 ghost use Rattle.casa_report.specs.Columns.{left, titles};
-ghost use Rattle.casa_report.specs.LoadTable.{bar, calculated_line, columns, each_of, greatest, IsShort, load_table, longest_bar, planned_line, step_lines, sums_line, time_text};
-ghost use Rattle.casa_report.specs.Writing.{IsCutOff};
+ghost use Rattle.casa_report.specs.LoadTable.{bar, calculated_line, columns, each_of, greatest, IsShort, load_table, load_text, longest_bar, planned_line, step_lines, sums_line, time_text};
 
 use crate::columns::{push_left, push_number, push_repeated, push_text, push_time};
-use crate::fault::ReportFault;
+use crate::heading_line::heading_line;
 use arrayvec::ArrayVec;
+use casa_flight::RegId;
 use casa_inquiry::{Load, Step};
-use casa_output::send;
 use casa_time::Moment;
-use std::io::Write;
+use jiff::civil::Date;
+use std::alloc::{AllocError, Global};
 
 /// The most characters of a bar beside its line for the slots.
 const LONGEST_BAR: usize = 44;
@@ -23,25 +22,33 @@ const LONGEST_BAR: usize = 44;
 /// are wider than their columns.
 type Lines = ArrayVec<u8, 320>;
 
-/// Writes a line of titles, two lines for each step with the figures and their bars, and the sums. It takes no memory.
+/// Demand and capacity of a regulation as a text: a heading with the regulation and the day, a line of titles, two lines for
+/// each step with the figures and their bars, and the sums.
 ///
-/// `WriteFailed` where the writer fails or takes no byte before it has the whole table; it then has the beginning of the
-/// table.
-pub fn load_table<W: Write>(load: &Load, writer: &mut W) -> Result<(), ReportFault>
-    ensures ok { OnOk result (Appends (W.contents writer.old) (W.contents writer.new)
-        (load_table load.now.steps.items load.now.flights load.now.slots)) }
-    ensures fault { IfErr result (λ fault. fault ≡ ReportFault.WriteFailed) }
-    ensures cut_off { OnErr result (IsCutOff (W.contents writer.old) (W.contents writer.new)
-        (load_table load.now.steps.items load.now.flights load.now.slots)) }
+/// `AllocError` where there is no memory for it.
+pub fn load_text(alloc: Global, day: Date, reg: &RegId, load: &Load) -> Result<Vec<u8>, AllocError>
+    ensures { IfOk result (λ text. text.items
+        ≡ load_text reg.now day load.now.steps.items load.now.flights load.now.slots) }
+{
+    let mut text = Vec::new(alloc);
+    let heading = heading_line(alloc, day, reg)?;
+    text.extend_from_slice(heading.as_bytes())?;
+    push_table(load, &mut text)?;
+    Ok(text)
+}
+
+/// Appends the table.
+fn push_table(load: &Load, text: &mut Vec<u8>) -> Result<(), AllocError>
+    ensures { OnOk result (text.new.items ≡ text.old.items
+        ++ load_table load.now.steps.items load.now.flights load.now.slots) }
 {
     let steps = load.steps.as_slice();
     let each = each_of(steps);
-    send(writer, header(each).as_slice(), 0)?;
+    text.extend_from_slice(header(each).as_slice())?;
     'steps: for step in steps {
-        send(writer, step_lines(each, step).as_slice(), 0)?;
+        text.extend_from_slice(step_lines(each, step).as_slice())?;
     }
-    send(writer, sums_line(load.flights, load.slots).as_slice(), 0)?;
-    Ok(())
+    text.extend_from_slice(sums_line(load.flights, load.slots).as_slice())
 }
 
 /// For how many flights a character stands in the bars of these steps.

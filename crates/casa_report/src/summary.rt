@@ -1,22 +1,16 @@
 //! What each regulation costs, as a table, and what all cost together.
 
-ghost use Rattle.std.specs.Prelude.{◌≡◌, ◌+◌, ◌≤◌, ◌++◌, IfErr, IfOk, OnErr, OnOk, length, string_bytes};
-ghost use Rattle.std.specs.Io.KnownBytes.{Appends};
+ghost use Rattle.std.specs.Prelude.{◌≡◌, ◌+◌, ◌≤◌, ◌++◌, IfOk, OnOk, length, string_bytes};
 ghost use Rattle.arrayvec.specs.ArrayVec.{array_vec_len};
-ghost use Rattle.casa_inquiry.specs.Summary.{total_delay};
-ghost use Rattle.casa_report.specs.SummaryTable.{cost_header, cost_line, day_line, regulation_line, summary_table, totals_line};
-ghost use Rattle.casa_report.specs.Writing.{IsCutOff};
+ghost use Rattle.casa_report.specs.SummaryTable.{cost_header, cost_line, day_line, regulation_line, summary_table, summary_text, totals_line};
 
 use crate::columns::{push_left, push_number, push_number_or_hyphen};
-use crate::fault::ReportFault;
 use arrayvec::ArrayVec;
 use casa_flight::ListReply;
 use casa_inquiry::Cost;
-use casa_output::send;
 use casa_time::hhmm;
 use jiff::civil::Date;
 use std::alloc::{AllocError, Global};
-use std::io::Write;
 
 /// The line above the regulations.
 const HEADER: &[u8] =
@@ -26,18 +20,18 @@ const HEADER: &[u8] =
 /// end the columns.
 type Line = ArrayVec<u8, 360>;
 
-/// Writes the line above a summary, as `CASA 2025-06-01`. Its faults are those of `heading`.
-pub fn day_heading<W: Write>(alloc: Global, day: Date, writer: &mut W) -> Result<(), ReportFault>
-    ensures ok { OnOk result (Appends (W.contents writer.old) (W.contents writer.new)
-        (day_line day)) }
-    ensures cut_off { IfErr result (λ fault. fault ≡ ReportFault.WriteFailed →
-        IsCutOff (W.contents writer.old) (W.contents writer.new) (day_line day)) }
-    ensures no_memory { IfErr result (λ fault. fault ≡ ReportFault.NoMemory →
-        W.contents writer.new ≡ W.contents writer.old) }
+/// What regulations cost, by their lists, as a text: a heading with the day, as `CASA 2025-06-01`, a line of titles, a line
+/// for each regulation, and a line for all together.
+///
+/// `AllocError` where there is no memory for it, or where the delays of all flights, added up, do not fit in 128 bits.
+pub fn summary_text(alloc: Global, day: Date, lists: &[ListReply]) -> Result<Vec<u8>, AllocError>
+    ensures { IfOk result (λ text. text.items ≡ summary_text day lists.now) }
 {
-    let line = day_line(alloc, day)?;
-    send(writer, line.as_bytes(), 0)?;
-    Ok(())
+    let mut text = Vec::new(alloc);
+    let heading = day_line(alloc, day)?;
+    text.extend_from_slice(heading.as_bytes())?;
+    push_table(lists, &mut text)?;
+    Ok(text)
 }
 
 /// The line above a summary.
@@ -47,28 +41,18 @@ fn day_line(alloc: Global, day: Date) -> Result<String, AllocError>
     format!(in alloc; "CASA {day}\n")
 }
 
-/// Writes a line of titles, a line for each regulation by its list, and a line for all together, whose delay is this sum,
-/// in seconds, of the delays of all flights that they govern. It takes no memory.
-///
-/// `WriteFailed` where the writer fails or takes no byte before it has the whole table; it then has the beginning of the
-/// table.
-pub fn summary_table<W: Write>(
-    lists: &[ListReply],
-    delay: u128,
-    writer: &mut W,
-) -> Result<(), ReportFault>
-    requires { delay ≡ total_delay lists.now }
-    ensures ok { OnOk result
-        (Appends (W.contents writer.old) (W.contents writer.new) (summary_table lists.now)) }
-    ensures fault { IfErr result (λ fault. fault ≡ ReportFault.WriteFailed) }
-    ensures cut_off { OnErr result
-        (IsCutOff (W.contents writer.old) (W.contents writer.new) (summary_table lists.now)) }
+/// Appends the table.
+fn push_table(lists: &[ListReply], text: &mut Vec<u8>) -> Result<(), AllocError>
+    ensures { OnOk result (text.new.items ≡ text.old.items ++ summary_table lists.now) }
 {
-    send(writer, HEADER, 0)?;
-    'lists: for list in lists {
-        send(writer, regulation_line(list).as_slice(), 0)?;
+    text.extend_from_slice(HEADER)?;
+    for list in lists {
+        text.extend_from_slice(regulation_line(list).as_slice())?;
     }
-    send(writer, totals_line(lists, delay).as_slice(), 0)?;
+    let Some(cost) = Cost::of_all(lists) else {
+        return Err(AllocError);
+    };
+    text.extend_from_slice(totals_line(&cost).as_slice())?;
     Ok(())
 }
 
@@ -87,12 +71,11 @@ fn regulation_line(list: &ListReply) -> Line
     )
 }
 
-/// The line of all regulations together.
-fn totals_line(lists: &[ListReply], delay: u128) -> Line
-    requires { delay ≡ total_delay lists.now }
-    ensures { result.items ≡ totals_line lists.now }
+/// The line of all regulations together, by what they cost.
+fn totals_line(cost: &Cost) -> Line
+    ensures { result.items ≡ totals_line cost.now }
 {
-    cost_line(b"all", b"-", b"-", b"-", &Cost::of_all(lists, delay))
+    cost_line(b"all", b"-", b"-", b"-", cost)
 }
 
 /// The line with these texts in its first columns, and a cost in the others.

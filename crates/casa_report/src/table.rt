@@ -1,16 +1,14 @@
-ghost use Rattle.std.specs.Prelude.{◌≡◌, ◌+◌, ◌≤◌, [], ◌∷◌, ◌++◌, All, IfErr, OnErr, OnOk};
-ghost use Rattle.std.specs.Io.KnownBytes.{Appends};
+ghost use Rattle.std.specs.Prelude.{◌≡◌, ◌+◌, ◌≤◌, [], ◌∷◌, ◌++◌, All, IfOk, OnOk};
 ghost use Rattle.arrayvec.specs.ArrayVec.{array_vec_len};
 ghost use Rattle.casa_report.specs.Columns.{left};
-ghost use Rattle.casa_report.specs.Table.{header, kind_text, row_line, table};
-ghost use Rattle.casa_report.specs.Writing.{IsCutOff};
+ghost use Rattle.casa_report.specs.Table.{header, kind_text, report_text, row_line, table};
 
 use crate::columns::{push_left, push_name, push_number, push_number_or_hyphen, push_time};
-use crate::fault::ReportFault;
+use crate::heading_line::heading_line;
 use arrayvec::ArrayVec;
-use casa_flight::{Kind, ListReply, ListRow};
-use casa_output::send;
-use std::io::Write;
+use casa_flight::{Kind, ListReply, ListRow, RegId};
+use jiff::civil::Date;
+use std::alloc::{AllocError, Global};
 
 /// The line above the rows.
 const HEADER: &[u8] = b"KEY        ETO  CTO   DELAY KIND    SLOT\n";
@@ -19,21 +17,37 @@ const HEADER: &[u8] = b"KEY        ETO  CTO   DELAY KIND    SLOT\n";
 /// that end the columns.
 type Line = ArrayVec<u8, 112>;
 
-/// Writes a line of titles and a line for each row of the list, in the list's order. It takes no memory.
+/// A regulation's list as a text: a heading with the regulation and the day, as `CASA R1 2025-06-01`, and below it the table
+/// that `list_table` appends. Each row's calculated time over must not be before its estimated time over.
 ///
-/// Each row's calculated time over must not be before its estimated time over. `WriteFailed` where the writer fails
-/// or takes no byte before it has the whole table; it then has the beginning of the table.
-pub fn list_table<W: Write>(list: &ListReply, writer: &mut W) -> Result<(), ReportFault>
+/// `AllocError` where there is no memory for the text.
+pub fn report_text(
+    alloc: Global,
+    day: Date,
+    reg: &RegId,
+    list: &ListReply,
+) -> Result<Vec<u8>, AllocError>
     requires { All (λ row. row.eto ≤ row.cto) list.now.rows }
-    ensures ok { OnOk result
-        (Appends (W.contents writer.old) (W.contents writer.new) (table list.now.rows)) }
-    ensures fault { IfErr result (λ fault. fault ≡ ReportFault.WriteFailed) }
-    ensures cut_off { OnErr result
-        (IsCutOff (W.contents writer.old) (W.contents writer.new) (table list.now.rows)) }
+    ensures { IfOk result (λ text. text.items ≡ report_text reg.now day list.now) }
 {
-    send(writer, HEADER, 0)?;
-    'rows: for row in list.rows.as_slice() {
-        send(writer, row_line(row).as_slice(), 0)?;
+    let mut text = Vec::new(alloc);
+    let heading = heading_line(alloc, day, reg)?;
+    text.extend_from_slice(heading.as_bytes())?;
+    list_table(list, &mut text)?;
+    Ok(text)
+}
+
+/// Appends a line of titles and a line for each row of the list, in the list's order. Each row's calculated time over must
+/// not be before its estimated time over.
+///
+/// `AllocError` where the text has no room for them and there is no memory for more.
+pub fn list_table(list: &ListReply, text: &mut Vec<u8>) -> Result<(), AllocError>
+    requires { All (λ row. row.eto ≤ row.cto) list.now.rows }
+    ensures { OnOk result (text.new.items ≡ text.old.items ++ table list.now.rows) }
+{
+    text.extend_from_slice(HEADER)?;
+    for row in list.rows.as_slice() {
+        text.extend_from_slice(row_line(row).as_slice())?;
     }
     Ok(())
 }

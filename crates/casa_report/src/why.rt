@@ -1,25 +1,20 @@
 //! Why a flight waits, as a text.
 
-ghost use Rattle.std.specs.Prelude.{◌≡◌, ◌+◌, ◌≤◌, ◌++◌, IfErr, IfOk, OnOk, Some, length};
-ghost use Rattle.std.specs.Io.KnownBytes.{Appends};
+ghost use Rattle.std.specs.Prelude.{◌≡◌, ◌+◌, ◌≤◌, ◌++◌, IfOk, OnOk, Some, length};
 ghost use Rattle.arrayvec.specs.ArrayVec.{array_vec_len};
 ghost use Rattle.casa_report.specs.Columns.{shown_line};
 ghost use Rattle.casa_report.specs.WhyText.{flight_columns, holder_text, holding_columns, offer_columns};
 ghost use Rattle.casa_report.specs.WhyText.{rule_line, rule_text, section, stance_text, why_text, yes_or_no};
-ghost use Rattle.casa_report.specs.Writing.{IsCutOff};
 
 use crate::columns::{push_left, push_name, push_number, push_text, push_time};
-use crate::fault::ReportFault;
 use crate::heading_line::heading_line;
 use arrayvec::ArrayVec;
 use casa_flight::{FlightReply, Offer, RegId, Stance};
 use casa_inquiry::{Holding, Reasons, Rule};
 use casa_list::Member;
-use casa_output::send;
 use casa_time::hhmm;
 use jiff::civil::Date;
 use std::alloc::{AllocError, Global};
-use std::io::Write;
 
 /// The titles above the flight.
 const FLIGHT: &[u8] = b"EOBT ETOT CTOT  DELAY EXEMPT ISSUED REG\n";
@@ -33,32 +28,12 @@ const HOLDINGS: &[u8] = b"\n SLOT BEGIN KEY        ETO  HELD\n";
 /// A line; none is longer.
 type Line = ArrayVec<u8, 120>;
 
-/// Writes why a flight waits: a heading with its key and the day, the flight as it stands, the rule by which a regulation
+/// Why a flight waits, as a text: a heading with its key and the day, the flight as it stands, the rule by which a regulation
 /// governs it, what each regulation offers it, and who holds each slot from the one that it asks for to the one that it
 /// has. Times are hours and minutes, delays seconds.
 ///
-/// `NoMemory` where there is none for the text, and then nothing is written. `WriteFailed` where the writer fails or takes
-/// no byte before it has the whole text; it then has the beginning of it.
-pub fn why_text<W: Write>(
-    alloc: Global,
-    day: Date,
-    why: &Reasons,
-    writer: &mut W,
-) -> Result<(), ReportFault>
-    ensures ok { OnOk result
-        (Appends (W.contents writer.old) (W.contents writer.new) (why_text day why.now)) }
-    ensures cut_off { IfErr result (λ fault. fault ≡ ReportFault.WriteFailed →
-        IsCutOff (W.contents writer.old) (W.contents writer.new) (why_text day why.now)) }
-    ensures no_memory { IfErr result (λ fault. fault ≡ ReportFault.NoMemory →
-        W.contents writer.new ≡ W.contents writer.old) }
-{
-    let text = text_of(alloc, day, why)?;
-    send(writer, text.as_slice(), 0)?;
-    Ok(())
-}
-
-/// The text.
-fn text_of(alloc: Global, day: Date, why: &Reasons) -> Result<Vec<u8>, AllocError>
+/// `AllocError` where there is no memory for it.
+pub fn why_text(alloc: Global, day: Date, why: &Reasons) -> Result<Vec<u8>, AllocError>
     ensures { IfOk result (λ text. text.items ≡ why_text day why.now) }
 {
     let mut text = Vec::new(alloc);

@@ -18,7 +18,7 @@ use Rattle.casa_engine.specs.declared.pass.CountedPass.{CountedPass}
 use Rattle.casa_engine.specs.Fronts.{front_of}
 use Rattle.casa_engine.specs.Passes.{pass_of}
 use Rattle.casa_engine.proofs.Seeing.{begins_itself, begins_more}
-use Rattle.casa_desk.specs.Receipts.{Receipts}
+use Rattle.casa_session.specs.Receipts.{Receipts}
 use Rattle.casa_server.specs.declared.seat.Sat.{Sat}
 use Rattle.casa_server.specs.declared.staying.Stayed.{Stayed}
 use Rattle.casa_server.specs.Seats.{most_connections, Visit, connections_in, Answers, AnswersInTurn, HasSat, HasStayed, HaveSat}

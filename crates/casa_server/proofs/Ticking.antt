@@ -7,7 +7,7 @@ use Rattle.casa_flight.specs.declared.call.Call.{Call}
 use Rattle.casa_flight.specs.declared.call.Call.TheVariants.{Tick}
 use Rattle.casa_flight.specs.declared.reply.Reply.{Reply}
 use Rattle.casa_history.specs.declared.entry.Receipt.{Receipt}
-use Rattle.casa_desk.specs.Receipts.{Receipts}
+use Rattle.casa_session.specs.Receipts.{Receipts}
 use Rattle.std.specs.Prelude.{Option, Result, Ok, Err, IfOk}
 use mathlib.Core.List.{IsPrefix}
 use Rattle.casa_history.specs.declared.entry.Entry.{Entry}

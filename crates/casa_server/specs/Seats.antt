@@ -12,7 +12,7 @@ use Rattle.casa_front.specs.declared.rule.Named.{Ghosts as NamedOf}
 use Rattle.casa_engine.specs.declared.pass.CountedPass.{CountedPass}
 use Rattle.casa_engine.specs.Fronts.{front_of}
 use Rattle.casa_engine.specs.Passes.{pass_of}
-use Rattle.casa_desk.specs.Receipts.{Receipts}
+use Rattle.casa_session.specs.Receipts.{Receipts}
 use Rattle.casa_session.specs.declared.fault.SessionFault.{SessionFault}
 use Rattle.casa_session.specs.Transcript.{Ends}
 use Rattle.casa_server.specs.declared.seat.Sat.{Sat}

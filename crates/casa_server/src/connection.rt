@@ -4,8 +4,8 @@ ghost use Rattle.casa_engine.specs.Passes.{pass_of};
 ghost use Rattle.casa_session.specs.Transcript.{Ends};
 ghost use Rattle.casa_server.specs.Serving.{IsSession};
 
-use casa_commit::World;
-use casa_engine::{DeskPass, Engine, EngineDesk, EngineName, Gate};
+use casa_commit::{Gate, World};
+use casa_engine::{DeskPass, Engine, EngineDesk, EngineName};
 use casa_flight::{Call, Reply};
 use casa_front::Front;
 use casa_history::Holds;

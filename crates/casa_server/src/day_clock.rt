@@ -5,11 +5,10 @@ ghost use Rattle.casa_history.specs.declared.entry.Entry.{Entry};
 ghost use Rattle.casa_server.specs.Ticks.{IsTicked, ClockGives, Ticked, TicksTo};
 
 use crate::fault::TimerFault;
-use casa_commit::World;
-use casa_engine::{Engine, EngineDesk, EngineName, Gate};
+use casa_commit::{Desk, Gate, World};
+use casa_engine::{Engine, EngineDesk, EngineName};
 use casa_flight::{Call, Reply};
 use casa_front::Front;
-use casa_session::Desk;
 use casa_time::Moment;
 use casa_view::{Board, Store};
 use std::alloc::Global;
@@ -69,7 +68,7 @@ pub(crate) fn timer_seen<K: Store, L: EngineName, G: Gate<Board<K>>, C: DayClock
 ///
 /// `NoDesk` where the desk is none of its allocator's, `NoMemory` where there is none for a tick. The ticks that were
 /// accepted before a fault stand.
-pub fn keep_time<C: DayClock, D: Desk>(
+pub fn keep_time<C: DayClock, D: Desk<Call = Call, Reply = Reply>>(
     alloc: Global,
     clock: &mut C,
     desk: &mut D,
@@ -90,7 +89,11 @@ pub fn keep_time<C: DayClock, D: Desk>(
 }
 
 /// Ticks to a moment. Whether the tick was accepted.
-fn tick<D: Desk>(alloc: Global, desk: &mut D, at: Moment) -> Result<bool, TimerFault>
+fn tick<D: Desk<Call = Call, Reply = Reply>>(
+    alloc: Global,
+    desk: &mut D,
+    at: Moment,
+) -> Result<bool, TimerFault>
     ensures { IfOk result (λ is_accepted. TicksTo at (D.answered desk.old)
         (D.answered desk.new) is_accepted) }
 {

@@ -1,15 +1,25 @@
-//! Tests of casa_server over the loopback, through what is public of it.
+//! Tests of casa_engine, and of casa_server over the loopback, through what is public of them.
 //!
-//! They stand in a crate of their own, so that casa_server is proved once. Each is a scene on an engine with a new ledger.
+//! They stand in a crate of their own, so that both are proved once. Each scene is on an engine with a new ledger.
 #![tactic(auto)]
 
 #[cfg(test)]
 mod clients;
 #[cfg(test)]
+mod engines;
+#[cfg(test)]
+mod lists;
+#[cfg(test)]
 mod lost;
 #[cfg(test)]
 mod memory;
 #[cfg(test)]
+mod played;
+#[cfg(test)]
 mod serving;
 #[cfg(test)]
 mod staying;
+#[cfg(test)]
+mod told;
+#[cfg(test)]
+mod watched;

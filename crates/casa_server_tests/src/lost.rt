@@ -5,10 +5,13 @@ ghost use Rattle.std.specs.Arc.{arc_value};
 ghost use Rattle.casa_front.specs.Openings.{history_name};
 ghost use Rattle.casa_engine.specs.Ledgers.{IsBlankOf};
 
-use crate::clients::{FILING, OPENING};
-use casa_engine::{Blank, DeskPass, Direct, Engine, EngineDesk, EngineName, blank};
+use crate::clients::{FILING, OPENING, SHOWING};
+use casa_commit::Desk;
+use casa_engine::{Blank, DeskPass, Engine, EngineDesk, EngineName, blank};
+use casa_flight::{Call, Reply};
 use casa_history::{Settled, Torn};
-use casa_session::{Desk, SessionFault, run};
+use casa_plan::Direct;
+use casa_session::{SessionFault, run};
 use casa_shelf::{Seals, Shelf, Shelving};
 use casa_view::Store;
 use std::alloc::Global;
@@ -33,20 +36,26 @@ impl Write for Lost {
 }
 
 /// How a desk's session ends whose first reply can't be written.
-fn lose<D: Desk>(alloc: Global, desk: &mut D, lines: &str) -> Result<u64, SessionFault> {
+fn lose<D: Desk<Call = Call, Reply = Reply>>(
+    alloc: Global,
+    desk: &mut D,
+    lines: &str,
+) -> Result<u64, SessionFault> {
     let (mut input, mut output) = (lines.as_bytes(), Lost);
     run(alloc, &mut input, &mut output, desk)
 }
 
 /// Whether a desk answers a line with this reply.
-fn answers<D: Desk>(alloc: Global, desk: &mut D, line: &str, reply: &str) -> bool {
+fn answers<D: Desk<Call = Call, Reply = Reply>>(
+    alloc: Global,
+    desk: &mut D,
+    line: &str,
+    reply: &str,
+) -> bool {
     let (mut input, mut output) = (line.as_bytes(), Vec::new(alloc));
     let ended = run(alloc, &mut input, &mut output, desk);
     ended == Ok(1) && output.as_slice() == reply.as_bytes()
 }
-
-const ASKING: &str = r#"{"cmd":"show","key":"A"}
-"#;
 
 /// The flight that was filed there, as the third call.
 const SHOWN: &str =
@@ -63,7 +72,7 @@ fn file_and_lose<'a, K: Store, L: EngineName, R: Wait + Abort>(
     let mut second = EngineDesk::new(engine, rt, engine.desk(rt).expect(rt, "a desk"));
     assert!(rt; answers(alloc, &mut first, OPENING.sent, OPENING.reply));
     assert!(rt; lose(alloc, &mut second, FILING.sent) == Err(SessionFault::WriteFailed(0)));
-    assert!(rt; answers(alloc, &mut first, ASKING, SHOWN));
+    assert!(rt; answers(alloc, &mut first, SHOWING.sent, SHOWN));
     first.into_pass()
 }
 

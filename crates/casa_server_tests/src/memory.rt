@@ -6,7 +6,8 @@ ghost use Rattle.casa_front.specs.Openings.{history_name};
 ghost use Rattle.casa_engine.specs.Ledgers.{IsBlankOf};
 
 use crate::clients::OPENING;
-use casa_engine::{Audit, Blank, Direct, Engine, EngineName, blank};
+use casa_engine::{Audit, Blank, Engine, EngineName, blank};
+use casa_plan::Direct;
 use casa_server::{Connections, ServeFault, Served, serve};
 use casa_shelf::{Seals, Shelf, Shelving};
 use casa_view::{Copies, Store};

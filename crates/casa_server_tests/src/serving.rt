@@ -8,7 +8,8 @@ ghost use Rattle.casa_engine.specs.Ledgers.{IsBlankOf};
 use crate::clients::{
     FILING, HALF_A_LINE, LISTING, NOTHING, OPENING, SHOWING, Talk, connect, talk_in_turn, visit,
 };
-use casa_engine::{Blank, Direct, Engine, EngineName, blank};
+use casa_engine::{Blank, Engine, EngineName, blank};
+use casa_plan::Direct;
 use casa_server::{DayClock, ServeFault, Served, TimerFault, serve, timer};
 use casa_shelf::{Seals, Shelf, Shelving};
 use casa_time::Moment;

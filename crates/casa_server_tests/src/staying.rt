@@ -6,7 +6,8 @@ ghost use Rattle.casa_engine.specs.Ledgers.{IsBlankOf};
 
 use crate::clients::{HALF_A_LINE, OPENING};
 use crate::memory::Sent;
-use casa_engine::{Audit, Blank, Direct, Engine, EngineName, blank};
+use casa_engine::{Audit, Blank, Engine, EngineName, blank};
+use casa_plan::Direct;
 use casa_server::{Guarded, Sat, SeatFault, Stayed, TimerFault, Watcher, stay};
 use casa_session::SessionFault;
 use casa_view::{Copies, Store};

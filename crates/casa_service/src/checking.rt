@@ -2,11 +2,10 @@
 
 use crate::fault::{ServiceFault, Trouble};
 use crate::torn::is_torn_line;
-use casa_desk::Desk;
+use casa_commit::Desk;
 use casa_keeper::FileFault;
-use casa_output::send;
 use casa_script::{RULES, call_at, line_vouches_for};
-use casa_session::{Lone, SessionFault};
+use casa_session::{Lone, SessionFault, send};
 use casa_tape::{first_line, whole_end};
 use std::alloc::Global;
 use std::fs;

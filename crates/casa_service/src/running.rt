@@ -11,8 +11,9 @@ use crate::fault::{JournalFault, ServiceFault, Trouble};
 use crate::journal::{FileJournal, open_journal};
 use crate::log::Log;
 use casa_cli::Journal;
+use casa_commit::Gate;
 use casa_engine::{
-    Blank, DeskPass, Engine, EngineDesk, EngineName, Gate, blank, legal_histories_are_sequential,
+    Blank, DeskPass, Engine, EngineDesk, EngineName, blank, legal_histories_are_sequential,
 };
 use casa_keeper::{Held, JournalKeeper, Keeper, LastError, Unkept};
 use casa_plan::Recalling;

@@ -1,5 +1,5 @@
 -- a desk that is alone stays so
-use Rattle.std.proofs.Common.{◌≡◌, ℕ, ◌+◌, ◌<◌, List, [], ◌∷◌, ◌++◌, refl, sym, ap, subst, ◌∙◌, length, take, arith}
+use Rattle.std.proofs.Common.{◌≡◌, ◌+◌, ◌<◌, List, [], ◌∷◌, ◌++◌, sym, ap, subst, ◌∙◌, length, take, arith}
 use Rattle.std.specs.Prelude.{Result, Ok, Err, Some, IfOk, OnErr}
 use Rattle.std.specs.List.{slice_get}
 use Rattle.std.proofs.lemmas.List.{map-append}
@@ -15,7 +15,7 @@ use Rattle.casa_history.specs.Entries.{receipt, receipts_from}
 use Rattle.casa_commit.specs.declared.room.Room.{Room}
 use Rattle.casa_commit.specs.declared.world.World.{Ghosts as WorldOf}
 use Rattle.casa_commit.specs.Legal.{entry, replay}
-use Rattle.casa_commit.specs.Rooms.{entries_of, next_entry, open_desks, Extends, IsUnchanged}
+use Rattle.casa_commit.specs.Rooms.{entries_of, next_entry, Extends, IsUnchanged}
 use Rattle.casa_commit.proofs.Replays.{slice_get-pushed}
 use Rattle.casa_session.specs.Alone.{IsAlone}
 use Rattle.casa_session.specs.Played.{calls_in, only_desk, sequential_history, receipts_played, state_after}

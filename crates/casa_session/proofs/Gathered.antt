@@ -8,14 +8,14 @@ use Rattle.std.proofs.Math.Seq.{take-append-add}
 use Rattle.casa_flight.specs.declared.call.Call.{Call}
 use Rattle.casa_flight.specs.declared.reply.Reply.{Reply}
 use Rattle.casa_history.specs.declared.entry.Receipt.{Receipt}
-use Rattle.casa_output.specs.Sending.{saturating_count}
+use Rattle.casa_session.specs.Sending.{saturating_count}
 use Rattle.casa_wire.specs.declared.fault.WireFault.{WireFault}
 use Rattle.casa_wire.specs.LineTexts.{reply_line, too_long_line}
 use Rattle.casa_session.specs.declared.fault.SessionFault.{SessionFault}
 use Rattle.casa_session.specs.declared.fault.SessionFault.TheVariants.{LineTooLong, ReadFailed, WriteFailed, ForeignPass, NoMemory}
 use Rattle.casa_session.specs.declared.replies.Replies.{Replies}
 use Rattle.casa_session.specs.Replies.{CutText, IsUnwritten, Replied, TooLongEnds}
-use Rattle.casa_desk.specs.Receipts.{Receipts}
+use Rattle.casa_session.specs.Receipts.{Receipts}
 
 -- a call was answered
 pub replied_call : (a b : Receipts) (meaning : Result Call WireFault) (call : Call) (r : Receipt Call Reply) → meaning ≡ Ok call → b ≡ a ++ r ∷ [] → r.entry.call ≡ call

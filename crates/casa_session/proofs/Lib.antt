@@ -1,3 +1,4 @@
+pub mod Sent
 pub mod Parts
 pub mod Splitting
 pub mod Transcripts

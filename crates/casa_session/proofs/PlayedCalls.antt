@@ -1,6 +1,6 @@
--- the receipts that the sequential allocator gives, and how a session over them ends
-use Rattle.std.proofs.Common.{◌≡◌, ℕ, ◌+◌, ◌<◌, List, [], ◌∷◌, ◌++◌, refl, sym, ap, subst, ◌∙◌, length, take, arith, Option, None, Some, append-nil, append_assoc, inl, inr}
-use Rattle.std.specs.Prelude.{◌⊎◌, fold, Result, Ok, Err, IfSome, map}
+-- the receipts that the sequential allocator gives
+use Rattle.std.proofs.Common.{◌≡◌, ℕ, ◌+◌, List, [], ◌∷◌, ◌++◌, refl, sym, ap, subst, ◌∙◌, length, arith, Option, append-nil, append_assoc}
+use Rattle.std.specs.Prelude.{fold}
 use Rattle.std.specs.Io.KnownBytes.{Appends}
 use Rattle.std.proofs.lemmas.List.{append_cancel_left, map-append}
 use Rattle.casa_flight.specs.declared.call.Call.{Call}
@@ -13,15 +13,10 @@ use Rattle.casa_history.specs.declared.entry.Entry.{Entry}
 use Rattle.casa_history.specs.declared.entry.Receipt.{Receipt}
 use Rattle.casa_history.specs.Entries.{receipt, receipts_from}
 use Rattle.casa_commit.specs.Legal.{entry, replay_from}
-use Rattle.casa_output.specs.Sending.{saturating_count}
-use Rattle.casa_session.specs.declared.fault.SessionFault.{SessionFault}
-use Rattle.casa_session.specs.declared.fault.SessionFault.TheVariants.{LineTooLong, ReadFailed, WriteFailed, ForeignPass, NoMemory}
-use Rattle.casa_session.specs.Lines.{ended_lines, lines_of}
-use Rattle.casa_desk.specs.Receipts.{Receipts}
-use Rattle.casa_session.specs.Transcript.{AnswersLines, Cut, Stopped, calls, calls_of, transcript}
+use Rattle.casa_session.specs.Receipts.{Receipts}
+use Rattle.casa_session.specs.Transcript.{AnswersLines, calls, calls_of, transcript}
 use Rattle.casa_session.specs.Played.{calls_in, only_desk, sequential_history, receipts_after, receipts_played, state_after}
-use Rattle.casa_session.specs.Alone.{AnsweredFirst, LoneEnds, transcript_after}
-use Rattle.casa_session.proofs.Sides.{EndsAt}
+use Rattle.casa_session.specs.Alone.{transcript_after}
 
 -- one call more is one entry more
 pub played-push : (m : State) (cs : List Call) (c : Call) → sequential_history m (cs ++ c ∷ []) ≡ sequential_history m cs ++ entry only_desk c (reply (fold next m cs) c) ∷ []
@@ -71,10 +66,6 @@ calls-grown before now more whole =
     sym (calls-played empty 1 now) ∙ ap calls_of whole ∙ map-append (λ (r : Receipt Call Reply). r.entry.call) (receipts_played before) more
     ∙ ap (λ cs. cs ++ calls_of more) (calls-played empty 1 before)
 
--- so they are those of the lines, too, of which these are the receipts
-calls-lines : (before now : List Call) (rs : Receipts) (lines : List (List ℕ)) → receipts_played now ≡ receipts_played before ++ rs → calls_of rs ≡ calls lines → now ≡ before ++ calls lines
-calls-lines before now rs lines grows called = calls-grown before now rs grows ∙ ap (λ cs. before ++ cs) called
-
 -- receipts that come after those of some calls are what the sequential allocator gives after these
 given-after : (before now : List Call) (rs last : Receipts) (lines : List (List ℕ)) → receipts_played now ≡ (receipts_played before ++ rs) ++ last → calls_of rs ≡ calls lines
     → rs ≡ receipts_after before (calls lines)
@@ -87,49 +78,12 @@ given-after before now rs last lines grows called =
     let after : receipts_after before (calls_of more) ≡ more = append_cancel_left (receipts_played before) (receipts_after before (calls_of more)) more split in
     played-front (state_after before) (length before + 1) (calls_of more) rs last after ∙ ap (receipts_after before) called
 
-answered : (before now : List Call) (v w : Option (List ℕ)) (lines : List (List ℕ)) → AnswersLines (receipts_played before) (receipts_played now) v w lines → Appends v w (transcript_after before lines)
-answered before now v w lines h =
-    subst (λ rs. Appends v w (transcript rs lines))
-    (given-after before now h.receipts [] lines (h.grows ∙ sym (append-nil (receipts_played before ++ h.receipts))) h.called) h.written
-
-stopped : (before now : List Call) (v w : Option (List ℕ)) (lines left : List (List ℕ)) → Stopped (receipts_played before) (receipts_played now) v w lines left → Appends v w (transcript_after before lines)
-stopped before now v w lines left h = subst (λ rs. Appends v w (transcript rs lines)) (given-after before now h.receipts h.last lines h.grows h.called) h.written
-
-calls-stopped : (before now : List Call) (v w : Option (List ℕ)) (lines left : List (List ℕ)) → Stopped (receipts_played before) (receipts_played now) v w lines left
-    → (now ≡ before ++ calls lines) ⊎ (now ≡ before ++ (calls lines ++ calls (take 1 left)))
-calls-stopped before now v w lines left h =
-    let all : now ≡ before ++ (calls lines ++ calls_of h.last) =
-    calls-grown before now (h.receipts ++ h.last) (h.grows ∙ append_assoc (receipts_played before) h.receipts h.last)
-    ∙ ap (λ cs. before ++ cs) (map-append (λ (r : Receipt Call Reply). r.entry.call) h.receipts h.last ∙ ap (λ cs. cs ++ calls_of h.last) h.called) in
-    elim h.of_next [
-      | inl none ↦ inl (all ∙ ap (λ (rs : Receipts). before ++ (calls lines ++ calls_of rs)) none ∙ ap (λ cs. before ++ cs) (append-nil (calls lines)))
-      | inr called ↦ inr (all ∙ ap (λ cs. before ++ (calls lines ++ cs)) called)
-    ]
-
-if_some : {X : Type 0} (P Q : X → Type 0) → ((x : X) → P x → Q x) → (o : Option X) → IfSome o P → IfSome o Q
-if_some P Q f None h = tt
-if_some P Q f (Some x) h = f x h
-
-cut : (before now : List Call) (v w : Option (List ℕ)) (lines : List (List ℕ)) (n : ℕ) → Cut (receipts_played before) (receipts_played now) v w lines n →
-    (count : ℕ) × (count < length (transcript_after before lines)) × (n ≡ saturating_count count) × Appends v w (take count (transcript_after before lines))
-cut before now v w lines n h =
-    let same = given-after before now h.receipts [] lines (h.grows ∙ sym (append-nil (receipts_played before ++ h.receipts))) h.called in (
-      h.count,
-      subst (λ rs. h.count < length (transcript rs lines)) same h.within,
-      h.reported,
-      subst (λ rs. Appends v w (take h.count (transcript rs lines))) same h.written,
-    )
-
--- where the desk is alone, a session writes what the sequential allocator answers
-pub lone-ends : (before now : List Call) (result : Result ℕ SessionFault) (r s v w : Option (List ℕ)) → EndsAt ⊥ result r s (receipts_played before) (receipts_played now) v w → LoneEnds before now result r s v w
-lone-ends before now (Ok n) r s v w h =
-    if_some _ _ (λ xs p. (answered before now v w (lines_of xs) p.0, p.1, p.2, calls-lines before now p.0.receipts (lines_of xs) p.0.grows p.0.called)) r h
-lone-ends before now (Err LineTooLong) r s v w h =
-    if_some _ _ (λ xs p. (answered before now v w (lines_of xs) p.0, p.1, calls-lines before now p.0.receipts (lines_of xs) p.0.grows p.0.called)) r h
-lone-ends before now (Err ReadFailed) r s v w h =
-    (h.0, h.1, answered before now v w (ended_lines h.0) h.2, h.3, calls-lines before now h.2.receipts (ended_lines h.0) h.2.grows h.2.called)
-lone-ends before now (Err (WriteFailed n)) r s v w h =
-    if_some _ _ (λ xs p. (p.0, p.1, p.2, cut before now v w p.0 n p.3, calls-lines before now p.3.receipts p.0 p.3.grows p.3.called)) r h
-lone-ends before now (Err ForeignPass) r s v w h = absurd h.0
-lone-ends before now (Err NoMemory) r s v w h =
-    if_some _ _ (λ xs p. (p.0, p.1, p.2, p.3.short, stopped before now v w p.0 p.1 p.3, calls-stopped before now v w p.0 p.1 p.3)) r h
+-- where the desk is alone, what is written is what the sequential allocator answers, and the desk has answered the calls of the
+-- lines
+pub lone-answered : (before now : List Call) (v w : Option (List ℕ)) (lines : List (List ℕ)) → AnswersLines (receipts_played before) (receipts_played now) v w lines
+    → Appends v w (transcript_after before lines) × (now ≡ before ++ calls lines)
+lone-answered before now v w lines h = (
+  subst (λ rs. Appends v w (transcript rs lines))
+      (given-after before now h.receipts [] lines (h.grows ∙ sym (append-nil (receipts_played before ++ h.receipts))) h.called) h.written,
+  calls-grown before now h.receipts h.grows ∙ ap (λ cs. before ++ cs) h.called,
+)

@@ -1,16 +1,15 @@
 -- how far a session has come: which lines were answered, and how much of their transcript was written
-use Rattle.std.proofs.Common.{◌≡◌, ℕ, ◌+◌, ◌<◌, List, [], ◌∷◌, ◌++◌, length, take, true, false, Option, refl, sym, ap, ◌∙◌, subst, append-nil, append_assoc, length-append, arith, inl, inr}
-use Rattle.std.specs.Prelude.{Result}
+use Rattle.std.proofs.Common.{◌≡◌, ℕ, ◌+◌, List, [], ◌∷◌, ◌++◌, length, take, true, false, Option, refl, sym, ap, ◌∙◌, subst, append-nil, append_assoc, length-append, arith, inl, inr}
 use Rattle.std.specs.Io.KnownBytes.{Appends}
 use Rattle.std.proofs.KnownBytes.{Appends-nil, Appends-trans}
 use Rattle.std.proofs.Math.Seq.{take-append-add}
-use Rattle.casa_output.specs.Sending.{saturating_count}
+use Rattle.casa_session.specs.Sending.{saturating_count}
 use Rattle.casa_wire.specs.Commands.{line_call}
 use Rattle.casa_wire.specs.LineTexts.{too_long_line}
 use Rattle.casa_session.specs.declared.replies.Replies.{Replies}
 use Rattle.casa_session.specs.Lines.{is_too_long, has_too_long}
 use Rattle.casa_session.specs.Replies.{CutText, Gathers, MayReply, Replied}
-use Rattle.casa_desk.specs.Receipts.{Receipts}
+use Rattle.casa_session.specs.Receipts.{Receipts}
 use Rattle.casa_session.specs.Transcript.{calls_of, calls, transcript, AnswersLines, Cut, Stopped}
 use Rattle.casa_session.proofs.Splitting.{has_too_long-append}
 use Rattle.casa_session.proofs.Transcripts.{called-append, grown, one_call, one_line, transcript-append}

@@ -4,7 +4,7 @@ use Rattle.std.specs.Prelude.{Result, Ok, Err, IfSome, IsErr}
 use Rattle.std.specs.Result.{IsErrAnd}
 use Rattle.std.specs.Io.KnownBytes.{Appends, Consumes, IsAtEnd}
 use Rattle.std.proofs.KnownBytes.{Consumes-nil, Consumes-trans, Consumes-whole}
-use Rattle.casa_output.specs.Sending.{saturating_count}
+use Rattle.casa_session.specs.Sending.{saturating_count}
 use Rattle.casa_wire.specs.Commands.{line_call}
 use Rattle.casa_wire.specs.LineTexts.{too_long_line}
 use Rattle.casa_session.specs.declared.fault.SessionFault.{SessionFault}
@@ -12,9 +12,9 @@ use Rattle.casa_session.specs.declared.fault.SessionFault.TheVariants.{LineTooLo
 use Rattle.casa_session.specs.declared.replies.Replies.{Replies}
 use Rattle.casa_session.specs.LineReader.{IsPart}
 use Rattle.casa_session.specs.Lines.{ended_lines, lines_of, rest_from, has_too_long, is_too_long, HasNoLf}
-use Rattle.casa_session.specs.Replies.{Answers, CutText, EndsBy, Fails, IsUnwritten, TooLongEnds}
-use Rattle.casa_desk.specs.Receipts.{Receipts}
-use Rattle.casa_session.specs.Transcript.{calls, transcript, AnswersLines, Cut, Stopped}
+use Rattle.casa_session.specs.Replies.{Answers, EndsBy, Fails, IsUnwritten, TooLongEnds}
+use Rattle.casa_session.specs.Receipts.{Receipts}
+use Rattle.casa_session.specs.Transcript.{AnswersLines}
 use Rattle.casa_session.proofs.Sides.{EndsAt}
 use Rattle.casa_session.proofs.Parts.{no_lf_append}
 use Rattle.casa_session.proofs.Progress.{Progress, answered, cut_done, cut_line, cut_more, no_progress, progress_line, progress_sent, stopped, stopped_between, too_long_written}

@@ -1,12 +1,9 @@
 -- what the board of a desk that is alone shows
 use Rattle.std.proofs.Common.{◌≡◌, List, sym, ap, ◌∙◌}
-use Rattle.std.specs.Prelude.{Option}
 use Rattle.casa_flight.specs.declared.call.Call.{Call}
-use Rattle.casa_filing.specs.declared.regulation.Regulation.{Regulation}
 use Rattle.casa_flight.specs.declared.reply.Reply.{Reply}
-use Rattle.casa_flight.specs.declared.row.Row.{Row}
 use Rattle.casa_flight.specs.declared.state.State.{State}
-use Rattle.casa_flight.specs.Listing.{Listing, list_of}
+use Rattle.casa_flight.specs.Listing.{list_of}
 use Rattle.casa_flight.specs.State.{catalogue, empty, row_of}
 use Rattle.casa_filing.specs.Text.{Text}
 use Rattle.casa_history.specs.declared.entry.Entry.{Entry}

@@ -10,7 +10,7 @@ use Rattle.casa_wire.specs.declared.fault.WireFault.{WireFault}
 use Rattle.casa_wire.specs.Commands.{line_call}
 use Rattle.casa_wire.specs.LineTexts.{reply_line, fault_line}
 use Rattle.casa_session.specs.Lines.{is_too_long, has_too_long}
-use Rattle.casa_desk.specs.Receipts.{Receipts}
+use Rattle.casa_session.specs.Receipts.{Receipts}
 use Rattle.casa_session.specs.Transcript.{calls_of, calls, call_list, answer_text, after_line, transcript}
 use Rattle.casa_session.proofs.Splitting.{or_false}
 

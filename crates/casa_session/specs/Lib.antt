@@ -1,3 +1,5 @@
+pub mod Sending
+pub mod Receipts
 pub mod Faults
 pub mod Lines
 pub mod LineReader

@@ -9,7 +9,7 @@ use Rattle.casa_flight.specs.Replies.{reply}
 use Rattle.casa_history.specs.declared.entry.Entry.{Entry}
 use Rattle.casa_history.specs.Entries.{receipts_from}
 use Rattle.casa_commit.specs.Legal.{entry}
-use Rattle.casa_desk.specs.Receipts.{Receipts}
+use Rattle.casa_session.specs.Receipts.{Receipts}
 
 -- the number of the one desk
 abbrev pub only_desk : ℕ

@@ -2,13 +2,13 @@
 use Rattle.std.specs.Prelude.{◌≡◌, ◌⊎◌, ℕ, ◌+◌, ◌<◌, List, [], ◌++◌, length, take, Option, Result}
 use Rattle.std.specs.Io.KnownBytes.{Appends}
 use Rattle.casa_flight.specs.declared.call.Call.{Call}
-use Rattle.casa_output.specs.Sending.{saturating_count}
+use Rattle.casa_session.specs.Sending.{saturating_count}
 use Rattle.casa_wire.specs.declared.fault.WireFault.{WireFault}
 use Rattle.casa_wire.specs.LineTexts.{too_long_line}
 use Rattle.casa_session.specs.declared.fault.SessionFault.{SessionFault}
 use Rattle.casa_session.specs.declared.fault.SessionFault.TheVariants.{LineTooLong, ReadFailed, WriteFailed, ForeignPass, NoMemory}
 use Rattle.casa_session.specs.declared.replies.Replies.{Replies}
-use Rattle.casa_desk.specs.Receipts.{Receipts}
+use Rattle.casa_session.specs.Receipts.{Receipts}
 use Rattle.casa_session.specs.Transcript.{answer_text, call_list, calls_of}
 
 -- from the receipts a to b a line of this meaning was answered, by this text

@@ -7,9 +7,10 @@ mod fault;
 mod lines;
 mod lone;
 mod replies;
+mod sending;
 mod session;
 
-pub use casa_desk::Desk;
 pub use fault::SessionFault;
 pub use lone::Lone;
+pub use sending::{Unsent, send};
 pub use session::run;

@@ -4,16 +4,16 @@ ghost use Rattle.std.specs.Prelude.{◌≡◌, ◌≢◌, ◌∷◌, [], ◌++�
 ghost use Rattle.std.specs.Option.{option_copied};
 ghost use Rattle.casa_flight.specs.Listing.{list_of};
 ghost use Rattle.casa_flight.specs.State.{catalogue, row_of};
-ghost use Rattle.casa_session.specs.Alone.{LoneEnds};
+ghost use Rattle.casa_session.specs.Alone.{lone_sides};
 ghost use Rattle.casa_session.specs.Played.{receipts_played, state_after};
+ghost use Rattle.casa_session.specs.Transcript.{Ends};
 
 use crate::fault::SessionFault;
 use crate::session::run;
-use casa_commit::{CallFault, Room};
-use casa_desk::Desk;
+use casa_commit::{CallFault, Desk, Room};
 use casa_flight::{Call, Key, RegId, Regulation, Reply, Row};
 use casa_history::Receipt;
-use casa_list::{SharedList, SlotList};
+use casa_list::SlotList;
 use casa_plan::Recalling;
 use casa_time::Moment;
 use casa_view::{Board, Copies};
@@ -94,9 +94,9 @@ impl Lone {
         reader: &mut R,
         writer: &mut W,
     ) -> Result<u64, SessionFault>
-        ensures { LoneEnds self.old self.new result (R.remaining reader.old)
+        ensures { Ends ⊥ result (lone_sides self.old self.new (R.remaining reader.old)
             (R.remaining reader.new)
-            (W.contents writer.old) (W.contents writer.new) }
+            (W.contents writer.old) (W.contents writer.new)) }
     {
         run(alloc, reader, writer, self)
     }
@@ -129,13 +129,6 @@ impl Lone {
         self.room.world().list(id)
     }
 
-    /// The same list as it is shared, so that others may have it too.
-    pub fn shared_list(&self, id: &RegId) -> Option<&SharedList>
-        ensures { option_copied result ≡ list_of (state_after self.now) id.now }
-    {
-        self.room.world().shared_list(id)
-    }
-
     /// The receipt of the call; where memory is refused, nothing was answered.
     fn receipt(&mut self, alloc: Global, call: &Call) -> Result<Receipt<Call, Reply>, CallFault>
         ensures ok { IfOk result (λ receipt. receipts_played self.new
@@ -153,6 +146,10 @@ impl Lone {
 
 /// Its receipts are those that the sequential allocator gives to some calls.
 impl Desk for Lone {
+    type Call = Call;
+
+    type Reply = Reply;
+
     ghost use Rattle.std.specs.Prelude.{List, refl};
     ghost use Rattle.casa_flight.specs.declared.call.Call.{Call};
 

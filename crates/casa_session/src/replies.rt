@@ -2,13 +2,13 @@
 
 ghost use Rattle.std.specs.Prelude.{◌≡◌, ℕ, ◌+◌, ◌<◌, ◌^◌, [], ◌++◌, List, length, OnOk, OnErr, IfErr};
 ghost use Rattle.std.specs.Io.KnownBytes.{Appends};
-ghost use Rattle.casa_output.specs.Sending.{saturating_count};
+ghost use Rattle.casa_session.specs.Sending.{saturating_count};
 ghost use Rattle.casa_wire.specs.Commands.{line_call};
 
 use crate::fault::SessionFault;
-use casa_commit::CallFault;
-use casa_desk::Desk;
-use casa_output::send;
+use crate::sending::send;
+use casa_commit::{CallFault, Desk};
+use casa_flight::{Call, Reply};
 use casa_wire::{WireFault, push_fault, push_reply, read_call, too_long_line};
 use std::alloc::Global;
 use std::io::Write;
@@ -41,7 +41,7 @@ impl Replies {
     /// Answers a line, and writes what was gathered where that is much.
     ///
     /// Where the line has no reply, what was gathered before it is written first.
-    pub fn answer<W: Write, D: Desk>(
+    pub fn answer<W: Write, D: Desk<Call = Call, Reply = Reply>>(
         &mut self,
         alloc: Global,
         line: &[u8],
@@ -65,7 +65,7 @@ impl Replies {
     }
 
     /// Makes the reply to a line.
-    fn gather<D: Desk>(
+    fn gather<D: Desk<Call = Call, Reply = Reply>>(
         &mut self,
         alloc: Global,
         line: &[u8],

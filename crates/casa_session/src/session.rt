@@ -5,7 +5,8 @@ ghost use Rattle.casa_session.specs.Transcript.{Ends};
 use crate::fault::SessionFault;
 use crate::lines::{Chunk, LineFault, LineReader};
 use crate::replies::Replies;
-use casa_desk::Desk;
+use casa_commit::Desk;
+use casa_flight::{Call, Reply};
 use std::alloc::Global;
 use std::io::{Read, Write};
 
@@ -15,7 +16,7 @@ use std::io::{Read, Write};
 /// session ends at its first fault: what it had answered by then is written and stands; so may a call whose reply
 /// could not be made or written. The receipts whose replies are written are the last of those that the desk then has, which
 /// are all lawful.
-pub fn run<R: Read, W: Write, D: Desk>(
+pub fn run<R: Read, W: Write, D: Desk<Call = Call, Reply = Reply>>(
     alloc: Global,
     reader: &mut R,
     writer: &mut W,

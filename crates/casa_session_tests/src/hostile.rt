@@ -2,9 +2,10 @@
 
 ghost use Rattle.std.specs.Prelude.{◌≤◌, IfOk};
 
-use crate::parts::{INPUT, OUTPUT};
+use crate::example::{INPUT, OUTPUT};
+use casa_commit::Desk;
 use casa_flight::{Call, RegId};
-use casa_session::{Desk, Lone, SessionFault};
+use casa_session::{Lone, SessionFault};
 use std::alloc::Global;
 use std::io;
 use std::io::{ErrorKind, Read, Write};

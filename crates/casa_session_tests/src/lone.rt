@@ -1,8 +1,9 @@
 //! Sessions over a desk that is alone on a board.
 
-use crate::parts::{INPUT, OUTPUT};
+use crate::example::{INPUT, OUTPUT};
+use casa_commit::Desk;
 use casa_flight::{Answer, Call, RegId, Reply};
-use casa_session::{Desk, Lone};
+use casa_session::Lone;
 use std::alloc::Global;
 use std::process::Abort;
 

@@ -1,19 +1,25 @@
 //! What the tests are put together of.
 
-/// The lines of an example: a regulation is opened, two flights are filed that want its first slot, it is listed, and the
-/// clock moves so far that both slots are issued.
-pub const INPUT: &[u8] =
-    b"{\"cmd\":\"open\",\"reg\":\"R1\",\"loc\":\"LA\",\"periods\":[{\"from\":36000,\"to\":37200,\"rate\":30}]}
-{\"cmd\":\"file\",\"key\":\"A\",\"eobt\":30000,\"taxi\":600,\"via\":[{\"loc\":\"LA\",\"eto\":36010}]}
-{\"cmd\":\"file\",\"key\":\"B\",\"eobt\":30000,\"taxi\":600,\"via\":[{\"loc\":\"LA\",\"eto\":36005}]}
-{\"cmd\":\"list\",\"reg\":\"R1\"}
-{\"cmd\":\"tick\",\"at\":22800}
-";
+use casa_flight::{Key, Loc, RegId};
+use casa_time::Moment;
+use std::process::Abort;
 
-/// The replies to these.
-pub const OUTPUT: &[u8] = b"{\"done\":true,\"msgs\":[],\"n\":1}
-{\"flight\":{\"ctot\":30600,\"delay\":0,\"eobt\":30000,\"etot\":30600,\"exempt\":false,\"issued\":false,\"key\":\"A\",\"reg\":\"R1\"},\"msgs\":[],\"n\":2}
-{\"flight\":{\"ctot\":30600,\"delay\":0,\"eobt\":30000,\"etot\":30600,\"exempt\":false,\"issued\":false,\"key\":\"B\",\"reg\":\"R1\"},\"msgs\":[],\"n\":3}
-{\"list\":{\"end\":37200,\"loc\":\"LA\",\"reg\":\"R1\",\"rows\":[{\"cto\":36005,\"eto\":36005,\"key\":\"B\",\"kind\":\"pre\",\"slot\":0},{\"cto\":36120,\"eto\":36010,\"key\":\"A\",\"kind\":\"pre\",\"slot\":1}],\"slots\":10,\"start\":36000},\"msgs\":[],\"n\":4}
-{\"done\":true,\"msgs\":[{\"ctot\":30710,\"key\":\"A\",\"kind\":\"SAM\",\"reg\":\"R1\"},{\"ctot\":30600,\"key\":\"B\",\"kind\":\"SAM\",\"reg\":\"R1\"}],\"n\":5}
-";
+/// The key with this text.
+pub fn key(rt: &impl Abort, text: &[u8]) -> Key {
+    Key::new(text).expect(rt, "a key")
+}
+
+/// The location with this text.
+pub fn loc(rt: &impl Abort, text: &[u8]) -> Loc {
+    Loc::new(text).expect(rt, "a location")
+}
+
+/// The identifier with this text.
+pub fn reg(rt: &impl Abort, text: &[u8]) -> RegId {
+    RegId::new(text).expect(rt, "an identifier")
+}
+
+/// The moment this many seconds after midnight UTC.
+pub fn moment(rt: &impl Abort, secs: u32) -> Moment {
+    Moment::new(secs).expect(rt, "a moment")
+}

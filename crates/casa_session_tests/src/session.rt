@@ -4,10 +4,10 @@ ghost use Rattle.std.specs.Prelude.{◌≡◌, ⊤, IfOk};
 ghost use Rattle.casa_history.specs.Entries.{receipt};
 ghost use Rattle.casa_commit.specs.Legal.{entry};
 
-use casa_commit::CallFault;
+use casa_commit::{CallFault, Desk};
 use casa_flight::{Call, Refusal, Reply};
 use casa_history::{Entry, Receipt, SharedEntry};
-use casa_session::{Desk, SessionFault, run};
+use casa_session::{SessionFault, run};
 use std::alloc::{AllocError, Global};
 use std::cell::Cell;
 use std::io;
@@ -36,6 +36,10 @@ fn refused(alloc: Global, call: &Call, position: usize) -> Result<Receipt<Call, 
 }
 
 impl Desk for Refusing {
+    type Call = Call;
+
+    type Reply = Reply;
+
     ghost answered = { λ desk. desk.receipts.items };
 
     ghost lawful = { λ _. ⊤ };

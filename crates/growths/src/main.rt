@@ -1,13 +1,20 @@
 //! Calls of all layers, tried with memory refused: `growths` tells all scenarios, and `growths SCENARIO CASE` tries one.
 #![tactic(auto)]
 
+mod answers;
+mod counting;
+mod desks;
+mod engines;
+mod late;
+mod sessions;
+
+use growths_of_values::{Ending, Fault, Trial};
 use std::alloc::Global;
 use std::env;
 use std::io::{self, Input, Write};
 use std::process::ExitCode;
 use std::sync::Wait;
 use std::thread::Threads;
-use trials::{Ending, Fault, Trial};
 
 /// The words of the command line, without the program's name.
 fn words(rt: &HostRuntime) -> Option<Vec<String>> {
@@ -18,9 +25,8 @@ fn words(rt: &HostRuntime) -> Option<Vec<String>> {
 fn print_all<W: Write>(writer: &mut W) -> io::Result<()> {
     growths_of_values::print_all(writer)?;
     growths_of_boards::print_all(writer)?;
-    growths_of_rooms::print_all(writer)?;
-    growths_of_sessions::print_all(writer)?;
-    growths_of_desks::print_all(writer)
+    sessions::print_all(writer)?;
+    desks::print_all(writer)
 }
 
 /// Tries the call of the scenario's case with these names.
@@ -37,13 +43,10 @@ fn try_scenario<R: Threads + Wait + Sync + Input>(
     if let Some(found) = growths_of_boards::try_scenario(alloc, &mut reader, scenario, case) {
         return found;
     }
-    if let Some(found) = growths_of_rooms::try_scenario(alloc, &mut reader, scenario, case) {
+    if let Some(found) = desks::try_scenario(rt, alloc, &mut reader, scenario, case) {
         return found;
     }
-    if let Some(found) = growths_of_desks::try_scenario(rt, alloc, &mut reader, scenario, case) {
-        return found;
-    }
-    match growths_of_sessions::try_scenario(alloc, reader, scenario, case) {
+    match sessions::try_scenario(alloc, reader, scenario, case) {
         Some(found) => found,
         None => Err(Fault::NoSetUp),
     }

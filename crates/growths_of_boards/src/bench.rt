@@ -4,8 +4,8 @@ use crate::office::Office;
 use casa_commit::World;
 use casa_flight::Call;
 use casa_view::{Board, Change, Copies};
+use growths_of_values::{SET_UP, call_of};
 use std::alloc::{AllocError, Global};
-use trials::{SET_UP, call_of};
 
 /// A board, with the number of the entry that wrote to it last.
 ///

@@ -4,9 +4,9 @@ use crate::bench::Bench;
 use crate::told::{last_tick, push_board, push_view};
 use casa_commit::World;
 use casa_view::{Change, Copied, View};
+use growths_of_values::{CALLS, Failure, Scenario, Subject, call_of};
 use std::alloc::{AllocError, Global};
 use std::marker::PhantomData;
-use trials::{CALLS, Failure, Scenario, Subject, call_of};
 
 /// The line of a call whose change lies beside a view that is held, and those of others.
 const FILING: &str =

@@ -5,8 +5,8 @@ use casa_flight::{Call, Reply};
 use casa_history::Pass;
 use casa_plan::{Direct, board_of, plan};
 use casa_view::{Board, Change, Copies};
+use growths_of_values::call_of;
 use std::alloc::{AllocError, Global};
-use trials::call_of;
 
 /// The number of each room.
 pub const ROOM: u32 = 7;

@@ -6,8 +6,8 @@ use crate::told::{last_tick, push_board, push_change, push_view};
 use casa_commit::World;
 use casa_flight::{Call, Reply};
 use casa_view::{Change, Copied, View};
+use growths_of_values::{CALLS, Failure, SET_UP, Scenario, Subject, call_of};
 use std::alloc::{AllocError, Global};
-use trials::{CALLS, Failure, SET_UP, Scenario, Subject, call_of};
 
 /// A board, and the call for which a view is taken; and that view.
 #[derive(Drop)]

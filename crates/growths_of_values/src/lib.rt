@@ -1,10 +1,19 @@
-//! Calls of what knows no boards, tried with memory refused: profiles, plans, slot lists, the slow allocator, lines and texts.
+//! Trials of calls to which memory is refused, and those of what knows no boards: profiles, plans, slot lists, the slow
+//! allocator, lines and texts.
+//!
+//! A trial is of a call on a subject, beside two twins of it: the subject of a scenario is set up three times. The call under
+//! test is made on the first; then on the second, between two bytes of the input; and none on the third. Who runs this may
+//! refuse memory between the two bytes. Where the second call was refused, its subject must be as the third, and the call is
+//! made again. In the end its answer and its subject must be those of the first.
 #![tactic(auto)]
 
+mod calls;
 mod list;
 mod parts;
 mod plain;
+mod scenario;
 mod table;
+mod trial;
 mod values;
 mod wire;
 
@@ -13,9 +22,11 @@ use crate::plain::Slow;
 use crate::table::Tabled;
 use crate::values::{Filed, Gridded, Profiled};
 use crate::wire::{Command, Faulty, Told, Written};
+pub use calls::{CALLS, Calls, SET_UP, call_of, line_of};
+pub use scenario::{Failure, Scenario, Subject, print_cases};
 use std::alloc::Global;
 use std::io::{self, Read, Write};
-use trials::{Trial, print_cases, try_named};
+pub use trial::{Ending, Fault, Trial, read_mark, try_call, try_named};
 
 /// Writes the names of all scenarios with their cases.
 pub fn print_all<W: Write>(writer: &mut W) -> io::Result<()> {

@@ -5,12 +5,12 @@ ghost use Rattle.casa_flight.specs.Listing.{stance_of};
 ghost use Rattle.casa_list.specs.Standings.{governed_place};
 
 use crate::parts::{comp_of, key_of, moment_of, profile_of};
+use crate::scenario::{Failure, Scenario, Subject};
 use casa_flight::{Comp, Key};
 use casa_grid::{Grid, Place};
 use casa_list::SlotList;
 use casa_time::Moment;
 use std::alloc::{AllocError, Global};
-use trials::{Failure, Scenario, Subject};
 
 /// What is done with a list, and the key and the estimated time over of the flight with which.
 #[derive(Clone, Copy)]

@@ -1,9 +1,10 @@
 //! Steps of the slow allocator.
 
+use crate::calls::{CALLS, SET_UP, call_of};
+use crate::scenario::{Failure, Scenario, Subject};
 use casa_flight::{Call, Reply};
 use casa_plain::Plain;
 use std::alloc::{AllocError, Global};
-use trials::{CALLS, Failure, SET_UP, Scenario, Subject, call_of};
 
 /// The slow allocator, and the call that it is to answer.
 #[derive(Drop)]

@@ -2,11 +2,12 @@
 
 ghost use Rattle.std.specs.Prelude.{◌≤◌, All, IsTrue};
 
+use crate::calls::SET_UP;
 use crate::plain::plain_after;
+use crate::scenario::{Failure, Scenario, Subject};
 use casa_flight::{Answer, Call, ListReply, ListRow, RegId, Reply, Shared};
 use casa_report::list_table;
 use std::alloc::{AllocError, Global};
-use trials::{Failure, SET_UP, Scenario, Subject};
 
 /// Room for the table, in bytes, so that the writer takes no memory.
 const ROOM: usize = 10_000;

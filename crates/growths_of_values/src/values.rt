@@ -1,11 +1,11 @@
 //! Profiles, their slots, and plans.
 
 use crate::parts::{crossings_of, moment_of, periods_of, profile_of};
+use crate::scenario::{Failure, Scenario, Subject};
 use casa_flight::{Crossing, Plan, PlanFault, Sts};
 use casa_grid::{Grid, Period, Profile, ProfileFault};
 use casa_time::Moment;
 use std::alloc::{AllocError, Global};
-use trials::{Failure, Scenario, Subject};
 
 /// Periods, each with its begin, its end and its rate.
 type Periods = &'static [(u32, u32, u32)];

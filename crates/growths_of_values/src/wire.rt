@@ -1,11 +1,12 @@
 //! Command lines that are read, and texts of replies.
 
+use crate::calls::{CALLS, SET_UP, call_of};
 use crate::plain::plain_after;
+use crate::scenario::{Failure, Scenario, Subject};
 use casa_flight::{Call, Reply};
 use casa_history::{Entry, Receipt, SharedEntry};
 use casa_wire::{Field, WireFault, push_fault, push_reply, read_call};
 use std::alloc::{AllocError, Global};
-use trials::{CALLS, Failure, SET_UP, Scenario, Subject, call_of};
 
 /// Lines that are no calls, by their names.
 const FAULTY: &[(&str, &str)] = &[

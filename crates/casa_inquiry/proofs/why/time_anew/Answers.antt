@@ -1,6 +1,5 @@
-use Rattle.std.proofs.Common.{◌≡◌, ◌∙◌, ap, subst}
+use Rattle.std.proofs.Common.{◌∙◌, ap}
 use Rattle.casa_flight.specs.declared.row.Stance.TheVariants.{Competing}
-use Rattle.casa_flight.specs.Good.{AreInOrder}
 use Rattle.casa_flight.specs.Listing.{Listing, cto_as}
 use Rattle.casa_flight.specs.Entry.{with_competitor}
 use Rattle.casa_inquiry.proofs.Leaving.{entered_anew, left_ungoverned}

@@ -2,7 +2,7 @@ use Rattle.std.proofs.Common.{◌≡◌, ◌∷◌, [], ◌++◌, length-append,
 use Rattle.std.proofs.lemmas.List.{length-map, map-append}
 use Rattle.casa_history.specs.Entries.{receipts}
 use Rattle.casa_engine.specs.Passes.{pass_of}
-use Rattle.casa_desk.specs.Receipts.{Receipts}
+use Rattle.casa_session.specs.Receipts.{Receipts}
 use Rattle.casa_server.specs.Seats.{most_connections, Visit, connections_in, AnswersInTurn}
 use Rattle.casa_server.specs.Sources.{IsExhausted}
 use Rattle.casa_server.proofs.Seats.{all_of_source, answers_one_more, has_sat, one_more_counted}

@@ -5,7 +5,7 @@ use Rattle.casa_session.specs.declared.fault.SessionFault.{SessionFault}
 use Rattle.casa_session.specs.LineReader.{pending}
 use Rattle.casa_session.proofs.Sides.{EndsAt}
 use Rattle.casa_session.proofs.Parts.{no_lf_joined}
-use Rattle.casa_session.proofs.Runs.{after_line, after_read, begins, ends_after_last, ends_at_last, ends_at_line, ends_before_read, ends_input, ends_last_unwritten, ends_too_long, ends_unread, ends_without_memory, part_ended, part_open, passed_on}
+use Rattle.casa_session.proofs.Runs.{after_line, after_read, begins, ends_after_last, ends_at_last, ends_at_line, ends_before_read, ends_last_unwritten, ends_too_long, ends_unread, ends_without_memory, part_ended, part_open, passed_on}
 use Rattle.casa_session.proofs.session.run.Goals as goal
 
 pub lines-init : goal.lines-init

@@ -1,6 +1,6 @@
 use Rattle.std.proofs.Common.{◌≡◌, ◌+◌, ◌==◌, ◌&&◌, ◌||◌, ◌∙◌, ap, sym, length, take, ◌-◌, ◌++◌, false, rules}
 use Rattle.std.specs.List.{flat_map}
-use Rattle.casa_output.specs.Sending.{saturating_count}
+use Rattle.casa_session.specs.Sending.{saturating_count}
 use Rattle.casa_app.specs.Remarks.{remark_line, remark_on, tells_no_json}
 use Rattle.casa_app.proofs.Noted.{reply_noted}
 use Rattle.casa_app.proofs.notes.Notes.end_reply.Goals as goal

@@ -1,4 +1,4 @@
-use Rattle.std.proofs.Common.{◌≡◌, ◌∷◌, ◌++◌, [], List, ap, subst, ◌∙◌}
+use Rattle.std.proofs.Common.{◌≡◌, ◌∷◌, ◌++◌, [], List, ap, subst}
 use Rattle.std.specs.Prelude.{IfOk, Result}
 use Rattle.std.specs.declared.alloc.AllocError.{AllocError}
 use Rattle.casa_flight.specs.declared.call.Call.{Call}
@@ -9,7 +9,7 @@ use Rattle.casa_history.specs.declared.entry.Entry.{Entry}
 use Rattle.casa_history.specs.declared.entry.Receipt.{Receipt}
 use Rattle.casa_commit.specs.Legal.{replay}
 use Rattle.casa_commit.specs.Rooms.{entries_of}
-use Rattle.casa_view.specs.BoardState.{BoardState, after, opening}
+use Rattle.casa_view.specs.BoardState.{after, opening}
 use Rattle.casa_session.specs.Played.{calls_in, receipts_played, state_after}
 use Rattle.casa_session.proofs.Alone.{alone-answered, receipt-answered}
 use Rattle.casa_session.proofs.Shown.{state-replayed}

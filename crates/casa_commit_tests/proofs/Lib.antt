@@ -1,0 +1,3 @@
+mod Copied
+mod Equal
+mod LineLaws

@@ -1,0 +1,5 @@
+pub mod Cells
+pub mod Copies
+pub mod Changes
+pub mod Laws
+pub mod Lines

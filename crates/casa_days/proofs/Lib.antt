@@ -1,9 +1,0 @@
-mod Growing
-mod Turned
-mod Answering
-mod Refusing
-mod Legal
-mod Going
-mod Coursing
-mod Ending
-mod Lasting

@@ -1,4 +1,0 @@
-pub mod Deeds
-pub mod Courses
-pub mod Lives
-pub mod Openings

@@ -1,0 +1,12 @@
+pub mod Scenes
+pub mod Desks
+pub mod Past
+pub mod Rooms
+pub mod Causes
+pub mod Board
+pub mod Tied
+pub mod Runs
+pub mod Deeds
+pub mod Courses
+pub mod Lives
+pub mod Openings

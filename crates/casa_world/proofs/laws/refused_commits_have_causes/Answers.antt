@@ -1,5 +1,0 @@
-use Rattle.casa_world.proofs.OneThread.{refusals_caused}
-use Rattle.casa_world.proofs.laws.refused_commits_have_causes.Goals as goal
-
-pub returns : goal.returns
-returns c = refusals_caused
