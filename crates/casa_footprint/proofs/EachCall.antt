@@ -2,9 +2,7 @@
 use Rattle.casa_flight.specs.declared.call.Call.{Call}
 use Rattle.casa_flight.specs.declared.call.Call.TheVariants.{File, Amend, Cancel, Revise, Exempt, OpenReg, CloseReg, Rates, Tick, Show, List as ListOf, Swap}
 use Rattle.casa_footprint.proofs.Forms.{DecidesReads, Spares}
-use Rattle.casa_footprint.proofs.FileAmend.{file_reads, file_spares, amend_reads, amend_spares}
-use Rattle.casa_footprint.proofs.ExemptCancel.{exempt_reads, exempt_spares, cancel_reads, cancel_spares}
-use Rattle.casa_footprint.proofs.Revise.{revise_reads, revise_spares}
+use Rattle.casa_footprint.proofs.FlightCalls.{file_reads, file_spares, amend_reads, amend_spares, cancel_reads, cancel_spares, revise_reads, revise_spares, exempt_reads, exempt_spares}
 use Rattle.casa_footprint.proofs.ShowList.{show_reads, show_spares, list_reads, list_spares}
 use Rattle.casa_footprint.proofs.Rates.{rates_reads, rates_spares}
 use Rattle.casa_footprint.proofs.Whole.{tick_reads, tick_spares, open_reads, close_reads}

@@ -4,9 +4,7 @@ pub mod Entering
 pub mod Messages
 pub mod OneFlight
 pub mod Forms
-pub mod FileAmend
-pub mod ExemptCancel
-pub mod Revise
+pub mod FlightCalls
 pub mod ShowList
 pub mod Whole
 pub mod EnterAll

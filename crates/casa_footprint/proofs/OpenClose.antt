@@ -1,5 +1,5 @@
 -- what OpenReg and CloseReg leave as it was
-use Rattle.std.proofs.Common.{◌≡◌, List, [], ◌∷◌, length, Bool, true, false, refl, sym, ap, subst, ◌∙◌, Option, None, Some, ◌&&◌, is_some, map, nat_le, MatchOption, ℕ}
+use Rattle.std.proofs.Common.{◌≡◌, List, [], ◌∷◌, Bool, true, false, refl, sym, ap, subst, ◌∙◌, Option, None, Some, ◌&&◌, is_some, map, MatchOption, ℕ}
 use Rattle.std.specs.Option.{option_map, option_map_or}
 use Rattle.std.specs.List.{AllByRecursion, cons_option, list_any}
 use Rattle.std.specs.BTreeMap.{is_at}
@@ -18,15 +18,16 @@ use Rattle.casa_filing.specs.Subject.{regulation, subject, is_gone}
 use Rattle.casa_flight.specs.State.{row_of, measure_of, is_exempt, is_governed_by, ungoverned}
 use Rattle.casa_flight.specs.Listing.{listing, list_of, stance, stance_in, filter_map_values}
 use Rattle.casa_flight.specs.Entry.{enter_all}
-use Rattle.casa_flight.specs.Steps.{most_regulations, flights_over, may_compete, take_in, open_regulation, ungoverned_if, state_without_regulation, close_regulation, after}
+use Rattle.casa_flight.specs.Steps.{flights_over, may_compete, take_in, ungoverned_if, state_without_regulation}
 use Rattle.casa_flight.specs.Good.{IsGood, IsGoodRow, IsFree, IsGoverned}
 use Rattle.casa_filing.proofs.Entries.{text_cmp, all_at, all-each, all-both, each_found, at-map, at-put_other, at-without_other, keys-map, sorted-put, sorted-remove, apart}
+use Rattle.casa_laws.proofs.Outcomes.{open_cases, close_cases}
 use Rattle.casa_laws.proofs.EnterAll.{row-enter_all, clock-enter_all, all-flights_over, others}
 use Rattle.casa_laws.proofs.RegMessages.{clock-take_in, competes, freed_plan}
 use Rattle.casa_footprint.specs.Items.{ItemName, the_clock, the_catalogue, a_row, a_list, moment, row_or_none, list_or_none, contents}
-use Rattle.casa_footprint.specs.Footprint.{is_subject, is_list_of, governs, enters, enters_at, would_write, is_accepted}
+use Rattle.casa_footprint.specs.Footprint.{is_subject, is_list_of, governs, enters, enters_at, would_write}
 use Rattle.casa_footprint.proofs.EnterAll.{IsOrdered, list-enter_all}
-use Rattle.casa_footprint.proofs.Forms.{Spares}
+use Rattle.casa_footprint.proofs.Forms.{Spares, StepSpares}
 
 -- a flight that may compete is subject to nothing
 pub subject_to_none : (m : State) (key : Text) (row : Row) (id : Text) → IsGood m → row_of m key ≡ Some row → may_compete m.clock row ≡ true → is_subject m row.plan id ≡ false
@@ -64,18 +65,16 @@ list_taken m id measure other good n =
     ∙ ap (option_map (listing m.rows other)) measures
 
 pub open_spares : (id loc : Text) (profile : List Period) → Spares (OpenReg id loc profile)
-open_spares id loc profile m good i h = by (measure_of m id) (nat_le most_regulations (length m.regs)) i h
+open_spares id loc profile m good i = open_cases m (StepSpares m (OpenReg id loc profile) i) (λ r h. refl) id loc profile (λ absent. takes i)
   where
     measure : Measure
     measure = record { loc = loc; profile = profile }
 
-    by : (w : Option Measure) (full : Bool) (i : ItemName) → (is_accepted (open_regulation m id measure w full) && would_write m (OpenReg id loc profile) i) ≡ false → contents (after m (open_regulation m id measure w full)) i ≡ contents m i
-    by (Some old) full i h = refl
-    by None true i h = refl
-    by None false the_clock h = ap moment (clock-take_in m id measure)
-    by None false the_catalogue h = cc
-    by None false (a_row key) h = ap row_or_none (row_taken m id measure key good h)
-    by None false (a_list other) h = ap list_or_none (list_taken m id measure other good h)
+    takes : (i : ItemName) → would_write m (OpenReg id loc profile) i ≡ false → contents (take_in m id measure) i ≡ contents m i
+    takes the_clock h = ap moment (clock-take_in m id measure)
+    takes the_catalogue h = cc
+    takes (a_row key) h = ap row_or_none (row_taken m id measure key good h)
+    takes (a_list other) h = ap list_or_none (list_taken m id measure other good h)
 
 none_from_any : {X : Type 0} (p : X → Bool) (xs : List X) → list_any p xs ≡ false → AllByRecursion (λ x. p x ≡ false) xs
 none_from_any p [] h = tt
@@ -96,7 +95,7 @@ freed_flights id other measure [] h = refl
 freed_flights id other measure (e ∷ es) h = λ i. cons_option (option_map (λ (y : Stance). (e.0, y)) (freed_stance other measure e.1 (is_governed_by id e.1) h.0 i)) (freed_flights id other measure es h.1 i)
 
 pub close_spares : (id : Text) → Spares (CloseReg id)
-close_spares id m good i h = by (measure_of m id) i h
+close_spares id m good i = close_cases m (StepSpares m (CloseReg id) i) (λ r h. refl) id (λ measure opened. frees (regulation id measure) i)
   where
     ordered : IsOrdered (state_without_regulation m id)
     ordered = (subst (IsStrictlySortedBy text_cmp) (sym (keys-map (λ (e : Text × Row). ungoverned_if (is_governed_by id e.1) e.1) m.rows)) good.rows_in_order, sorted-remove (is_at (text_cmp id)) m.regs good.regs_in_order)
@@ -149,11 +148,11 @@ close_spares id m good i h = by (measure_of m id) i h
             (λ x f. ap (λ (w : Option Measure). is_governed_by id x.1 && option_map_or (λ (y : Measure). is_some (subject x.1.plan (regulation other y))) w false) (sym e) ∙ f) m.rows none in
             λ i. Some (record { profile = measure.profile; flights = freed_flights id other measure m.rows each i })
 
-    by : (w : Option Measure) (i : ItemName) → (is_accepted (close_regulation m id w) && would_write m (CloseReg id) i) ≡ false → contents (after m (close_regulation m id w)) i ≡ contents m i
-    by None i h = refl
-    by (Some measure) the_clock h = ap moment (clock-enter_all (state_without_regulation m id) (flights_over (is_governed_by id) (regulation id measure) m.rows))
-    by (Some measure) the_catalogue h = cc
-    by (Some measure) (a_row key) h = ap row_or_none (row (regulation id measure) key h)
-    by (Some measure) (a_list other) h =
+    frees : (r : Regulation) (i : ItemName) → would_write m (CloseReg id) i ≡ false
+        → contents (enter_all (state_without_regulation m id) (flights_over (is_governed_by id) r m.rows)) i ≡ contents m i
+    frees r the_clock h = ap moment (clock-enter_all (state_without_regulation m id) (flights_over (is_governed_by id) r m.rows))
+    frees r the_catalogue h = cc
+    frees r (a_row key) h = ap row_or_none (row r key h)
+    frees r (a_list other) h =
         let both = or_parts (same_text id other) (list_any (λ (e : Text × Row). is_governed_by id e.1 && is_subject m e.1.plan other) m.rows) h in
-        ap list_or_none (list (regulation id measure) other both.0 both.1)
+        ap list_or_none (list r other both.0 both.1)

@@ -1,5 +1,5 @@
 -- Rates
-use Rattle.std.proofs.Common.{◌≡◌, List, [], ◌∷◌, Bool, true, false, cond, refl, sym, ap, ◌∙◌, Option, None, Some, ◌&&◌, ◌||◌, map, nat_lt, unwrap_or}
+use Rattle.std.proofs.Common.{◌≡◌, List, [], ◌∷◌, true, false, cond, refl, sym, ap, ◌∙◌, Option, None, Some, ◌&&◌, ◌||◌, map, nat_lt, unwrap_or}
 use Rattle.std.specs.declared.cmp.Ordering.TheVariants.{Less, Equal, Greater}
 use Rattle.std.specs.Ordering.{is_eq, match_ordering}
 use Rattle.std.specs.Option.{option_map, option_map_or}
@@ -16,21 +16,22 @@ use Rattle.casa_filing.specs.Text.{Text, same_text, at_name, put}
 use Rattle.casa_filing.specs.Subject.{regulation, subject}
 use Rattle.casa_flight.specs.State.{measure_of, catalogue, is_governed_by}
 use Rattle.casa_flight.specs.Listing.{Listing, listing, list_of, stance, filter_map_values}
-use Rattle.casa_flight.specs.Steps.{keeps_span, ends_later, extends, rates, rates_if, after}
+use Rattle.casa_flight.specs.Steps.{keeps_span, ends_later, extends, take_in}
 use Rattle.casa_flight.specs.Replies.{messages}
 use Rattle.casa_flight.specs.Good.{AreInOrder, IsGood}
 use Rattle.casa_filing.proofs.Entries.{text_cmp, after_all, at-put_same, at-put_other, apart}
 use Rattle.casa_laws.proofs.Kept.{at_above}
+use Rattle.casa_laws.proofs.Outcomes.{rates_cases}
 use Rattle.casa_laws.proofs.GoodTick.{KeepsSpan, span_kept, same_end}
 use Rattle.casa_laws.proofs.RegMessages.{clock-take_in}
 use Rattle.std.specs.Map.{keys_of}
 use Rattle.casa_footprint.specs.Items.{ItemName, the_clock, the_catalogue, a_row, a_list, moment, regulations, row_or_none, list_or_none, contents}
-use Rattle.casa_footprint.specs.Footprint.{reads, would_write, is_accepted, enters_at, enters_with}
+use Rattle.casa_footprint.specs.Footprint.{reads, would_write, enters_at, enters_with}
 use Rattle.casa_footprint.proofs.Names.{catalogue_in}
 use Rattle.casa_footprint.proofs.Catalogue.{regulation_same}
 use Rattle.casa_footprint.proofs.OpenClose.{row_taken, list_taken}
 use Rattle.casa_footprint.proofs.Messages.{messages_none}
-use Rattle.casa_footprint.proofs.Forms.{DecidesReads, Spares}
+use Rattle.casa_footprint.proofs.Forms.{DecidesReads, Spares, StepSpares}
 
 -- a value written over one from which f makes the same
 put_over : {X Y : Type 0} (f : Text × X → Y) (k : Text) (new old : X) → ((q : Text) → f (q, new) ≡ f (q, old)) → (es : List (Text × X)) → AreInOrder es → at_name es k ≡ Some old → map f (put es k new) ≡ map f es
@@ -103,22 +104,23 @@ rates_reads id profile m n gm gn s i = by i
     by (a_list other) = ap (λ b. same_text id other || b) same
 
 pub rates_spares : (id : Text) (profile : List Period) → Spares (Rates id profile)
-rates_spares id profile m good i h = by (measure_of m id) refl i h
+rates_spares id profile m good i =
+    rates_cases m (StepSpares m (Rates id profile) i) (λ r h. refl) id profile
+    (λ measure opened span same. keeps measure opened span same i) (λ measure opened span later. takes measure opened later i)
   where
-    to : (measure : Measure) → measure_of m id ≡ Some measure → (b later : Bool) → keeps_span profile measure.profile ≡ b → ends_later profile measure.profile ≡ later
-        → let new : Measure = record measure { profile = profile } in (i : ItemName) → (is_accepted (rates_if m id new b later) && would_write m (Rates id profile) i) ≡ false → contents (after m (rates_if m id new b later)) i ≡ contents m i
-    to measure e false later p l i h = refl
-    to measure e true false p l the_clock h = refl
-    to measure e true false p l the_catalogue h = ap regulations (catalogue_rated m id measure profile good e (span_kept profile measure.profile p) l)
-    to measure e true false p l (a_row key) h = refl
-    to measure e true false p l (a_list other) h = ap (λ (w : Option Measure). list_or_none (option_map (listing m.rows other) w)) (at-put_other other id (record measure { profile = profile }) m.regs (apart id other h))
-    to measure e true true p l the_clock h = ap moment (clock-take_in m id (record measure { profile = profile }))
-    to measure e true true p l the_catalogue h = absurd (both_ways _ h (extends_at m id measure profile e ∙ l))
-    to measure e true true p l (a_row key) h =
-        ap row_or_none (row_taken m id (record measure { profile = profile }) key good
-        (sym (enters_with_at m id measure profile key e) ∙ ap (λ b. b && enters_with m id profile key) (sym (extends_at m id measure profile e ∙ l)) ∙ h))
-    to measure e true true p l (a_list other) h = ap list_or_none (list_taken m id (record measure { profile = profile }) other good h)
+    keeps : (measure : Measure) → measure_of m id ≡ Some measure → keeps_span profile measure.profile ≡ true → ends_later profile measure.profile ≡ false
+        → (i : ItemName) → would_write m (Rates id profile) i ≡ false → contents (rated m id measure profile) i ≡ contents m i
+    keeps measure opened span same the_clock h = refl
+    keeps measure opened span same the_catalogue h = ap regulations (catalogue_rated m id measure profile good opened (span_kept profile measure.profile span) same)
+    keeps measure opened span same (a_row key) h = refl
+    keeps measure opened span same (a_list other) h =
+        ap (λ (w : Option Measure). list_or_none (option_map (listing m.rows other) w)) (at-put_other other id (record measure { profile = profile }) m.regs (apart id other h))
 
-    by : (w : Option Measure) → measure_of m id ≡ w → (i : ItemName) → (is_accepted (rates m id profile w) && would_write m (Rates id profile) i) ≡ false → contents (after m (rates m id profile w)) i ≡ contents m i
-    by None e i h = refl
-    by (Some measure) e i h = to measure e (keeps_span profile measure.profile) (ends_later profile measure.profile) refl refl i h
+    takes : (measure : Measure) → measure_of m id ≡ Some measure → ends_later profile measure.profile ≡ true
+        → (i : ItemName) → would_write m (Rates id profile) i ≡ false → contents (take_in m id (record measure { profile = profile })) i ≡ contents m i
+    takes measure opened later the_clock h = ap moment (clock-take_in m id (record measure { profile = profile }))
+    takes measure opened later the_catalogue h = absurd (both_ways _ h (extends_at m id measure profile opened ∙ later))
+    takes measure opened later (a_row key) h =
+        ap row_or_none (row_taken m id (record measure { profile = profile }) key good
+        (sym (enters_with_at m id measure profile key opened) ∙ ap (λ b. b && enters_with m id profile key) (sym (extends_at m id measure profile opened ∙ later)) ∙ h))
+    takes measure opened later (a_list other) h = ap list_or_none (list_taken m id (record measure { profile = profile }) other good h)

@@ -14,13 +14,13 @@ use Rattle.casa_filing.specs.Text.{Text, same_text}
 use Rattle.casa_filing.specs.Subject.{regulation}
 use Rattle.casa_flight.specs.State.{row_of, measure_of, is_governed_by}
 use Rattle.casa_flight.specs.Listing.{Listing, listing, list_of}
-use Rattle.casa_flight.specs.Steps.{show, list, after}
 use Rattle.casa_flight.specs.Replies.{list_reply, list_answer}
 use Rattle.casa_filing.proofs.Entries.{all-each}
-use Rattle.casa_footprint.specs.Items.{the_clock, the_catalogue, a_row, a_list, contents, AgreeOn}
+use Rattle.casa_laws.proofs.Outcomes.{show_cases, list_cases}
+use Rattle.casa_footprint.specs.Items.{the_clock, the_catalogue, a_row, a_list, AgreeOn}
 use Rattle.casa_footprint.specs.Footprint.{governs, is_forced, has_flight, is_forced_in, governs_forced, reads}
 use Rattle.casa_footprint.proofs.Names.{row_in, list_in, text_itself}
-use Rattle.casa_footprint.proofs.Forms.{DecidesReads, Spares}
+use Rattle.casa_footprint.proofs.Forms.{DecidesReads, Spares, StepSpares}
 
 pub governs_own : (m : State) (key : Text) (row : Row) (id : Text) → row_of m key ≡ Some row → row.governing ≡ Some id → governs m id key ≡ true
 governs_own m key row id e g =
@@ -33,11 +33,7 @@ show_reads key m n gm gn s (a_row other) = refl
 show_reads key m n gm gn s (a_list id) = ap (λ (w : Option Row). option_map_or (is_governed_by id) w false) (row_in m n key (s (a_row key) (text_itself key)))
 
 pub show_spares : (key : Text) → Spares (Show key)
-show_spares key m good i h = by (row_of m key)
-  where
-    by : (w : Option Row) → contents (after m (show m w)) i ≡ contents m i
-    by None = refl
-    by (Some row) = refl
+show_spares key m good i = show_cases m (StepSpares m (Show key) i) (λ r h. refl) key (λ h. refl)
 
 -- a test that an element of a list passes is passed in the list
 abbrev pub IsIn : {X : Type 0} → List X → X → Type 0
@@ -114,8 +110,4 @@ list_reads id m n gm gn s (a_row key) = ap (λ (w : Option Listing). option_map_
 list_reads id m n gm gn s (a_list other) = ap (λ b. same_text id other || b) (governs_forced_same m n id other s)
 
 pub list_spares : (id : Text) → Spares (ListOf id)
-list_spares id m good i h = by (measure_of m id)
-  where
-    by : (w : Option Measure) → contents (after m (list m w)) i ≡ contents m i
-    by None = refl
-    by (Some measure) = refl
+list_spares id m good i = list_cases m (StepSpares m (ListOf id) i) (λ r h. refl) id (λ h. refl)

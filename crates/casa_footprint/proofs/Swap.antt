@@ -1,18 +1,19 @@
 -- Swap
-use Rattle.std.proofs.Common.{◌≡◌, false, refl, sym, ap, ◌∙◌, ◌&&◌, ◌||◌, Option}
+use Rattle.std.proofs.Common.{◌≡◌, false, refl, sym, ap, ◌∙◌, ◌||◌, Option}
 use Rattle.std.specs.Option.{option_map_or}
 use Rattle.std.proofs.lemmas.Bool.{or_left, or_right, or_parts}
 use Rattle.casa_flight.specs.declared.call.Call.TheVariants.{Swap}
 use Rattle.casa_flight.specs.declared.row.Row.{Row}
 use Rattle.casa_filing.specs.Text.{Text, same_text}
 use Rattle.casa_flight.specs.State.{row_of, with_row, is_governed_by}
-use Rattle.casa_flight.specs.Steps.{Step, leads, with_issued_time, Exchange, with_exchange, after}
-use Rattle.casa_laws.proofs.Swap.{CanExchange, swap_cases, other_list}
-use Rattle.casa_footprint.specs.Items.{ItemName, the_clock, the_catalogue, a_row, a_list, row_or_none, list_or_none, contents}
-use Rattle.casa_footprint.specs.Footprint.{governs, would_write, is_accepted}
+use Rattle.casa_flight.specs.Steps.{leads, with_issued_time, Exchange, with_exchange}
+use Rattle.casa_laws.proofs.Outcomes.{CanExchange, swap_cases}
+use Rattle.casa_laws.proofs.Swap.{other_list}
+use Rattle.casa_footprint.specs.Items.{ItemName, the_clock, the_catalogue, a_row, a_list, row_or_none, list_or_none}
+use Rattle.casa_footprint.specs.Footprint.{governs}
 use Rattle.casa_footprint.proofs.Names.{row_in, text_itself}
 use Rattle.casa_footprint.proofs.OneFlight.{other_row}
-use Rattle.casa_footprint.proofs.Forms.{DecidesReads, Spares}
+use Rattle.casa_footprint.proofs.Forms.{DecidesReads, Spares, StepSpares}
 
 -- both rows decide which lists govern them
 pub swap_reads : (key other : Text) → DecidesReads (Swap key other)
@@ -25,21 +26,18 @@ swap_reads key other m n gm gn s (a_list id) =
     λ i. option_map_or (is_governed_by id) (own i) false || option_map_or (is_governed_by id) (its i) false
 
 pub swap_spares : (key other : Text) → Spares (Swap key other)
-swap_spares key other m good =
-    swap_cases m key other P (λ i h. refl) (λ i h. refl) (λ i h. refl) (λ i h. refl)
-    (λ row mate cto time can. accepted (record { key = key; row = row; cto = cto; other = other; mate = mate; time = time }) refl refl can)
+swap_spares key other m good i =
+    swap_cases m (StepSpares m (Swap key other) i) (λ r h. refl) key other
+    (λ row mate cto time can. exchanges (record { key = key; row = row; cto = cto; other = other; mate = mate; time = time }) refl refl can i)
   where
-    P : Step → Type 0
-    P s = (i : ItemName) → (is_accepted s && would_write m (Swap key other) i) ≡ false → contents (after m s) i ≡ contents m i
-
-    accepted : (x : Exchange) → x.key ≡ key → x.other ≡ other → CanExchange m x → P (leads (with_exchange m x))
-    accepted x k o can the_clock h = refl
-    accepted x k o can the_catalogue h = refl
-    accepted x k o can (a_row q) h =
+    exchanges : (x : Exchange) → x.key ≡ key → x.other ≡ other → CanExchange m x → (i : ItemName) → StepSpares m (Swap key other) i (leads (with_exchange m x))
+    exchanges x k o can the_clock h = refl
+    exchanges x k o can the_catalogue h = refl
+    exchanges x k o can (a_row q) h =
         let parts = or_parts (same_text key q) (same_text other q) h in
         ap row_or_none
         (other_row (with_row m x.key (with_issued_time x.row x.time)) x.other (with_issued_time x.mate x.cto) q (ap (λ t. same_text t q) o ∙ parts.1)
         ∙ other_row m x.key (with_issued_time x.row x.time) q (ap (λ t. same_text t q) k ∙ parts.0))
-    accepted x k o can (a_list id) h =
+    exchanges x k o can (a_list id) h =
         ap list_or_none (other_list m x id good can
         (sym (ap (λ (w : Option Row). option_map_or (is_governed_by id) w false) can.here) ∙ ap (governs m id) k ∙ h))

@@ -1,5 +1,5 @@
 -- the calls that read all items, and what Tick leaves as it was
-use Rattle.std.proofs.Common.{◌≡◌, ℕ, List, [], ◌∷◌, Bool, true, false, refl, sym, ap, ◌∙◌, Option, None, Some, ◌&&◌, map, nat_lt}
+use Rattle.std.proofs.Common.{◌≡◌, ℕ, List, [], ◌∷◌, Bool, true, false, refl, sym, ap, ◌∙◌, Option, None, Some, ◌&&◌, map}
 use Rattle.std.specs.Option.{option_map, option_map_or}
 use Rattle.std.specs.List.{cons_option, list_any}
 use Rattle.std.proofs.lemmas.Bool.{or_parts}
@@ -15,11 +15,11 @@ use Rattle.casa_filing.specs.Subject.{regulation, subject}
 use Rattle.casa_flight.specs.State.{row_of, measure_of, is_governed_by}
 use Rattle.casa_flight.specs.Listing.{listing, stance, stance_in, filter_map_values}
 use Rattle.casa_flight.specs.Entry.{is_to_issue, issue_if, issue_due}
-use Rattle.casa_flight.specs.Steps.{tick, after}
 use Rattle.casa_filing.proofs.Entries.{at-map}
+use Rattle.casa_laws.proofs.Outcomes.{tick_cases}
 use Rattle.casa_footprint.specs.Items.{ItemName, the_clock, the_catalogue, a_row, a_list, row_or_none, list_or_none, contents}
-use Rattle.casa_footprint.specs.Footprint.{reads, would_write, is_accepted}
-use Rattle.casa_footprint.proofs.Forms.{DecidesReads, Spares}
+use Rattle.casa_footprint.specs.Footprint.{reads, would_write}
+use Rattle.casa_footprint.proofs.Forms.{DecidesReads, Spares, StepSpares}
 
 -- a call that reads all items
 abbrev ReadsAll : Call → Type 0
@@ -57,15 +57,16 @@ flights_stay m at id measure (e ∷ es) h =
     λ i. cons_option (option_map (λ (y : Stance). (e.0, y)) (stance_stays m id measure e.0 e.1 (is_to_issue at e.1) both.0 i)) (flights_stay m at id measure es both.1 i)
 
 pub tick_spares : (at : ℕ) → Spares (Tick at)
-tick_spares at m good i h = by (nat_lt at m.clock) i h
+tick_spares at m good i = tick_cases m (StepSpares m (Tick at) i) (λ r h. refl) at (λ forward. issues i)
   where
     list : (id : Text) → list_any (λ (e : Text × Row). is_to_issue at e.1 && is_governed_by id e.1) m.rows ≡ false → (w : Option Measure) → option_map (listing (issue_due (record m { clock = at })).rows id) w ≡ option_map (listing m.rows id) w
     list id h None = refl
     list id h (Some measure) = λ i. Some (record { profile = measure.profile; flights = flights_stay (record m { clock = at }) at id measure m.rows h i })
 
-    by : (back : Bool) (i : ItemName) → (is_accepted (tick m at back) && would_write m (Tick at) i) ≡ false → contents (after m (tick m at back)) i ≡ contents m i
-    by true i h = refl
-    by false the_clock h = cc
-    by false the_catalogue h = refl
-    by false (a_row key) h = ap row_or_none (at-map (λ k row. issue_if (is_to_issue at row) (record m { clock = at }) k row) key m.rows ∙ row_stays (record m { clock = at }) at key (row_of m key) h)
-    by false (a_list id) h = ap list_or_none (list id h (measure_of m id))
+    issues : (i : ItemName) → would_write m (Tick at) i ≡ false → contents (issue_due (record m { clock = at })) i ≡ contents m i
+    issues the_clock h = cc
+    issues the_catalogue h = refl
+    issues (a_row key) h =
+        ap row_or_none (at-map (λ k row. issue_if (is_to_issue at row) (record m { clock = at }) k row) key m.rows
+        ∙ row_stays (record m { clock = at }) at key (row_of m key) h)
+    issues (a_list id) h = ap list_or_none (list id h (measure_of m id))

@@ -8,7 +8,8 @@ use Rattle.std.proofs.lemmas.Bool.{both_ways, ltb-true}
 use Rattle.std.proofs.lemmas.List.Elements.{All-nil}
 use Rattle.casa_grid.specs.Profile.{end_of}
 use Rattle.casa_flight.specs.declared.call.Call.{Call}
-use Rattle.casa_flight.specs.declared.call.Call.TheVariants.{File, Amend, Cancel, Revise, Exempt, Show, List as ListOf}
+use Rattle.casa_flight.specs.declared.call.Call.TheVariants.{File, Amend, Cancel, Revise, Exempt}
+use Rattle.casa_flight.specs.declared.call.Refusal.{Refusal}
 use Rattle.casa_filing.specs.declared.regulation.Measure.{Measure}
 use Rattle.casa_flight.specs.declared.reply.Message.{Message}
 use Rattle.casa_flight.specs.declared.reply.Message.TheVariants.{Sam, Srm, Slc}
@@ -17,16 +18,18 @@ use Rattle.casa_flight.specs.declared.state.State.{State}
 use Rattle.casa_filing.specs.Text.{Text, at_name, without}
 use Rattle.casa_filing.specs.FlightPlan.{FlightPlan}
 use Rattle.casa_filing.specs.Subject.{regulation, subject, is_due, is_gone}
-use Rattle.casa_flight.specs.State.{row_of, with_row, is_exempt, ungoverned}
+use Rattle.casa_flight.specs.State.{row_of, with_row, ungoverned}
 use Rattle.casa_flight.specs.Listing.{ctot_of}
 use Rattle.casa_flight.specs.Entry.{Offer, situation, choice, row_after_entry}
-use Rattle.casa_flight.specs.Steps.{Step, refused, leads, new_row, file, amend, cancel, is_revised, state_if, revise, exempt, exempt_if, show, list, step, after, next}
+use Rattle.casa_flight.specs.Steps.{Step, refused, leads, new_row, is_revised, step, after, next}
 use Rattle.casa_flight.specs.Replies.{messages, is_issued, ctot_before, reply, reply_of}
 use Rattle.casa_flight.specs.Good.{AreInOrder, IsOutside, IsGood, IsGoverned}
 use Rattle.casa_flight.specs.Messages.{messages_in, flight_of, CanCome, TellsChange}
 use Rattle.casa_filing.proofs.Entries.{text_cmp, same_name, all_at, at-without_other}
 use Rattle.casa_laws.proofs.Kept.{at-without_same}
 use Rattle.casa_laws.proofs.Choice.{choice-offer, choice-none}
+use Rattle.casa_laws.proofs.Outcomes.{exempted, file_cases, amend_cases, cancel_cases, revise_cases, exempt_cases}
+use Rattle.casa_laws.proofs.Good.{without-good}
 use Rattle.casa_laws.proofs.GoodRegs.{next-good}
 use Rattle.casa_laws.proofs.ChangeMessages.{message_cases, message_tells, each_message, tells_comes, messages_sorted, governed_by, free_of, StaysOpen, stays, messages_unchanged, all_one}
 use Rattle.casa_laws.proofs.EnterAll.{IsIssuedNow, issued_now, issues}
@@ -63,6 +66,10 @@ call_sorted m call good = step_sorted m call (step m call) (next-good m call goo
 abbrev pub Comes : State → Call → Step → Type 0
 Comes m call s = All (CanCome m call) (messages_in (reply_of m call s))
 
+-- nothing comes of a refused call
+pub refused_comes : (m : State) (call : Call) (r : Refusal) → Comes m call (refused r)
+refused_comes m call r = All-nil (CanCome m call)
+
 -- of a call that writes one row, the message for its flight
 one_message : (Q : Message → Type 0) (m : State) (key : Text) (row : Row) → IsGood m → let n : State = with_row m key row in
     ((reg : Text) → row.governing ≡ Some reg → is_issued (row_of m key) ≡ false → is_some row.issued ≡ true → Q (Sam key (ctot_of n key row) reg))
@@ -76,27 +83,22 @@ one_message Q m key row good a b c =
 pub no_message : (Q : Message → Type 0) (m n : State) → IsGood m → AreInOrder n.rows → ((id : Text) → StaysOpen m n id) → ((key : Text) (row : Row) → row_of n key ≡ Some row → row_of m key ≡ Some row) → All Q (messages m n)
 no_message Q m n good sorted lasts before = subst (All Q) (sym (messages_unchanged m n good sorted lasts before)) (All-nil Q)
 
-unchanged : (Q : Message → Type 0) (m : State) → IsGood m → All Q (messages m m)
+pub unchanged : (Q : Message → Type 0) (m : State) → IsGood m → All Q (messages m m)
 unchanged Q m good = no_message Q m m good good.rows_in_order (λ id. stays m m id (λ a opened. opened)) (λ key row found. found)
 
-not_issued_there : (m : State) (key : Text) → row_of m key ≡ None → is_issued (row_of m key) ≡ false
-not_issued_there m key absent = ap is_issued absent
-
-pub file_comes : (m : State) (plan : FlightPlan) (o : Option Row) (late : Bool) → IsGood m → row_of m plan.key ≡ o → Comes m (File plan) (file m plan o late)
-file_comes m plan (Some row) late good found = All-nil (CanCome m (File plan))
-file_comes m plan None true good found = All-nil (CanCome m (File plan))
-file_comes m plan None false good found =
-    one_message (CanCome m (File plan)) m plan.key (row_after_entry (situation m) plan.key (new_row plan)) good
+pub file_comes : (m : State) (plan : FlightPlan) → IsGood m → Comes m (File plan) (step m (File plan))
+file_comes m plan good =
+    file_cases m (Comes m (File plan)) (refused_comes m (File plan)) plan
+    (λ absent. one_message (CanCome m (File plan)) m plan.key (row_after_entry (situation m) plan.key (new_row plan)) good
     (λ _ _ _ _. refl)
-    (λ _ _ was _ _. both_ways _ (not_issued_there m plan.key found) was)
-    (λ was _. both_ways _ (not_issued_there m plan.key found) was)
+    (λ _ _ was _ _. both_ways _ (ap is_issued absent) was)
+    (λ was _. both_ways _ (ap is_issued absent) was))
 
-pub amend_comes : (m : State) (plan : FlightPlan) (o : Option Row) (late : Bool) → IsGood m → Comes m (Amend plan) (amend m plan o late)
-amend_comes m plan None late good = All-nil (CanCome m (Amend plan))
-amend_comes m plan (Some row) true good = All-nil (CanCome m (Amend plan))
-amend_comes m plan (Some row) false good =
-    one_message (CanCome m (Amend plan)) m plan.key (row_after_entry (situation m) plan.key (record (ungoverned row) { plan = plan })) good
-    (λ _ _ _ _. refl) (λ _ _ _ _ _. refl) (λ _ _. refl)
+pub amend_comes : (m : State) (plan : FlightPlan) → IsGood m → Comes m (Amend plan) (step m (Amend plan))
+amend_comes m plan good =
+    amend_cases m (Comes m (Amend plan)) (refused_comes m (Amend plan)) plan
+    (λ row found. one_message (CanCome m (Amend plan)) m plan.key (row_after_entry (situation m) plan.key (record (ungoverned row) { plan = plan })) good
+    (λ _ _ _ _. refl) (λ _ _ _ _ _. refl) (λ _ _. refl))
 
 -- what is left after a flight was removed was there before
 left_row : (m : State) (key other : Text) (row : Row) → IsGood m → at_name (without m.rows key) other ≡ Some row → row_of m other ≡ Some row
@@ -108,20 +110,18 @@ left_row m key other row good found =
       | false ↦ λ t. sym (at-without_other other key m.rows t) ∙ found
     ] refl
 
-pub cancel_comes : (m : State) (key : Text) (o : Option Row) → IsGood m → IsGood (after m (cancel m key o)) → Comes m (Cancel key) (cancel m key o)
-cancel_comes m key None good later = All-nil (CanCome m (Cancel key))
-cancel_comes m key (Some row) good later =
-    no_message (CanCome m (Cancel key)) m (record m { rows = without m.rows key }) good later.rows_in_order (λ id. stays m (record m { rows = without m.rows key }) id (λ a opened. opened)) (λ other r found. left_row m key other r good found)
+pub cancel_comes : (m : State) (key : Text) → IsGood m → Comes m (Cancel key) (step m (Cancel key))
+cancel_comes m key good =
+    let n : State = record m { rows = without m.rows key } in
+    cancel_cases m (Comes m (Cancel key)) (refused_comes m (Cancel key)) key
+    (λ row found. no_message (CanCome m (Cancel key)) m n good (without-good m key good).rows_in_order
+    (λ id. stays m n id (λ a opened. opened)) (λ other r there. left_row m key other r good there))
 
-exempt_if_comes : (m : State) (key : Text) (row : Row) (b : Bool) → IsGood m → Comes m (Exempt key) (exempt_if m key row b)
-exempt_if_comes m key row true good = All-nil (CanCome m (Exempt key))
-exempt_if_comes m key row false good =
-    one_message (CanCome m (Exempt key)) m key (record (ungoverned row) { marked = true }) good
-    (λ _ _ _ now. cc) (λ _ _ _ now _. cc) (λ _ _. refl)
-
-pub exempt_comes : (m : State) (key : Text) (o : Option Row) → IsGood m → Comes m (Exempt key) (exempt m key o)
-exempt_comes m key None good = All-nil (CanCome m (Exempt key))
-exempt_comes m key (Some row) good = exempt_if_comes m key row (is_exempt row) good
+pub exempt_comes : (m : State) (key : Text) → IsGood m → Comes m (Exempt key) (step m (Exempt key))
+exempt_comes m key good =
+    exempt_cases m (Comes m (Exempt key)) (refused_comes m (Exempt key)) key
+    (λ row found not. one_message (CanCome m (Exempt key)) m key (exempted row) good
+    (λ _ _ _ now. cc) (λ _ _ _ now _. cc) (λ _ _. refl))
 
 -- a plan that is subject to an open regulation is not outside
 pub not_outside : (regs : List (Text × Measure)) (plan : FlightPlan) (id : Text) (measure : Measure) (eto : ℕ) → IsOutside regs plan → at_name regs id ≡ Some measure → subject plan (regulation id measure) ≡ Some eto → ⊥
@@ -174,28 +174,19 @@ revised_parts true false false h is = cc
 revised_parts true true l h is = cc
 revised_parts false g l h is = cc
 
-revise_if_comes : (m : State) (key : Text) (row : Row) (b : Bool) → IsGood m → row_of m key ≡ Some row → let new : Row = row_after_entry (situation m) key (ungoverned row) in
-    is_revised m key row new ≡ b → Comes m (Revise key) (leads (state_if b (with_row m key new) m))
-revise_if_comes m key row false good found is = unchanged (CanCome m (Revise key)) m good
-revise_if_comes m key row true good found is =
-    let new : Row = row_after_entry (situation m) key (ungoverned row) in
-    let parts : is_some row.issued ≡ true → (is_gone m.clock row.plan ≡ false) × (nat_lt (ctot_of (with_row m key new) key new) (ctot_of m key row) ≡ true) =
-    revised_parts (is_some row.issued) (is_gone m.clock row.plan) (nat_lt (ctot_of (with_row m key new) key new) (ctot_of m key row)) is in
-    let as_row : is_issued (row_of m key) ≡ is_some row.issued = ap is_issued found in
-    let before : ctot_of m key row ≡ ctot_before m key = sym (ap (λ (w : Option Row). option_map_or (ctot_of m key) w 0) found) in
-    one_message (CanCome m (Revise key)) m key new good
-    (λ _ _ was now. still_waits m key row good found (sym as_row ∙ was) now)
-    (λ _ _ was _ _. (refl, subst (λ t. ctot_of (with_row m key new) key new < t) before (ltb-true _ _ (parts (sym as_row ∙ was)).1)))
-    (λ was now. both_ways _ now (issued_again m key row good found (sym as_row ∙ was) (parts (sym as_row ∙ was)).0))
-
-pub revise_comes : (m : State) (key : Text) (o : Option Row) → IsGood m → row_of m key ≡ o → Comes m (Revise key) (revise m key o)
-revise_comes m key None good found = All-nil (CanCome m (Revise key))
-revise_comes m key (Some row) good found = revise_if_comes m key row (is_revised m key row (row_after_entry (situation m) key (ungoverned row))) good found refl
-
-pub show_comes : (m : State) (key : Text) (o : Option Row) → IsGood m → Comes m (Show key) (show m o)
-show_comes m key None good = All-nil (CanCome m (Show key))
-show_comes m key (Some row) good = unchanged (CanCome m (Show key)) m good
-
-pub list_comes : (m : State) (id : Text) (o : Option Measure) → IsGood m → Comes m (ListOf id) (list m o)
-list_comes m id None good = All-nil (CanCome m (ListOf id))
-list_comes m id (Some measure) good = unchanged (CanCome m (ListOf id)) m good
+pub revise_comes : (m : State) (key : Text) → IsGood m → Comes m (Revise key) (step m (Revise key))
+revise_comes m key good =
+    revise_cases m (Comes m (Revise key)) (refused_comes m (Revise key)) key (λ row found not. unchanged (CanCome m (Revise key)) m good) enters
+  where
+    enters : (row : Row) → row_of m key ≡ Some row → let new : Row = row_after_entry (situation m) key (ungoverned row) in
+        is_revised m key row new ≡ true → Comes m (Revise key) (leads (with_row m key new))
+    enters row found is =
+        let new : Row = row_after_entry (situation m) key (ungoverned row) in
+        let parts : is_some row.issued ≡ true → (is_gone m.clock row.plan ≡ false) × (nat_lt (ctot_of (with_row m key new) key new) (ctot_of m key row) ≡ true) =
+        revised_parts (is_some row.issued) (is_gone m.clock row.plan) (nat_lt (ctot_of (with_row m key new) key new) (ctot_of m key row)) is in
+        let as_row : is_issued (row_of m key) ≡ is_some row.issued = ap is_issued found in
+        let before : ctot_of m key row ≡ ctot_before m key = sym (ap (λ (w : Option Row). option_map_or (ctot_of m key) w 0) found) in
+        one_message (CanCome m (Revise key)) m key new good
+        (λ _ _ was now. still_waits m key row good found (sym as_row ∙ was) now)
+        (λ _ _ was _ _. (refl, subst (λ t. ctot_of (with_row m key new) key new < t) before (ltb-true _ _ (parts (sym as_row ∙ was)).1)))
+        (λ was now. both_ways _ now (issued_again m key row good found (sym as_row ∙ was) (parts (sym as_row ∙ was)).0))

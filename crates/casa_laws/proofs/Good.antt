@@ -1,4 +1,4 @@
--- a flight that enters is in good standing, and the calls on one flight keep a state good
+-- a flight that enters is in good standing, and a state stays good where a flight enters, is exempted or is removed
 use Rattle.std.proofs.Common.{◌≡◌, ℕ, ◌≤◌, List, Bool, true, false, cond, ◌||◌, refl, Option, None, Some, MatchOption}
 use Rattle.std.specs.Option.{option_map_or}
 use Rattle.std.specs.List.{AllByRecursion}
@@ -11,15 +11,15 @@ use Rattle.casa_grid.specs.Profile.{end_of}
 use Rattle.casa_filing.specs.declared.regulation.Measure.{Measure}
 use Rattle.casa_flight.specs.declared.row.Row.{Row}
 use Rattle.casa_flight.specs.declared.state.State.{State}
-use Rattle.casa_filing.specs.Text.{Text}
-use Rattle.casa_filing.specs.FlightPlan.{FlightPlan}
+use Rattle.casa_filing.specs.Text.{Text, without}
 use Rattle.casa_filing.specs.Subject.{is_due, is_gone}
-use Rattle.casa_flight.specs.State.{empty, row_of, with_row, is_exempt, ungoverned}
+use Rattle.casa_flight.specs.State.{empty, row_of, with_row, is_exempt}
 use Rattle.casa_flight.specs.Entry.{Offer, situation, choice, governed, row_after_entry, enter}
-use Rattle.casa_flight.specs.Steps.{Step, new_row, file, amend, cancel, exempt, exempt_if, revise, is_revised, state_if, show, list, after}
+use Rattle.casa_flight.specs.Steps.{Step, after}
 use Rattle.casa_flight.specs.Good.{IsOutside, IsGood, IsGoodRow, IsFree, IsGoverned}
 use Rattle.casa_filing.proofs.Entries.{text_cmp, all-put-but, all-remove, all_at, all-each, sorted-put, sorted-remove}
 use Rattle.casa_laws.proofs.Choice.{IsOfferOf, choice-offer, choice-none}
+use Rattle.casa_laws.proofs.Outcomes.{exempted}
 
 pub empty_good : IsGood empty
 unfolding IsStrictlySortedBy
@@ -139,7 +139,7 @@ pub enter-good : (v w : Text → Bool) (m : State) (key : Text) (row : Row) → 
 enter-good v w m key row less good keyed free not_issued =
     put-good v w m key (row_after_entry (situation m) key row) less good (entered_row m key row good.regs_in_order keyed free not_issued)
 
-enter-from_good : (m : State) (key : Text) (row : Row) → IsGood m → row.plan.key ≡ key → row.governing ≡ None → row.issued ≡ None → IsGood (enter m key row)
+pub enter-from_good : (m : State) (key : Text) (row : Row) → IsGood m → row.plan.key ≡ key → row.governing ≡ None → row.issued ≡ None → IsGood (enter m key row)
 enter-from_good m key row good keyed free not_issued =
     from_but (enter m key row) (enter-good none_waits none_waits m key row (λ q _ w. w) (to_but m good) keyed free not_issued)
 
@@ -147,53 +147,21 @@ enter-from_good m key row good keyed free not_issued =
 pub good_row : (m : State) (key : Text) (row : Row) → IsGood m → row_of m key ≡ Some row → IsGoodRow m.clock m.regs key row
 good_row m key row good found = all_at (λ (e : Text × Row). IsGoodRow m.clock m.regs e.0 e.1) key row m.rows good.rows found
 
--- the calls on one flight, each by its look-ups, and those that change nothing
-abbrev pub KeepsGood : State → Step → Type 0
-KeepsGood m s = IsGood (after m s)
-
-pub file-good : (m : State) (plan : FlightPlan) (o : Option Row) (late : Bool) → IsGood m → KeepsGood m (file m plan o late)
-file-good m plan (Some row) late good = good
-file-good m plan None true good = good
-file-good m plan None false good = enter-from_good m plan.key (new_row plan) good refl refl refl
-
-pub amend-good : (m : State) (plan : FlightPlan) (o : Option Row) (late : Bool) → IsGood m → KeepsGood m (amend m plan o late)
-amend-good m plan None late good = good
-amend-good m plan (Some row) true good = good
-amend-good m plan (Some row) false good = enter-from_good m plan.key (record (ungoverned row) { plan = plan }) good refl refl refl
-
-pub cancel-good : (m : State) (key : Text) (o : Option Row) → IsGood m → KeepsGood m (cancel m key o)
-cancel-good m key None good = good
-cancel-good m key (Some row) good = record {
+-- a flight that is removed
+pub without-good : (m : State) (key : Text) → IsGood m → IsGood (record m { rows = without m.rows key })
+without-good m key good = record {
   rows_in_order = sorted-remove (is_at (text_cmp key)) m.rows good.rows_in_order;
   regs_in_order = good.regs_in_order;
   rows = all-remove (λ (e : Text × Row). IsGoodRow m.clock m.regs e.0 e.1) (is_at (text_cmp key)) m.rows good.rows;
 }
 
-exempt_if-good : (m : State) (key : Text) (row : Row) (b : Bool) → IsGood m → row.plan.key ≡ key → KeepsGood m (exempt_if m key row b)
-exempt_if-good m key row true good keyed = good
-exempt_if-good m key row false good keyed =
-    let new : Row = record (ungoverned row) { marked = true } in
-    from_but (with_row m key new) (put-good none_waits none_waits m key new (λ q _ w. w) (to_but m good) (free_row m.clock m.regs key new keyed refl refl (λ p q. cc)))
+-- a flight that is exempted
+pub exempted-good : (m : State) (key : Text) (row : Row) → IsGood m → row_of m key ≡ Some row → IsGood (with_row m key (exempted row))
+exempted-good m key row good found =
+    let new : Row = exempted row in
+    from_but (with_row m key new)
+    (put-good none_waits none_waits m key new (λ q _ w. w) (to_but m good) (free_row m.clock m.regs key new (good_row m key row good found).keyed refl refl (λ p q. cc)))
 
-pub exempt-good : (m : State) (key : Text) (o : Option Row) → IsGood m → row_of m key ≡ o → KeepsGood m (exempt m key o)
-exempt-good m key None good found = good
-exempt-good m key (Some row) good found = exempt_if-good m key row (is_exempt row) good (good_row m key row good found).keyed
-
-state_if-good : (b : Bool) (m n : State) → IsGood m → IsGood n → IsGood (state_if b m n)
-state_if-good true m n g h = g
-state_if-good false m n g h = h
-
-pub revise-good : (m : State) (key : Text) (o : Option Row) → IsGood m → row_of m key ≡ o → KeepsGood m (revise m key o)
-revise-good m key None good found = good
-revise-good m key (Some row) good found =
-    let new : Row = row_after_entry (situation m) key (ungoverned row) in
-    state_if-good (is_revised m key row new) (with_row m key new) m
-    (enter-from_good m key (ungoverned row) good (good_row m key row good found).keyed refl refl) good
-
-pub show-good : (m : State) (o : Option Row) → IsGood m → KeepsGood m (show m o)
-show-good m None good = good
-show-good m (Some row) good = good
-
-pub list-good : (m : State) (o : Option Measure) → IsGood m → KeepsGood m (list m o)
-list-good m None good = good
-list-good m (Some measure) good = good
+-- a step leads to a good state
+abbrev pub KeepsGood : State → Step → Type 0
+KeepsGood m s = IsGood (after m s)

@@ -1,5 +1,5 @@
 -- OpenReg, CloseReg and Rates keep a state good, and so does every call
-use Rattle.std.proofs.Common.{◌≡◌, ℕ, List, [], ◌∷◌, length, take, drop, Bool, true, false, cond, not, ◌&&◌, ◌||◌, nat_lt, nat_le, refl, sym, ap, ◌∙◌, Option, None, Some, unwrap_or, subst}
+use Rattle.std.proofs.Common.{◌≡◌, ℕ, List, [], ◌∷◌, length, take, drop, Bool, true, false, cond, not, ◌&&◌, ◌||◌, refl, sym, ap, ◌∙◌, Option, None, Some, unwrap_or, subst}
 use Rattle.std.specs.Option.{option_map}
 use Rattle.std.specs.List.{AllByRecursion, list_any, filter_map, cons_option, fold, insert, position}
 use Rattle.std.specs.List.Sorted.{IsStrictlySortedBy}
@@ -12,6 +12,7 @@ use Rattle.std.proofs.lemmas.List.Folds.{list_any-append}
 use Rattle.casa_grid.specs.declared.period.Period.{Period}
 use Rattle.casa_flight.specs.declared.call.Call.{Call}
 use Rattle.casa_flight.specs.declared.call.Call.TheVariants.{File, Amend, Cancel, Revise, Exempt, OpenReg, CloseReg, Rates, Tick, Show, List as ListOf, Swap}
+use Rattle.casa_flight.specs.declared.call.Refusal.{Refusal}
 use Rattle.casa_flight.specs.declared.comp.Comp.{Comp}
 use Rattle.casa_filing.specs.declared.regulation.Regulation.{Regulation}
 use Rattle.casa_filing.specs.declared.regulation.Measure.{Measure}
@@ -23,12 +24,13 @@ use Rattle.casa_filing.specs.Subject.{regulation, subject}
 use Rattle.casa_flight.specs.State.{row_of, measure_of, is_governed_by, ungoverned}
 use Rattle.casa_flight.specs.Listing.{insert_sorted, sorted_by, is_before}
 use Rattle.casa_flight.specs.Entry.{enter_all, reenter}
-use Rattle.casa_flight.specs.Steps.{most_regulations, flights_over, may_compete, take_in, open_regulation, ungoverned_if, state_without_regulation, close_regulation, keeps_span, ends_later, rates, rates_if, next}
+use Rattle.casa_flight.specs.Steps.{Step, refused, new_row, flights_over, may_compete, take_in, ungoverned_if, state_without_regulation, step, next}
 use Rattle.casa_flight.specs.Good.{IsGood, IsGoodRow, IsGoverned}
 use Rattle.casa_filing.proofs.Entries.{text_cmp, all-put, all-remove, all_at, all-each, all-both, all-map, keys-map, sorted-put, sorted-remove, same_name, apart, itself, at-put_other, at-without_other, none_at}
-use Rattle.casa_laws.proofs.Good.{IsRowBut, IsGoodBut, none_waits, KeepsGood, enter-good, from_but, row-looser, file-good, amend-good, cancel-good, exempt-good, revise-good, show-good, list-good}
-use Rattle.casa_laws.proofs.Swap.{swap-good}
-use Rattle.casa_laws.proofs.GoodTick.{tick-good, rates_governed, rated-good, span_kept, same_end}
+use Rattle.casa_laws.proofs.Outcomes.{file_cases, amend_cases, cancel_cases, revise_cases, exempt_cases, open_cases, close_cases, rates_cases, tick_cases, show_cases, list_cases, swap_cases}
+use Rattle.casa_laws.proofs.Good.{IsRowBut, IsGoodBut, none_waits, KeepsGood, enter-good, enter-from_good, from_but, row-looser, good_row, without-good, exempted-good}
+use Rattle.casa_laws.proofs.Swap.{exchange-good}
+use Rattle.casa_laws.proofs.GoodTick.{tick-good, rates_governed, rated-good, KeepsSpan, span_kept, same_end}
 
 -- whether a key is of one of the flights that are still to enter
 abbrev waits : List Comp → Text → Bool
@@ -162,10 +164,8 @@ open_governed clock regs id measure absent row by h =
       | false ↦ λ t. record { measure = h.measure; is_open = at-put_other by id measure regs t ∙ h.is_open; eto = h.eto; is_subject = h.is_subject; not_exempt = h.not_exempt; issued = h.issued }
     ] refl
 
-open_regulation-good : (m : State) (id : Text) (measure : Measure) (o : Option Measure) (full : Bool) → measure_of m id ≡ o → IsGood m → KeepsGood m (open_regulation m id measure o full)
-open_regulation-good m id measure (Some old) full absent good = good
-open_regulation-good m id measure None true absent good = good
-open_regulation-good m id measure None false absent good = take_in-good m id measure (open_governed m.clock m.regs id measure absent) good
+pub opened-good : (m : State) (id : Text) (measure : Measure) → measure_of m id ≡ None → IsGood m → IsGood (take_in m id measure)
+opened-good m id measure absent good = take_in-good m id measure (open_governed m.clock m.regs id measure absent) good
 
 -- a flight that the closed regulation governs is one of those over it
 some_comp : (o : Option ℕ) (eto : ℕ) (key : Text) → o ≡ Some eto → comp_if true o key ≡ None → ⊥
@@ -197,9 +197,10 @@ close_row clock regs id measure w key plan marked (Some by) i found good waiting
       }
     ] refl waiting
 
-close_regulation-good : (m : State) (id : Text) (o : Option Measure) → measure_of m id ≡ o → IsGood m → KeepsGood m (close_regulation m id o)
-close_regulation-good m id None found good = good
-close_regulation-good m id (Some measure) found good =
+-- what a closed regulation governed has entered anew
+pub closed-good : (m : State) (id : Text) (measure : Measure) → measure_of m id ≡ Some measure → IsGood m
+    → IsGood (enter_all (state_without_regulation m id) (flights_over (is_governed_by id) (regulation id measure) m.rows))
+closed-good m id measure found good =
     let f : Text × Row → Row = λ e. ungoverned_if (is_governed_by id e.1) e.1 in
     let n : State = state_without_regulation m id in
     let cs : List Comp = flights_over (is_governed_by id) (regulation id measure) m.rows in
@@ -213,33 +214,39 @@ close_regulation-good m id (Some measure) found good =
           m.rows good.rows (flights_wait (is_governed_by id) (regulation id measure) m.rows));
     }))
 
--- new rates with the same end or a later one
-rates_if-good : (m : State) (id : Text) (measure : Measure) (profile : List Period) (b later : Bool) → measure_of m id ≡ Some measure → keeps_span profile measure.profile ≡ b → ends_later profile measure.profile ≡ later → IsGood m
-    → KeepsGood m (rates_if m id (record measure { profile = profile }) b later)
-rates_if-good m id measure profile false later found span after good = good
-rates_if-good m id measure profile true false found span after good =
-    let k = span_kept profile measure.profile span in
-    rated-good m id measure profile found k.start (same_end profile measure.profile k after) good
-rates_if-good m id measure profile true true found span after good =
-    let k = span_kept profile measure.profile span in
-    take_in-good m id (record measure { profile = profile })
-    (λ row by. rates_governed m.clock m.regs id measure profile row by found k.start k.end) good
-
-rates-good : (m : State) (id : Text) (profile : List Period) (o : Option Measure) → measure_of m id ≡ o → IsGood m → KeepsGood m (rates m id profile o)
-rates-good m id profile None found good = good
-rates-good m id profile (Some measure) found good = rates_if-good m id measure profile _ _ found refl refl good
+-- a regulation that ends later has taken flights in
+pub extended-good : (m : State) (id : Text) (measure : Measure) (profile : List Period) → measure_of m id ≡ Some measure → KeepsSpan profile measure.profile → IsGood m
+    → IsGood (take_in m id (record measure { profile = profile }))
+extended-good m id measure profile found k good =
+    take_in-good m id (record measure { profile = profile }) (λ row by. rates_governed m.clock m.regs id measure profile row by found k.start k.end) good
 
 -- every call keeps a good state good
 pub next-good : (m : State) (call : Call) → IsGood m → IsGood (next m call)
-next-good m (File plan) good = file-good m plan (row_of m plan.key) (nat_lt plan.eobt m.clock) good
-next-good m (Amend plan) good = amend-good m plan (row_of m plan.key) (nat_lt plan.eobt m.clock) good
-next-good m (Cancel key) good = cancel-good m key (row_of m key) good
-next-good m (Revise key) good = revise-good m key (row_of m key) good refl
-next-good m (Exempt key) good = exempt-good m key (row_of m key) good refl
-next-good m (OpenReg id loc profile) good = open_regulation-good m id (record { loc = loc; profile = profile }) (measure_of m id) (nat_le most_regulations (length m.regs)) refl good
-next-good m (CloseReg id) good = close_regulation-good m id (measure_of m id) refl good
-next-good m (Rates id profile) good = rates-good m id profile (measure_of m id) refl good
-next-good m (Tick at) good = tick-good m at (nat_lt at m.clock) refl good
-next-good m (Show key) good = show-good m (row_of m key) good
-next-good m (ListOf id) good = list-good m (measure_of m id) good
-next-good m (Swap key other) good = swap-good m key other good
+next-good m call good = by call
+  where
+    P : Step → Type 0
+    P = KeepsGood m
+
+    refusal : (r : Refusal) → P (refused r)
+    refusal r = good
+
+    by : (call : Call) → P (step m call)
+    by (File plan) = file_cases m P refusal plan (λ absent. enter-from_good m plan.key (new_row plan) good refl refl refl)
+    by (Amend plan) = amend_cases m P refusal plan (λ row found. enter-from_good m plan.key (record (ungoverned row) { plan = plan }) good refl refl refl)
+    by (Cancel key) = cancel_cases m P refusal key (λ row found. without-good m key good)
+    by (Revise key) =
+        revise_cases m P refusal key (λ row found not. good)
+        (λ row found revised. enter-from_good m key (ungoverned row) good (good_row m key row good found).keyed refl refl)
+    by (Exempt key) = exempt_cases m P refusal key (λ row found not. exempted-good m key row good found)
+    by (OpenReg id loc profile) = open_cases m P refusal id loc profile (λ absent. opened-good m id (record { loc = loc; profile = profile }) absent good)
+    by (CloseReg id) = close_cases m P refusal id (λ measure found. closed-good m id measure found good)
+    by (Rates id profile) =
+        rates_cases m P refusal id profile
+        (λ measure found span same.
+        let k = span_kept profile measure.profile span in
+        rated-good m id measure profile found k.start (same_end profile measure.profile k same) good)
+        (λ measure found span later. extended-good m id measure profile found (span_kept profile measure.profile span) good)
+    by (Tick at) = tick_cases m P refusal at (λ forward. tick-good m at forward good)
+    by (Show key) = show_cases m P refusal key good
+    by (ListOf id) = list_cases m P refusal id good
+    by (Swap key other) = swap_cases m P refusal key other (λ row mate cto time can. exchange-good m (record { key = key; row = row; cto = cto; other = other; mate = mate; time = time }) good can)

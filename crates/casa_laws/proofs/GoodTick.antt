@@ -20,13 +20,12 @@ use Rattle.casa_filing.specs.FlightPlan.{FlightPlan, etot}
 use Rattle.casa_filing.specs.Subject.{regulation, subject, is_due, is_gone}
 use Rattle.casa_flight.specs.State.{measure_of}
 use Rattle.casa_flight.specs.Listing.{Listing, listing, list_of, stance_in, cto_as, cto_of, place_of}
-use Rattle.casa_flight.specs.Entry.{is_to_issue, issued_in, issue_if}
-use Rattle.casa_flight.specs.Steps.{keeps_span, ends_later, tick}
+use Rattle.casa_flight.specs.Entry.{is_to_issue, issued_in, issue_if, issue_due}
+use Rattle.casa_flight.specs.Steps.{keeps_span, ends_later}
 use Rattle.casa_flight.specs.Good.{IsOutside, IsGood, IsGoodRow, IsFree, IsGoverned}
 use Rattle.casa_filing.proofs.Entries.{text_cmp, all-put, all_at, all-each, sorted-put, same_name, at-put_same, at-put_other, each_found, all-both, keys-map, all-map}
 use Rattle.casa_laws.proofs.Kept.{at-kept}
 use Rattle.casa_laws.proofs.Choice.{cto-between, eto-before_end, subject-later}
-use Rattle.casa_laws.proofs.Good.{KeepsGood}
 
 -- a flight that is due stays due, and one that is not gone was not gone before
 still_due : (old new : ℕ) (plan : FlightPlan) → old ≤ new → is_due old plan ≡ true → is_due new plan ≡ true
@@ -109,9 +108,8 @@ tick_row m old key plan marked (Some id) None h sorted found good =
       | false ↦ λ due. record { keyed = good.keyed; standing = still_governed old m.clock m.regs id plan marked None None s due }
     ] refl
 
-pub tick-good : (m : State) (at : ℕ) (back : Bool) → nat_lt at m.clock ≡ back → IsGood m → KeepsGood m (tick m at back)
-tick-good m at true is good = good
-tick-good m at false is good =
+pub tick-good : (m : State) (at : ℕ) → nat_lt at m.clock ≡ false → IsGood m → IsGood (issue_due (record m { clock = at }))
+tick-good m at is good =
     let n : State = record m { clock = at } in
     let f : Text × Row → Row = λ e. issue_if (is_to_issue at e.1) n e.0 e.1 in
     record {

@@ -1,5 +1,5 @@
 -- what stays of a flight at the calls that are not its own, and what an opened regulation and the clock give
-use Rattle.std.proofs.Common.{◌≡◌, ℕ, List, length, Bool, true, false, refl, sym, ap, ◌∙◌, ◌⊎◌, inl, inr, Option, None, Some, is_some, nat_lt, nat_le, ◌&&◌, ◌||◌}
+use Rattle.std.proofs.Common.{◌≡◌, ℕ, List, Bool, true, false, refl, sym, ap, ◌∙◌, ◌⊎◌, inl, inr, Option, None, Some, is_some, ◌&&◌}
 use Rattle.std.specs.Option.{option_map, option_map_or, option_and_then}
 use Rattle.std.proofs.lemmas.Bool.{both_ways, or_parts, false_from_ne_true}
 use Rattle.casa_grid.specs.declared.period.Period.{Period}
@@ -13,17 +13,17 @@ use Rattle.casa_filing.specs.declared.regulation.Measure.{Measure}
 use Rattle.casa_flight.specs.declared.row.Row.{Row}
 use Rattle.casa_flight.specs.declared.state.State.{State}
 use Rattle.casa_filing.specs.Text.{Text, same_text, put}
-use Rattle.casa_filing.specs.FlightPlan.{FlightPlan}
 use Rattle.casa_filing.specs.Subject.{regulation, is_due, is_gone}
-use Rattle.casa_flight.specs.State.{row_of, measure_of, with_row, is_exempt, is_governed_by, ungoverned}
+use Rattle.casa_flight.specs.State.{row_of, with_row, is_exempt, is_governed_by, ungoverned}
 use Rattle.casa_flight.specs.Listing.{Listing, listing, place_of, cto_of, governing_list}
 use Rattle.casa_flight.specs.Entry.{situation, row_after_entry, is_to_issue, issued_in, issue_if, issue_due}
-use Rattle.casa_flight.specs.Steps.{Step, refused, step, most_regulations, new_row, file, amend, cancel, is_revised, state_if, revise, exempt, exempt_if, flights_over, may_compete, take_in, open_regulation, close_regulation, keeps_span, ends_later, extends, rates, rates_if, tick, show, list, with_issued_time, after, next}
+use Rattle.casa_flight.specs.Steps.{Step, refused, step, new_row, flights_over, may_compete, take_in, ends_later, with_issued_time, after, next}
 use Rattle.casa_flight.specs.Good.{IsGood, IsFree, IsGoverned}
 use Rattle.casa_flight.specs.IssuedTimes.{may_free, may_serve, IsTakenIn, BecomesIssued}
 use Rattle.casa_filing.proofs.Entries.{named, apart, at-put_other, at-without_other, at-map}
-use Rattle.casa_laws.proofs.Swap.{swap_cases}
-use Rattle.casa_laws.proofs.GoodRegs.{next-good}
+use Rattle.casa_laws.proofs.Outcomes.{set_row, file_cases, open_cases, close_cases, rates_cases, tick_cases, show_cases, list_cases, swap_cases, flight_written_by, one_row}
+use Rattle.casa_laws.proofs.GoodTick.{span_kept}
+use Rattle.casa_laws.proofs.GoodRegs.{opened-good, extended-good}
 use Rattle.casa_laws.proofs.ChangeMessages.{governed_by, free_of}
 use Rattle.casa_laws.proofs.EnterAll.{rest-enter_all}
 use Rattle.casa_laws.proofs.CallMessages.{issued_if_due}
@@ -40,85 +40,50 @@ Stays m s key row = row_of (after m s) key ≡ Some row
 put_stays : (m : State) (name key : Text) (new row : Row) → same_text name key ≡ false → row_of m key ≡ Some row → row_of (with_row m name new) key ≡ Some row
 put_stays m name key new row other found = at-put_other key name new m.rows (apart name key other) ∙ found
 
-file_stays : (m : State) (plan : FlightPlan) (key : Text) (row : Row) (o : Option Row) (late : Bool) → row_of m plan.key ≡ o → row_of m key ≡ Some row → Stays m (file m plan o late) key row
-file_stays m plan key row (Some old) late there found = found
-file_stays m plan key row None true there found = found
-file_stays m plan key row None false there found =
-    put_stays m plan.key key (row_after_entry (situation m) plan.key (new_row plan)) row
-    (false_from_ne_true _ (λ same. let none : None ≡ Some row = sym there ∙ ap (row_of m) (named plan.key key same) ∙ found in cc)) found
+-- where the row of another flight is written or removed
+set_stays : (m : State) (name key : Text) (now : Option Row) (row : Row) → same_text name key ≡ false → row_of m key ≡ Some row → row_of (set_row m name now) key ≡ Some row
+set_stays m name key None row other found = at-without_other key name m.rows (apart name key other) ∙ found
+set_stays m name key (Some new) row other found = put_stays m name key new row other found
 
-amend_stays : (m : State) (plan : FlightPlan) (key : Text) (row : Row) (o : Option Row) (late : Bool) → same_text plan.key key ≡ false → row_of m key ≡ Some row → Stays m (amend m plan o late) key row
-amend_stays m plan key row None late other found = found
-amend_stays m plan key row (Some old) true other found = found
-amend_stays m plan key row (Some old) false other found =
-    put_stays m plan.key key (row_after_entry (situation m) plan.key (record (ungoverned old) { plan = plan })) row other found
-
-cancel_stays : (m : State) (name key : Text) (row : Row) (o : Option Row) → same_text name key ≡ false → row_of m key ≡ Some row → Stays m (cancel m name o) key row
-cancel_stays m name key row None other found = found
-cancel_stays m name key row (Some old) other found = at-without_other key name m.rows (apart name key other) ∙ found
-
-either_stays : (b : Bool) (m n : State) (key : Text) (row : Row) → row_of m key ≡ Some row → row_of n key ≡ Some row → row_of (state_if b m n) key ≡ Some row
-either_stays true m n key row here there = here
-either_stays false m n key row here there = there
-
-revise_stays : (m : State) (name key : Text) (row : Row) (o : Option Row) → same_text name key ≡ false → row_of m key ≡ Some row → Stays m (revise m name o) key row
-revise_stays m name key row None other found = found
-revise_stays m name key row (Some old) other found =
-    let new : Row = row_after_entry (situation m) name (ungoverned old) in
-    either_stays (is_revised m name old new) (with_row m name new) m key row (put_stays m name key new row other found) found
-
-exempt_if_stays : (m : State) (name key : Text) (old row : Row) (b : Bool) → same_text name key ≡ false → row_of m key ≡ Some row → Stays m (exempt_if m name old b) key row
-exempt_if_stays m name key old row true other found = found
-exempt_if_stays m name key old row false other found = put_stays m name key (record (ungoverned old) { marked = true }) row other found
-
-exempt_stays : (m : State) (name key : Text) (row : Row) (o : Option Row) → same_text name key ≡ false → row_of m key ≡ Some row → Stays m (exempt m name o) key row
-exempt_stays m name key row None other found = found
-exempt_stays m name key row (Some old) other found = exempt_if_stays m name key old row (is_exempt old) other found
-
-close_stays : (m : State) (id key : Text) (row : Row) (o : Option Measure) → IsGood m → is_governed_by id row ≡ false → row_of m key ≡ Some row → Stays m (close_regulation m id o) key row
-close_stays m id key row None good not_its found = found
-close_stays m id key row (Some measure) good not_its found =
-    row-closed m id measure key good (ap (λ (w : Option Row). option_map_or (is_governed_by id) w false) found ∙ not_its) ∙ found
-
-rates_if_stay : (m : State) (id key : Text) (row : Row) (measure : Measure) (b later : Bool) → later ≡ false → row_of m key ≡ Some row → Stays m (rates_if m id measure b later) key row
-rates_if_stay m id key row measure false later same found = found
-rates_if_stay m id key row measure true false same found = found
-rates_if_stay m id key row measure true true same found = cc
-
-rates_stay : (m : State) (id key : Text) (row : Row) (profile : List Period) (o : Option Measure) → measure_of m id ≡ o → extends m id profile ≡ false → row_of m key ≡ Some row → Stays m (rates m id profile o) key row
-rates_stay m id key row profile None lasts same found = found
-rates_stay m id key row profile (Some measure) lasts same found =
-    rates_if_stay m id key row (record measure { profile = profile }) (keeps_span profile measure.profile) (ends_later profile measure.profile)
-    (sym (ap (λ (w : Option Measure). option_map_or (λ (y : Measure). ends_later profile y.profile) w false) lasts) ∙ same) found
-
-show_stays : (m : State) (key : Text) (row : Row) (o : Option Row) → row_of m key ≡ Some row → Stays m (show m o) key row
-show_stays m key row None found = found
-show_stays m key row (Some old) found = found
-
-list_stays : (m : State) (key : Text) (row : Row) (o : Option Measure) → row_of m key ≡ Some row → Stays m (list m o) key row
-list_stays m key row None found = found
-list_stays m key row (Some measure) found = found
-
-swap_stays : (m : State) (one other key : Text) (row : Row) → (same_text one key || same_text other key) ≡ false → row_of m key ≡ Some row → Stays m (step m (Swap one other)) key row
-swap_stays m one other key row free found =
-    let apart = or_parts (same_text one key) (same_text other key) free in
-    swap_cases m one other (λ s. Stays m s key row) found found found found
-    (λ old mate cto time can.
-    put_stays (with_row m one (with_issued_time old time)) other key (with_issued_time mate cto) row apart.1 (put_stays m one key (with_issued_time old time) row apart.0 found))
-
+-- what stays at the calls that neither free the flight nor serve flights that wait
 pub others_stay : (m : State) (call : Call) (key : Text) (row : Row) → IsGood m → row_of m key ≡ Some row → may_free call key row ≡ false → may_serve m call ≡ false → row_of (next m call) key ≡ Some row
-others_stay m (File plan) key row good found free serves = file_stays m plan key row (row_of m plan.key) (nat_lt plan.eobt m.clock) refl found
-others_stay m (Amend plan) key row good found free serves = amend_stays m plan key row (row_of m plan.key) (nat_lt plan.eobt m.clock) free found
-others_stay m (Cancel name) key row good found free serves = cancel_stays m name key row (row_of m name) free found
-others_stay m (Revise name) key row good found free serves = revise_stays m name key row (row_of m name) free found
-others_stay m (Exempt name) key row good found free serves = exempt_stays m name key row (row_of m name) free found
-others_stay m (OpenReg id loc profile) key row good found free serves = cc
-others_stay m (CloseReg id) key row good found free serves = close_stays m id key row (measure_of m id) good free found
-others_stay m (Rates id profile) key row good found free serves = rates_stay m id key row profile (measure_of m id) refl serves found
-others_stay m (Tick at) key row good found free serves = cc
-others_stay m (Show name) key row good found free serves = show_stays m key row (row_of m name) found
-others_stay m (ListOf id) key row good found free serves = list_stays m key row (measure_of m id) found
-others_stay m (Swap one other) key row good found free serves = swap_stays m one other key row free found
+others_stay m call key row good found = by call
+  where
+    P : Step → Type 0
+    P s = Stays m s key row
+
+    refusal : (r : Refusal) → P (refused r)
+    refusal r = found
+
+    own : (call : Call) (name : Text) → flight_written_by call ≡ Some name → same_text name key ≡ false → P (step m call)
+    own call name is other = one_row m P refusal found call name is (λ now. set_stays m name key now row other found)
+
+    by : (call : Call) → may_free call key row ≡ false → may_serve m call ≡ false → P (step m call)
+    by (File plan) free serves =
+        file_cases m P refusal plan
+        (λ absent. put_stays m plan.key key (row_after_entry (situation m) plan.key (new_row plan)) row
+        (false_from_ne_true _ (λ same. let none : None ≡ Some row = sym absent ∙ ap (row_of m) (named plan.key key same) ∙ found in cc)) found)
+    by (Amend plan) free serves = own (Amend plan) plan.key refl free
+    by (Cancel name) free serves = own (Cancel name) name refl free
+    by (Revise name) free serves = own (Revise name) name refl free
+    by (Exempt name) free serves = own (Exempt name) name refl free
+    by (OpenReg id loc profile) free serves = cc
+    by (CloseReg id) free serves =
+        close_cases m P refusal id
+        (λ measure opened. row-closed m id measure key good (ap (λ (w : Option Row). option_map_or (is_governed_by id) w false) found ∙ free) ∙ found)
+    by (Rates id profile) free serves =
+        rates_cases m P refusal id profile (λ measure opened span same. found)
+        (λ measure opened span later. absurd (both_ways _ serves
+        (ap (λ (w : Option Measure). option_map_or (λ (y : Measure). ends_later profile y.profile) w false) opened ∙ later)))
+    by (Tick at) free serves = cc
+    by (Show name) free serves = show_cases m P refusal name found
+    by (ListOf id) free serves = list_cases m P refusal id found
+    by (Swap one other) free serves =
+        let apart = or_parts (same_text one key) (same_text other key) free in
+        swap_cases m P refusal one other
+        (λ old mate cto time can.
+        put_stays (with_row m one (with_issued_time old time)) other key (with_issued_time mate cto) row apart.1
+        (put_stays m one key (with_issued_time old time) row apart.0 found))
 
 -- the flight is there afterwards, as it was or so
 abbrev IsThere : State → Text → Row → (Row → Type 0) → Type 0
@@ -179,29 +144,20 @@ take_in_if m id key measure row true good later found waits = by (row_of n key) 
         let same : ungoverned new ≡ ungoverned row = cc in
         (new, there, taken_in m n id key measure row new good later (regs-take_in m id measure) (clock-take_in m id measure) found waits there same)
 
-open_serves : (m : State) (id key : Text) (measure : Measure) (row : Row) (o : Option Measure) (full : Bool) → IsGood m → IsGood (after m (open_regulation m id measure o full)) → row_of m key ≡ Some row
-    → IsThere (after m (open_regulation m id measure o full)) key row (IsTakenIn m.clock id row)
-open_serves m id key measure row (Some old) full good later found = there_as m key row (IsTakenIn m.clock id row) found
-open_serves m id key measure row None true good later found = there_as m key row (IsTakenIn m.clock id row) found
-open_serves m id key measure row None false good later found = take_in_if m id key measure row (may_compete m.clock row) good later found refl
-
+-- what an opened regulation makes of a flight
 pub opened : (m : State) (id loc key : Text) (profile : List Period) (row : Row) → IsGood m → row_of m key ≡ Some row → IsThere (next m (OpenReg id loc profile)) key row (IsTakenIn m.clock id row)
 opened m id loc key profile row good found =
-    open_serves m id key (record { loc = loc; profile = profile }) row (measure_of m id) (nat_le most_regulations (length m.regs)) good (next-good m (OpenReg id loc profile) good) found
+    open_cases m (λ s. IsThere (after m s) key row (IsTakenIn m.clock id row)) (λ r. there_as m key row (IsTakenIn m.clock id row) found) id loc profile
+    (λ absent. take_in_if m id key (record { loc = loc; profile = profile }) row (may_compete m.clock row) good (opened-good m id (record { loc = loc; profile = profile }) absent good) found refl)
 
--- what a later end makes of a flight
-rates_serve : (m : State) (id key : Text) (measure : Measure) (row : Row) (b later : Bool) → IsGood m → IsGood (after m (rates_if m id measure b later)) → row_of m key ≡ Some row
-    → IsThere (after m (rates_if m id measure b later)) key row (IsTakenIn m.clock id row)
-rates_serve m id key measure row false later good next found = there_as m key row (IsTakenIn m.clock id row) found
-rates_serve m id key measure row true false good next found = there_as (record m { regs = put m.regs id measure }) key row (IsTakenIn m.clock id row) found
-rates_serve m id key measure row true true good next found = take_in_if m id key measure row (may_compete m.clock row) good next found refl
-
-rates_serves : (m : State) (id key : Text) (profile : List Period) (row : Row) (o : Option Measure) → IsGood m → IsGood (after m (rates m id profile o)) → row_of m key ≡ Some row → IsThere (after m (rates m id profile o)) key row (IsTakenIn m.clock id row)
-rates_serves m id key profile row None good next found = there_as m key row (IsTakenIn m.clock id row) found
-rates_serves m id key profile row (Some measure) good next found = rates_serve m id key (record measure { profile = profile }) row (keeps_span profile measure.profile) (ends_later profile measure.profile) good next found
-
+-- and a later end
 pub extended : (m : State) (id key : Text) (profile : List Period) (row : Row) → IsGood m → row_of m key ≡ Some row → IsThere (next m (Rates id profile)) key row (IsTakenIn m.clock id row)
-extended m id key profile row good found = rates_serves m id key profile row (measure_of m id) good (next-good m (Rates id profile) good) found
+extended m id key profile row good found =
+    rates_cases m (λ s. IsThere (after m s) key row (IsTakenIn m.clock id row)) (λ r. there_as m key row (IsTakenIn m.clock id row) found) id profile
+    (λ measure opened span same. there_as (record m { regs = put m.regs id (record measure { profile = profile }) }) key row (IsTakenIn m.clock id row) found)
+    (λ measure opened span later.
+    take_in_if m id key (record measure { profile = profile }) row (may_compete m.clock row) good
+    (extended-good m id measure profile opened (span_kept profile measure.profile span) good) found refl)
 
 -- what the clock makes of a flight
 abbrev BecomesDue : State → Text → Row → Row → Type 0
@@ -229,15 +185,11 @@ tick_if : (m : State) (at : ℕ) (key : Text) (row : Row) (b : Bool) → let t :
 tick_if m at key row false good found due there = there_as (issue_due (record m { clock = at })) key row (BecomesDue m key row) there
 tick_if m at key row true good found due there = (issued_in m key row, there, inr (becomes_due m at key row good found due))
 
-tick_serves : (m : State) (at : ℕ) (key : Text) (row : Row) (back : Bool) → IsGood m → row_of m key ≡ Some row → IsThere (after m (tick m at back)) key row (BecomesDue m key row)
-tick_serves m at key row true good found = there_as m key row (BecomesDue m key row) found
-tick_serves m at key row false good found =
-    let t : State = record m { clock = at } in
-    let new : Text → Row → Row = λ k r. issue_if (is_to_issue at r) t k r in
-    tick_if m at key row (is_to_issue at row) good found refl (at-map new key m.rows ∙ ap (option_map (new key)) found)
-
 pub ticked : (m : State) (at : ℕ) (key : Text) (row : Row) → IsGood m → row_of m key ≡ Some row → IsThere (next m (Tick at)) key row (BecomesDue m key row)
-ticked m at key row good found = tick_serves m at key row (nat_lt at m.clock) good found
+ticked m at key row good found =
+    let new : Text → Row → Row = λ k r. issue_if (is_to_issue at r) (record m { clock = at }) k r in
+    tick_cases m (λ s. IsThere (after m s) key row (BecomesDue m key row)) (λ r. there_as m key row (BecomesDue m key row) found) at
+    (λ forward. tick_if m at key row (is_to_issue at row) good found refl (at-map new key m.rows ∙ ap (option_map (new key)) found))
 
 -- so issued flights stay, and governed ones but for their issue
 as_it_was : (n : State) (key : Text) (old new : Row) (Becomes : Row → Type 0) → row_of n key ≡ Some new → (Becomes new → ⊥) → (new ≡ old) ⊎ Becomes new → row_of n key ≡ Some old

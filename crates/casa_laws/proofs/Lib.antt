@@ -8,6 +8,7 @@ pub mod MovesNobody
 pub mod Lists
 pub mod Times
 pub mod Choice
+pub mod Outcomes
 pub mod Crossings
 pub mod Good
 pub mod GoodTick

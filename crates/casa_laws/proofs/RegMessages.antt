@@ -1,11 +1,10 @@
 -- the messages of Tick and of the calls on regulations, from a good state, and those of every call
-use Rattle.std.proofs.Common.{◌≡◌, ℕ, ◌+◌, ◌-◌, List, [], ◌∷◌, length, Bool, true, false, not, ◌&&◌, refl, sym, ap, subst, ◌∙◌, Option, None, Some, is_some, unwrap_or, nat_lt, nat_le, arith}
+use Rattle.std.proofs.Common.{◌≡◌, ℕ, ◌+◌, ◌-◌, List, [], ◌∷◌, Bool, true, false, not, ◌&&◌, refl, sym, ap, subst, ◌∙◌, Option, None, Some, is_some, unwrap_or, arith}
 use Rattle.std.specs.Ordering.{is_eq}
 use Rattle.std.specs.Option.{option_map, option_and_then, option_map_or}
 use Rattle.std.specs.List.{All}
 use Rattle.std.proofs.lemmas.Bool.{both_ways, and_from, not-true}
 use Rattle.std.proofs.lemmas.Cmp.{nat_list_eq_equiv}
-use Rattle.std.proofs.lemmas.List.Elements.{All-nil}
 use Rattle.casa_grid.specs.declared.period.Period.{Period}
 use Rattle.casa_grid.specs.Profile.{start_of, end_of}
 use Rattle.casa_grid.specs.Slots.{slots}
@@ -27,7 +26,7 @@ use Rattle.casa_filing.specs.Subject.{regulation, subject, is_due, is_gone}
 use Rattle.casa_flight.specs.State.{row_of, measure_of, is_exempt, is_governed_by}
 use Rattle.casa_flight.specs.Listing.{Listing, listing, list_of, place_of, cto_as, cto_of, ctot_of, delay_of}
 use Rattle.casa_flight.specs.Entry.{enter_all, is_to_issue, issued_in, issue_if, issue_due}
-use Rattle.casa_flight.specs.Steps.{refused, most_regulations, flights_over, may_compete, take_in, open_regulation, ungoverned_if, state_without_regulation, close_regulation, keeps_span, ends_later, extends, rates, rates_if, tick, step, after}
+use Rattle.casa_flight.specs.Steps.{refused, leads, flights_over, may_compete, take_in, ungoverned_if, state_without_regulation, keeps_span, ends_later, extends, step}
 use Rattle.casa_flight.specs.Replies.{message, is_issued, ctot_before, reply, reply_of}
 use Rattle.casa_flight.specs.Good.{AreInOrder, IsOutside, IsGood, IsFree, IsGoverned}
 use Rattle.casa_flight.specs.Messages.{messages_in, Passes, CanCome, is_silent}
@@ -36,12 +35,13 @@ use Rattle.casa_laws.proofs.Kept.{at-without_same}
 use Rattle.casa_laws.proofs.Lists.{stance_is}
 use Rattle.casa_laws.proofs.Times.{delay_governed}
 use Rattle.casa_laws.proofs.Choice.{subject-later}
-use Rattle.casa_laws.proofs.GoodTick.{competing, KeepsSpan, span_kept}
-use Rattle.casa_laws.proofs.GoodRegs.{next-good}
+use Rattle.casa_laws.proofs.Outcomes.{open_cases, close_cases, rates_cases, tick_cases, show_cases, list_cases}
+use Rattle.casa_laws.proofs.GoodTick.{competing, KeepsSpan, span_kept, tick-good}
+use Rattle.casa_laws.proofs.GoodRegs.{opened-good, closed-good, extended-good}
 use Rattle.casa_laws.proofs.ChangeMessages.{message_cases, each_message, governed_name, governed_by, free_of, TakesTimes, StaysOpen, stays, message_none}
 use Rattle.casa_laws.proofs.EnterAll.{row-enter_all, plan-enter_all, clock-enter_all, regs-enter_all, not_taken}
 use Rattle.casa_laws.proofs.SwapMessages.{swap_comes}
-use Rattle.casa_laws.proofs.CallMessages.{Comes, no_message, not_outside, not_due, was_due, file_comes, amend_comes, cancel_comes, exempt_comes, revise_comes, show_comes, list_comes}
+use Rattle.casa_laws.proofs.CallMessages.{Comes, refused_comes, no_message, unchanged, not_outside, not_due, was_due, file_comes, amend_comes, cancel_comes, exempt_comes, revise_comes}
 
 -- a flight that is to be issued is governed, and not issued
 pub to_issue_parts : (g : Option Text) (i : Option ℕ) (d : Bool) → (is_some g && (not (is_some i) && d)) ≡ true → i ≡ None
@@ -126,11 +126,13 @@ tick_each m at key row x w good sorted before found h = by w before
         let same : new key old ≡ row = cc in
         tick_message m at key old x (is_to_issue at old) good sorted refl e there (subst (λ r. message m n key r ≡ Some x) (sym same) h)
 
-tick_comes : (m : State) (at : ℕ) (back : Bool) → IsGood m → IsGood (after m (tick m at back)) → Comes m (Tick at) (tick m at back)
-tick_comes m at true good later = All-nil (CanCome m (Tick at))
-tick_comes m at false good later =
-    each_message (CanCome m (Tick at)) m (issue_due (record m { clock = at })) later.rows_in_order
-    (λ key row x found h. tick_each m at key row x (row_of m key) good later.rows_in_order refl found h)
+tick_comes : (m : State) (at : ℕ) → IsGood m → Comes m (Tick at) (step m (Tick at))
+tick_comes m at good =
+    tick_cases m (Comes m (Tick at)) (refused_comes m (Tick at)) at
+    (λ forward.
+    let sorted : AreInOrder (issue_due (record m { clock = at })).rows = (tick-good m at forward good).rows_in_order in
+    each_message (CanCome m (Tick at)) m (issue_due (record m { clock = at })) sorted
+    (λ key row x found h. tick_each m at key row x (row_of m key) good sorted refl found h))
 
 -- a flight that is there after others entered was there before, with its plan
 was_there : (s : State) (cs : List Comp) (key : Text) (row old : Row) → row_of (enter_all s cs) key ≡ Some row → row_of s key ≡ Some old → row.plan ≡ old.plan
@@ -216,15 +218,15 @@ open_stays m id measure absent by a opened =
       | false ↦ λ t. (a, ap (λ (es : List (Text × Measure)). at_name es by) (regs-take_in m id measure) ∙ at-put_other by id measure m.regs t ∙ opened, λ plan eto h. h)
     ] refl
 
-open_comes : (m : State) (id loc : Text) (profile : List Period) (o : Option Measure) (full : Bool) → let measure : Measure = record { loc = loc; profile = profile } in
-    measure_of m id ≡ o → IsGood m → IsGood (after m (open_regulation m id measure o full)) → Comes m (OpenReg id loc profile) (open_regulation m id measure o full)
-open_comes m id loc profile (Some old) full found good later = All-nil (CanCome m (OpenReg id loc profile))
-open_comes m id loc profile None true found good later = All-nil (CanCome m (OpenReg id loc profile))
-open_comes m id loc profile None false found good later =
+open_comes : (m : State) (id loc : Text) (profile : List Period) → IsGood m → Comes m (OpenReg id loc profile) (step m (OpenReg id loc profile))
+open_comes m id loc profile good =
+    open_cases m (Comes m (OpenReg id loc profile)) (refused_comes m (OpenReg id loc profile)) id loc profile
+    (λ absent.
     let measure : Measure = record { loc = loc; profile = profile } in
+    let later : IsGood (take_in m id measure) = opened-good m id measure absent good in
     each_message (CanCome m (OpenReg id loc profile)) m (take_in m id measure) later.rows_in_order
     (λ key row x there h. take_in_message (CanCome m (OpenReg id loc profile)) m id measure key row x good later
-    (open_stays m id measure found) (λ ctot reg is passing. (is, passing)) there h)
+    (open_stays m id measure absent) (λ ctot reg is passing. (is, passing)) there h))
 
 -- with new rates each regulation stays open
 pub rates_stay : (m n : State) (id : Text) (measure : Measure) (profile : List Period) → measure_of m id ≡ Some measure → KeepsSpan profile measure.profile → n.regs ≡ put m.regs id (record measure { profile = profile }) → (by : Text) → StaysOpen m n by
@@ -243,25 +245,28 @@ rates_stay m n id measure profile found k regs by a opened =
       | false ↦ λ t. (a, ap (λ (es : List (Text × Measure)). at_name es by) regs ∙ at-put_other by id new m.regs t ∙ opened, λ plan eto h. h)
     ] refl
 
-rates_if_comes : (m : State) (id : Text) (measure : Measure) (profile : List Period) (b later : Bool) → let new : Measure = record measure { profile = profile } in
-    measure_of m id ≡ Some measure → keeps_span profile measure.profile ≡ b → ends_later profile measure.profile ≡ later → IsGood m → IsGood (after m (rates_if m id new b later)) → Comes m (Rates id profile) (rates_if m id new b later)
-rates_if_comes m id measure profile false later found span after good next = All-nil (CanCome m (Rates id profile))
-rates_if_comes m id measure profile true false found span after good next =
-    let n : State = record m { regs = put m.regs id (record measure { profile = profile }) } in
-    no_message (CanCome m (Rates id profile)) m n good good.rows_in_order
-    (rates_stay m n id measure profile found (span_kept profile measure.profile span) refl) (λ key row there. there)
-rates_if_comes m id measure profile true true found span after good next =
-    let new : Measure = record measure { profile = profile } in
-    let n : State = take_in m id new in
-    let extended : extends m id profile ≡ true = ap (λ (w : Option Measure). option_map_or (λ (y : Measure). ends_later profile y.profile) w false) found ∙ after in
-    each_message (CanCome m (Rates id profile)) m n next.rows_in_order
-    (λ key row x there h. take_in_message (CanCome m (Rates id profile)) m id new key row x good next
-    (rates_stay m n id measure profile found (span_kept profile measure.profile span) (regs-take_in m id new))
-    (λ ctot reg is passing. (is, extended, passing)) there h)
+rates_comes : (m : State) (id : Text) (profile : List Period) → IsGood m → Comes m (Rates id profile) (step m (Rates id profile))
+rates_comes m id profile good = rates_cases m (Comes m (Rates id profile)) (refused_comes m (Rates id profile)) id profile keeps takes
+  where
+    Q : Message → Type 0
+    Q = CanCome m (Rates id profile)
 
-rates_comes : (m : State) (id : Text) (profile : List Period) (o : Option Measure) → IsGood m → IsGood (after m (rates m id profile o)) → measure_of m id ≡ o → Comes m (Rates id profile) (rates m id profile o)
-rates_comes m id profile None good next found = All-nil (CanCome m (Rates id profile))
-rates_comes m id profile (Some measure) good next found = rates_if_comes m id measure profile (keeps_span profile measure.profile) (ends_later profile measure.profile) found refl refl good next
+    keeps : (measure : Measure) → measure_of m id ≡ Some measure → keeps_span profile measure.profile ≡ true → ends_later profile measure.profile ≡ false
+        → Comes m (Rates id profile) (leads (record m { regs = put m.regs id (record measure { profile = profile }) }))
+    keeps measure found span same =
+        let n : State = record m { regs = put m.regs id (record measure { profile = profile }) } in
+        no_message Q m n good good.rows_in_order (rates_stay m n id measure profile found (span_kept profile measure.profile span) refl) (λ key row there. there)
+
+    takes : (measure : Measure) → measure_of m id ≡ Some measure → keeps_span profile measure.profile ≡ true → ends_later profile measure.profile ≡ true
+        → Comes m (Rates id profile) (leads (take_in m id (record measure { profile = profile })))
+    takes measure found span ends =
+        let new : Measure = record measure { profile = profile } in
+        let k : KeepsSpan profile measure.profile = span_kept profile measure.profile span in
+        let later : IsGood (take_in m id new) = extended-good m id measure profile found k good in
+        let extended : extends m id profile ≡ true = ap (λ (w : Option Measure). option_map_or (λ (y : Measure). ends_later profile y.profile) w false) found ∙ ends in
+        each_message Q m (take_in m id new) later.rows_in_order
+        (λ key row x there h. take_in_message Q m id new key row x good later (rates_stay m (take_in m id new) id measure profile found k (regs-take_in m id new))
+        (λ ctot reg is passing. (is, extended, passing)) there h)
 
 -- what a closed regulation did not govern keeps its row, and its regulation
 freed_row : (id : Text) (w : Option Row) → option_map_or (is_governed_by id) w false ≡ false → option_map (λ (r : Row). ungoverned_if (is_governed_by id r) r) w ≡ w
@@ -332,26 +337,28 @@ close_message m id measure key row x good later found h = by (option_map_or test
         ))
         (λ was now. t) x h
 
-close_comes : (m : State) (id : Text) (o : Option Measure) → IsGood m → IsGood (after m (close_regulation m id o)) → Comes m (CloseReg id) (close_regulation m id o)
-close_comes m id None good later = All-nil (CanCome m (CloseReg id))
-close_comes m id (Some measure) good later =
+close_comes : (m : State) (id : Text) → IsGood m → Comes m (CloseReg id) (step m (CloseReg id))
+close_comes m id good =
+    close_cases m (Comes m (CloseReg id)) (refused_comes m (CloseReg id)) id
+    (λ measure found.
+    let later = closed-good m id measure found good in
     each_message (CanCome m (CloseReg id)) m
     (enter_all (state_without_regulation m id) (flights_over (is_governed_by id) (regulation id measure) m.rows)) later.rows_in_order
-    (λ key row x there h. close_message m id measure key row x good later there h)
+    (λ key row x there h. close_message m id measure key row x good later there h))
 
 -- the messages of every call are of those that can come of it
 pub call_kinds : (m : State) (call : Call) → IsGood m → All (CanCome m call) (messages_in (reply m call))
-call_kinds m (File plan) good = file_comes m plan (row_of m plan.key) (nat_lt plan.eobt m.clock) good refl
-call_kinds m (Amend plan) good = amend_comes m plan (row_of m plan.key) (nat_lt plan.eobt m.clock) good
-call_kinds m (Cancel key) good = cancel_comes m key (row_of m key) good (next-good m (Cancel key) good)
-call_kinds m (Revise key) good = revise_comes m key (row_of m key) good refl
-call_kinds m (Exempt key) good = exempt_comes m key (row_of m key) good
-call_kinds m (OpenReg id loc profile) good = open_comes m id loc profile (measure_of m id) (nat_le most_regulations (length m.regs)) refl good (next-good m (OpenReg id loc profile) good)
-call_kinds m (CloseReg id) good = close_comes m id (measure_of m id) good (next-good m (CloseReg id) good)
-call_kinds m (Rates id profile) good = rates_comes m id profile (measure_of m id) good (next-good m (Rates id profile) good) refl
-call_kinds m (Tick at) good = tick_comes m at (nat_lt at m.clock) good (next-good m (Tick at) good)
-call_kinds m (Show key) good = show_comes m key (row_of m key) good
-call_kinds m (ListOf id) good = list_comes m id (measure_of m id) good
+call_kinds m (File plan) good = file_comes m plan good
+call_kinds m (Amend plan) good = amend_comes m plan good
+call_kinds m (Cancel key) good = cancel_comes m key good
+call_kinds m (Revise key) good = revise_comes m key good
+call_kinds m (Exempt key) good = exempt_comes m key good
+call_kinds m (OpenReg id loc profile) good = open_comes m id loc profile good
+call_kinds m (CloseReg id) good = close_comes m id good
+call_kinds m (Rates id profile) good = rates_comes m id profile good
+call_kinds m (Tick at) good = tick_comes m at good
+call_kinds m (Show key) good = show_cases m (Comes m (Show key)) (refused_comes m (Show key)) key (unchanged (CanCome m (Show key)) m good)
+call_kinds m (ListOf id) good = list_cases m (Comes m (ListOf id)) (refused_comes m (ListOf id)) id (unchanged (CanCome m (ListOf id)) m good)
 call_kinds m (Swap key other) good = swap_comes m key other good
 
 -- where nothing can come, nothing comes

@@ -1,12 +1,10 @@
--- Swap: its outcomes, what an exchange makes of the rows, and that it keeps a state good
+-- Swap: what an exchange makes of the rows and lists, and that it keeps a state good
 use Rattle.std.proofs.Common.{◌≡◌, ℕ, ◌≤◌, Bool, true, false, cond, refl, sym, ap, subst, ◌∙◌, ◌⊎◌, inl, inr, Option, None, Some, MatchOption, nat_lt}
 use Rattle.std.specs.Option.{option_map, option_map_or, option_and_then}
 use Rattle.std.specs.Ordering.{is_eq}
 use Rattle.std.proofs.lemmas.Bool.{or_parts, ltb-false}
 use Rattle.std.proofs.lemmas.Cmp.{nat_list_eq_equiv}
 use Rattle.casa_grid.specs.Profile.{end_of}
-use Rattle.casa_flight.specs.declared.call.Call.TheVariants.{Swap}
-use Rattle.casa_flight.specs.declared.call.Refusal.TheVariants.{NoFlight, NotIssued, OtherRegulation, TooEarly}
 use Rattle.casa_filing.specs.declared.regulation.Measure.{Measure}
 use Rattle.casa_flight.specs.declared.row.Row.{Row}
 use Rattle.casa_flight.specs.declared.row.Stance.{Stance}
@@ -16,48 +14,14 @@ use Rattle.casa_filing.specs.Text.{Text, same_text, put}
 use Rattle.casa_filing.specs.Subject.{regulation, subject, is_due}
 use Rattle.casa_flight.specs.State.{row_of, measure_of, with_row, is_governed_by}
 use Rattle.casa_flight.specs.Listing.{Listing, listing, list_of, governing_list, stance, stance_in, stance_of, eto_as}
-use Rattle.casa_flight.specs.Steps.{Step, refused, leads, step, eto_in, is_too_early, are_too_early, with_issued_time, Exchange, with_exchange, is_shared, swap, swap_issued, swap_if}
+use Rattle.casa_flight.specs.Steps.{eto_in, is_too_early, with_issued_time, Exchange, with_exchange}
 use Rattle.casa_flight.specs.Good.{AreInOrder, IsGood, IsGoodRow, IsFree, IsGoverned}
 use Rattle.casa_filing.proofs.Entries.{text_cmp, all-put, sorted-put, same_name, at-put, at-put_other}
 use Rattle.casa_laws.proofs.Kept.{sorted-kept}
 use Rattle.casa_laws.proofs.Lists.{stance_is, list_puts, list-with_row, with_same}
-use Rattle.casa_laws.proofs.Good.{KeepsGood, good_row}
+use Rattle.casa_laws.proofs.Outcomes.{CanExchange}
+use Rattle.casa_laws.proofs.Good.{good_row}
 use Rattle.casa_laws.proofs.ChangeMessages.{governed_name, governed_by, free_of}
-
--- two issued flights of one regulation, for each of which the other's time is not too early
-pub record CanExchange (m : State) (x : Exchange) : Type 0 where
-  pub here : row_of m x.key ≡ Some x.row
-  pub there : row_of m x.other ≡ Some x.mate
-  pub issued : x.row.issued ≡ Some x.cto
-  pub mate_issued : x.mate.issued ≡ Some x.time
-  pub shared : is_shared x.row x.mate ≡ true
-  pub late_enough : are_too_early m.clock (governing_list m x.row) (governing_list m x.mate) x ≡ false
-
--- a swap is refused, or such flights exchange their times
-pub swap_cases : (m : State) (key other : Text) (P : Step → Type 0) → P (refused NoFlight) → P (refused NotIssued) → P (refused OtherRegulation) → P (refused TooEarly)
-    → ((row mate : Row) (cto time : ℕ) → let x : Exchange = record { key = key; row = row; cto = cto; other = other; mate = mate; time = time } in CanExchange m x → P (leads (with_exchange m x)))
-    → P (step m (Swap key other))
-swap_cases m key other P a b c d e = by (row_of m key) refl (row_of m other) refl
-  where
-    out : (row mate : Row) (cto time : ℕ) → row_of m key ≡ Some row → row_of m other ≡ Some mate → row.issued ≡ Some cto → mate.issued ≡ Some time
-        → let x : Exchange = record { key = key; row = row; cto = cto; other = other; mate = mate; time = time } in
-        (s : Bool) → is_shared row mate ≡ s → (t : Bool) → are_too_early m.clock (governing_list m row) (governing_list m mate) x ≡ t
-        → P (swap_if m x s t)
-    out row mate cto time p q f g false s t u = c
-    out row mate cto time p q f g true s true u = d
-    out row mate cto time p q f g true s false u = e row mate cto time (record { here = p; there = q; issued = f; mate_issued = g; shared = s; late_enough = u })
-
-    to : (row mate : Row) → row_of m key ≡ Some row → row_of m other ≡ Some mate → (i : Option ℕ) → row.issued ≡ i → (j : Option ℕ) → mate.issued ≡ j → P (swap_issued m key row other mate i j)
-    to row mate p q None f j g = b
-    to row mate p q (Some cto) f None g = b
-    to row mate p q (Some cto) f (Some time) g =
-        let x : Exchange = record { key = key; row = row; cto = cto; other = other; mate = mate; time = time } in
-        out row mate cto time p q f g (is_shared row mate) refl (are_too_early m.clock (governing_list m row) (governing_list m mate) x) refl
-
-    by : (v : Option Row) → row_of m key ≡ v → (w : Option Row) → row_of m other ≡ w → P (swap m key other v w)
-    by None p w q = a
-    by (Some row) p None q = a
-    by (Some row) p (Some mate) q = to row mate p q row.issued refl mate.issued refl
 
 eto_own : (w : Option ℕ) (eto : ℕ) → eto_as (stance true w eto) ≡ eto
 eto_own None eto = refl
@@ -145,11 +109,6 @@ exchange-good m x good can =
     put_row-good (with_row m x.key (with_issued_time x.row x.time)) x.other (with_issued_time x.mate x.cto)
     (put_row-good m x.key (with_issued_time x.row x.time) good (half_good m x.key x.other s.id x.row x.mate x.cto x.time good can.here s.governs can.issued can.mate_issued s.first s.second fits.0))
     (half_good m x.other x.key s.id x.mate x.row x.time x.cto good can.there s.governs_mate can.mate_issued can.issued s.second s.first fits.1)
-
-pub swap-good : (m : State) (key other : Text) → IsGood m → KeepsGood m (step m (Swap key other))
-swap-good m key other good =
-    swap_cases m key other (KeepsGood m) good good good good
-    (λ row mate cto time can. exchange-good m (record { key = key; row = row; cto = cto; other = other; mate = mate; time = time }) good can)
 
 -- the row of any flight after an exchange
 pub row_exchanged : (m : State) (x : Exchange) (q : Text) → row_of (with_exchange m x) q ≡ cond (is_eq (text_cmp q x.other)) (Some (with_issued_time x.mate x.cto)) (cond (is_eq (text_cmp q x.key)) (Some (with_issued_time x.row x.time)) (row_of m q))

@@ -3,7 +3,6 @@ use Rattle.std.proofs.Common.{◌≡◌, ℕ, true, false, sym, ap, subst, ◌�
 use Rattle.std.specs.Option.{option_map_or}
 use Rattle.std.proofs.lemmas.Bool.{both_ways}
 use Rattle.std.proofs.lemmas.Cmp.{nat_list_eq_equiv}
-use Rattle.std.proofs.lemmas.List.Elements.{All-nil}
 use Rattle.casa_flight.specs.declared.call.Call.TheVariants.{Swap}
 use Rattle.casa_flight.specs.declared.reply.Message.{Message}
 use Rattle.casa_flight.specs.declared.reply.Message.TheVariants.{Srm}
@@ -17,8 +16,9 @@ use Rattle.casa_flight.specs.Replies.{message, is_issued, ctot_before}
 use Rattle.casa_flight.specs.Good.{AreInOrder, IsGood}
 use Rattle.casa_flight.specs.Messages.{Passes, CanCome}
 use Rattle.casa_laws.proofs.ChangeMessages.{message_cases, each_message, stays, message_none}
-use Rattle.casa_laws.proofs.Swap.{CanExchange, swap_cases, exchange-good, exchanged_row}
-use Rattle.casa_laws.proofs.CallMessages.{Comes}
+use Rattle.casa_laws.proofs.Outcomes.{CanExchange, swap_cases}
+use Rattle.casa_laws.proofs.Swap.{exchange-good, exchanged_row}
+use Rattle.casa_laws.proofs.CallMessages.{Comes, refused_comes}
 
 -- a flight that stays issued at another time has an SRM or nothing
 reissued_message : (Q : Message → Type 0) (m n : State) (key : Text) (old : Row) (t c : ℕ) (z : Message) → row_of m key ≡ Some old → old.issued ≡ Some c
@@ -64,7 +64,7 @@ exchange_message m x q row z good can sorted found h =
 
 pub swap_comes : (m : State) (key other : Text) → IsGood m → Comes m (Swap key other) (step m (Swap key other))
 swap_comes m key other good =
-    swap_cases m key other (Comes m (Swap key other)) (All-nil Q) (All-nil Q) (All-nil Q) (All-nil Q)
+    swap_cases m (Comes m (Swap key other)) (refused_comes m (Swap key other)) key other
     (λ row mate cto time can.
     let x : Exchange = record { key = key; row = row; cto = cto; other = other; mate = mate; time = time } in
     let later : IsGood (with_exchange m x) = exchange-good m x good can in

@@ -24,7 +24,8 @@ use Rattle.casa_filing.proofs.Entries.{text_cmp, same_name, at-put_same, at-put_
 use Rattle.casa_laws.proofs.Kept.{kept_by, sorted-kept, sorted-kept_by, at-kept_by, at-without_same, same_entries, values_kept}
 use Rattle.casa_laws.proofs.MovesNobody.{times}
 use Rattle.casa_laws.proofs.ChangeMessages.{governed_name}
-use Rattle.casa_laws.proofs.Swap.{CanExchange, swap_cases, SharedBy, shared_by, same_measure, governed_stands, exchanged_list, other_list}
+use Rattle.casa_laws.proofs.Outcomes.{CanExchange, swap_cases}
+use Rattle.casa_laws.proofs.Swap.{SharedBy, shared_by, same_measure, governed_stands, exchanged_list, other_list}
 
 any_first : (p : ℕ → Bool) (o : Option ℕ) (ts : List ℕ) → list_any p (cons_option o ts) ≡ (option_map_or p o false || list_any p ts)
 any_first p None ts = refl
@@ -203,5 +204,5 @@ exchange_places m x id good can = by (is_governed_by id x.row) refl
 -- nor does a call for an exchange
 pub swap_places : (m : State) (key other id : Text) → IsGood m → option_map places (list_of (next m (Swap key other)) id) ≡ option_map places (list_of m id)
 swap_places m key other id good =
-    swap_cases m key other (λ s. option_map places (list_of (after m s) id) ≡ option_map places (list_of m id)) refl refl refl refl
+    swap_cases m (λ s. option_map places (list_of (after m s) id) ≡ option_map places (list_of m id)) (λ r. refl) key other
     (λ row mate cto time can. exchange_places m (record { key = key; row = row; cto = cto; other = other; mate = mate; time = time }) id good can)

@@ -22,14 +22,14 @@ use Rattle.casa_laws.proofs.ChangeMessages.{messages_one}
 use Rattle.casa_footprint.specs.Items.{ItemName, the_clock, the_catalogue, a_row, a_list, contents}
 use Rattle.casa_footprint.specs.Footprint.{is_subject, governs, would_write, is_accepted}
 use Rattle.casa_footprint.proofs.Messages.{own_row, messages_self}
+use Rattle.casa_footprint.proofs.OneFlight.{is_over_in, has_written}
 use Rattle.casa_footprint.proofs.ShowList.{governs_own}
 use Rattle.casa_footprint.specs.Change.{IsChange}
 use Rattle.casa_plan_spec.specs.Sight.{Sight, Written, says, nothing_written, IsAnswerIn, regulations_in, situation_in, list_in}
 use Rattle.casa_plan_spec.specs.OneFlight.{entry_offer, with_offer, offered_delay, reply_with_message, flight_written, ctot_shown_if, reply_to_change}
 use Rattle.casa_plan_spec.specs.FlightCalls.{refusal, leave_unchanged, rewrite_flight}
 use Rattle.casa_plan_spec.proofs.FlightOffers.{offer_found, Finds, entry_same, entered_is, entered_delay}
-use Rattle.casa_plan_spec.proofs.FlightLists.{Rewrites, has_written, change_is}
-use Rattle.casa_plan_spec.proofs.Written.{is_over_in}
+use Rattle.casa_plan_spec.proofs.FlightLists.{Rewrites, change_is}
 
 -- the reply to a call that writes the row of one flight
 told_one : (m : State) (key : Text) (row : Row) (delay : ℕ) → IsGood m → delay_of (with_row m key row) key row ≡ delay

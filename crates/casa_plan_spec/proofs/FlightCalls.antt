@@ -21,11 +21,14 @@ use Rattle.casa_flight.specs.Steps.{Step, leads, step, new_row, file, amend, can
 use Rattle.casa_flight.specs.Replies.{reply_of, messages}
 use Rattle.casa_flight.specs.Messages.{messages_in}
 use Rattle.casa_flight.specs.Good.{IsGood}
+use Rattle.casa_laws.proofs.Outcomes.{exempted, set_row}
 use Rattle.casa_laws.proofs.Times.{delay_free}
 use Rattle.casa_laws.proofs.RegMessages.{call_silent}
 use Rattle.casa_footprint.specs.Items.{ItemName, the_clock, the_catalogue, a_row, a_list}
 use Rattle.casa_footprint.specs.Footprint.{is_subject, is_list_of, governs, reads, holds, would_write}
 use Rattle.casa_footprint.proofs.Names.{text_itself}
+use Rattle.casa_footprint.proofs.OneFlight.{is_over_in, has_written, either_same}
+use Rattle.casa_footprint.proofs.FlightCalls.{file_writes, amend_writes, cancel_writes, holds_at, revise_writes, exempt_writes}
 use Rattle.casa_footprint.specs.Change.{IsChange}
 use Rattle.casa_plan_spec.specs.Sight.{Sight, says, IsSightOf, IsPlanned, IsAnswerIn, clock_in, regulations_in, situation_in, list_in, row_in}
 use Rattle.casa_plan_spec.specs.OneFlight.{entry_offer, with_offer, offered_delay, flight_written}
@@ -33,8 +36,7 @@ use Rattle.casa_plan_spec.specs.Messages.{ctot_by}
 use Rattle.casa_plan_spec.specs.FlightCalls.{leave_unchanged, take_offer, take_offer_if, file_if, amend_if, cancel_at, revise_at, exempt_at, mark_exempt_if, show_at, is_taken}
 use Rattle.casa_plan_spec.specs.FlightCalls as planned
 use Rattle.casa_plan_spec.proofs.FlightOffers.{offer_found, Finds, entry_same, entered_is, entered_delay}
-use Rattle.casa_plan_spec.proofs.FlightLists.{Rewrites, has_written, change_is}
-use Rattle.casa_plan_spec.proofs.Written.{set_row, is_over_in}
+use Rattle.casa_plan_spec.proofs.FlightLists.{Rewrites, change_is}
 use Rattle.casa_plan_spec.proofs.FlightAnswers.{ShowsLists, refused_answer, row_answer, entering_answer, led_change, governing_seen, governing_there, unchanged_answer, plan_kept}
 
 clock_is : (v : Sight) (m : State) (call : Call) → IsSightOf m call v → reads m call the_clock ≡ true → clock_in v ≡ m.clock
@@ -43,21 +45,10 @@ clock_is v m call of h = ap (λ (w : Option ℕ). unwrap_or w 0) (of.clock h)
 regulations_are : (v : Sight) (m : State) (call : Call) → IsSightOf m call v → reads m call the_catalogue ≡ true → regulations_in v ≡ catalogue m
 regulations_are v m call of h = ap (λ (w : Option (List Regulation)). unwrap_or w []) (of.catalogue h)
 
-either_same : (b : Bool) → (b || b) ≡ b
-either_same true = refl
-either_same false = refl
-
 -- a call that reads the lists of the flight as it stands shows them
 own_lists : (v : Sight) (m : State) (call : Call) (key : Text) (row : Row) → IsSightOf m call v → row_of m key ≡ Some row → ((id : Text) → is_list_of m key id ≡ true → reads m call (a_list id) ≡ true) → ShowsLists v m (Some row) row.plan
 own_lists v m call key row of found read id h =
     of.list id (read id (ap (λ (w : Option Row). is_over_in m w id) found ∙ sym (either_same (is_subject m row.plan id)) ∙ h))
-
--- the lists of a flight that keeps its plan
-own_written : (m : State) (key id : Text) (row new : Row) → row_of m key ≡ Some row → new.plan ≡ row.plan → is_list_of m key id ≡ (is_over_in m (row_of m key) id || is_subject m new.plan id)
-own_written m key id row new found kept =
-    sym (either_same (is_list_of m key id))
-    ∙ (λ i. is_list_of m key id || is_over_in m (found i) id)
-    ∙ (λ i. is_list_of m key id || is_subject m (sym kept i) id)
 
 pub file_planned : (v : Sight) (plan : FlightPlan) → IsPlanned v (File plan) (planned.file v plan)
 file_planned v plan m good of =
@@ -69,12 +60,6 @@ file_planned v plan m good of =
 
     found : row_of m plan.key ≡ row_in v plan.key
     found = sym (of.row plan.key (text_itself plan.key))
-
-    written : (i : ItemName) (new : Row) → new.plan ≡ plan → row_of m plan.key ≡ None → would_write m (File plan) i ≡ has_written m plan.key (Some new) i
-    written the_clock new kept e = refl
-    written the_catalogue new kept e = refl
-    written (a_row other) new kept e = refl
-    written (a_list id) new kept e = sym (λ i. is_over_in m (e i) id || is_subject m (kept i) id)
 
     by : (w : Option Row) → row_of m plan.key ≡ w → (late : Bool) → nat_lt plan.eobt m.clock ≡ late → IsAnswerIn m (File plan) (file_if v plan w late)
     by (Some row) e late h = refused_answer m (File plan) Duplicate (ap (λ (w : Option Row). file m plan w (nat_lt plan.eobt m.clock)) e)
@@ -90,7 +75,7 @@ file_planned v plan m good of =
         (λ id s. of.list id s)
         (λ i. file m plan (e i) (h i))
         (λ n. refl)
-        (λ i new kept. written i new kept e)
+        (λ i new kept. file_writes m plan new e kept i)
 
 pub amend_planned : (v : Sight) (plan : FlightPlan) → IsPlanned v (Amend plan) (planned.amend v plan)
 amend_planned v plan m good of =
@@ -102,12 +87,6 @@ amend_planned v plan m good of =
 
     found : row_of m plan.key ≡ row_in v plan.key
     found = sym (of.row plan.key (text_itself plan.key))
-
-    written : (i : ItemName) (new : Row) → new.plan ≡ plan → would_write m (Amend plan) i ≡ has_written m plan.key (Some new) i
-    written the_clock new kept = refl
-    written the_catalogue new kept = refl
-    written (a_row other) new kept = refl
-    written (a_list id) new kept = λ i. is_list_of m plan.key id || is_subject m (sym kept i) id
 
     by : (w : Option Row) → row_of m plan.key ≡ w → (late : Bool) → nat_lt plan.eobt m.clock ≡ late → IsAnswerIn m (Amend plan) (amend_if v plan w late)
     by None e late h = refused_answer m (Amend plan) NoFlight (ap (λ (w : Option Row). amend m plan w (nat_lt plan.eobt m.clock)) e)
@@ -124,7 +103,7 @@ amend_planned v plan m good of =
         read
         (λ i. amend m plan (e i) (h i))
         (λ n. refl)
-        (λ i new kept. written i new kept)
+        (λ i new kept. amend_writes m plan new kept i)
 
 pub exempt_planned : (v : Sight) (key : Text) → IsPlanned v (Exempt key) (planned.exempt v key)
 exempt_planned v key m good of = by (row_in v key) found
@@ -132,21 +111,15 @@ exempt_planned v key m good of = by (row_in v key) found
     found : row_of m key ≡ row_in v key
     found = sym (of.row key (text_itself key))
 
-    written : (i : ItemName) (row : Row) → row_of m key ≡ Some row → would_write m (Exempt key) i ≡ has_written m key (Some (record (ungoverned row) { marked = true })) i
-    written the_clock row e = refl
-    written the_catalogue row e = refl
-    written (a_row other) row e = refl
-    written (a_list id) row e = own_written m key id row (record (ungoverned row) { marked = true }) e refl
-
     mark : (row : Row) → row_of m key ≡ Some row → (b : Bool) → is_exempt row ≡ b → IsAnswerIn m (Exempt key) (mark_exempt_if v key row b)
     mark row e true h = refused_answer m (Exempt key) AlreadyExempt (ap (exempt m key) e ∙ ap (exempt_if m key row) h)
     mark row e false h =
-        let new : Row = record (ungoverned row) { marked = true } in
+        let new : Row = exempted row in
         row_answer v m (Exempt key) key (Some row) new 0 good e (regulations_are v m (Exempt key) of refl)
         (own_lists v m (Exempt key) key row of e (λ id s. s))
         (ap (exempt m key) e ∙ ap (exempt_if m key row) h)
         refl
-        (λ i. written i row e)
+        (exempt_writes m key row e)
         (delay_free (with_row m key new) key new refl)
 
     by : (w : Option Row) → row_of m key ≡ w → IsAnswerIn m (Exempt key) (exempt_at v key w)
@@ -159,16 +132,6 @@ cancel_planned v key m good of = by (row_in v key) found
     found : row_of m key ≡ row_in v key
     found = sym (of.row key (text_itself key))
 
-    written : (i : ItemName) → would_write m (Cancel key) i ≡ has_written m key None i
-    written the_clock = refl
-    written the_catalogue = refl
-    written (a_row other) = refl
-    written (a_list id) = sym (or_none (is_list_of m key id))
-      where
-        or_none : (b : Bool) → (b || false) ≡ b
-        or_none true = refl
-        or_none false = refl
-
     by : (w : Option Row) → row_of m key ≡ w → IsAnswerIn m (Cancel key) (cancel_at v key w)
     by None e = refused_answer m (Cancel key) NoFlight (ap (cancel m key) e)
     by (Some row) e =
@@ -178,10 +141,10 @@ cancel_planned v key m good of = by (row_in v key) found
         let r : Rewrites v m key None = record {
           good = good;
           regulations = regulations_are v m (Cancel key) of refl;
-          lists = λ id s. of.list id (written (a_list id) ∙ s);
+          lists = λ id s. of.list id (cancel_writes m key (a_list id) ∙ s);
         } in (
           sym (ap (reply_of m (Cancel key)) is ∙ ap (λ (ms : List Message). Answered Done ms) silent),
-          subst (λ (w : Option Row). IsChange m (Cancel key) (says (flight_written v key w None))) e (led_change m n (Cancel key) (flight_written v key (row_of m key) None) (has_written m key None) is written (change_is v m key None r)),
+          subst (λ (w : Option Row). IsChange m (Cancel key) (says (flight_written v key w None))) e (led_change m n (Cancel key) (flight_written v key (row_of m key) None) (has_written m key None) is (cancel_writes m key) (change_is v m key None r)),
         )
 
 pub show_planned : (v : Sight) (key : Text) → IsPlanned v (Show key) (planned.show v key)
@@ -221,15 +184,6 @@ revise_planned v key m good of = by (row_in v key) found
 
     at : clock_in v ≡ m.clock
     at = clock_is v m (Revise key) of refl
-
-    holds_at : (row : Row) → row_of m key ≡ Some row → (b : Bool) → is_revised m key row (row_after_entry (situation m) key (ungoverned row)) ≡ b → holds m key ≡ b
-    holds_at row e b h = ap (λ (w : Option Row). option_map_or (λ (r : Row). is_revised m key r (row_after_entry (situation m) key (ungoverned r))) w false) e ∙ h
-
-    written : (i : ItemName) (row new : Row) → row_of m key ≡ Some row → holds m key ≡ true → new.plan ≡ row.plan → would_write m (Revise key) i ≡ has_written m key (Some new) i
-    written the_clock row new e h kept = refl
-    written the_catalogue row new e h kept = refl
-    written (a_row other) row new e h kept = ap (λ b. b && same_text key other) h
-    written (a_list id) row new e h kept = ap (λ b. b && is_list_of m key id) h ∙ own_written m key id row new e kept
 
     spares : (i : ItemName) → holds m key ≡ false → would_write m (Revise key) i ≡ false
     spares the_clock h = refl
@@ -273,5 +227,5 @@ revise_planned v key m good of = by (row_in v key) found
         if_so : (b : Bool) → is_revised m key row new ≡ b → IsAnswerIn m (Revise key) (take_offer_if b v key row o)
         if_so true h =
             entering_answer v m (Revise key) key (Some row) free (clock_in v) good e refl at finds lists (leading true h) (λ n. refl)
-            (λ i r kept. written i row r e (holds_at row e true h) kept)
-        if_so false h = unchanged_answer v m (Revise key) key row good e governs (leading false h) refl (λ i. spares i (holds_at row e false h))
+            (λ i r kept. revise_writes m key row r e (holds_at m key row e ∙ h) kept i)
+        if_so false h = unchanged_answer v m (Revise key) key row good e governs (leading false h) refl (λ i. spares i (holds_at m key row e ∙ h))

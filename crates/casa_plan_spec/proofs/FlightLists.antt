@@ -8,26 +8,21 @@ use Rattle.casa_flight.specs.State.{row_of, catalogue}
 use Rattle.casa_flight.specs.Listing.{list_of}
 use Rattle.casa_flight.specs.Good.{IsGood}
 use Rattle.casa_footprint.specs.Items.{ItemName, the_clock, the_catalogue, a_row, a_list, row_or_none, list_or_none, contents}
+use Rattle.casa_laws.proofs.Outcomes.{set_row}
+use Rattle.casa_footprint.proofs.OneFlight.{is_over_in, has_written}
 use Rattle.casa_plan_spec.specs.Sight.{Sight, Written, nothing_written, says, regulations_in, list_in, row_in}
 use Rattle.casa_plan_spec.specs.Write.{Stances, write_flight, stances}
 use Rattle.casa_plan_spec.specs.OneFlight.{flight_written}
 use Rattle.casa_plan_spec.proofs.Changes.{at-put_by}
 use Rattle.casa_plan_spec.proofs.Board.{Shows, of_shown, whole, whole-list, whole-shown}
 use Rattle.casa_plan_spec.proofs.Stances.{AreOnce, once-stances, lists_named, same_lists}
-use Rattle.casa_plan_spec.proofs.Written.{set_row, is_over_in, stances_named, flight_shown, all_covered}
+use Rattle.casa_plan_spec.proofs.Written.{stances_named, flight_shown, all_covered}
 
 -- what the change of one flight rests on: the lists that it has or had are shown
 pub record Rewrites (v : Sight) (m : State) (key : Text) (now : Option Row) : Type 0 where
   pub good : IsGood m
   pub regulations : regulations_in v ≡ catalogue m
   pub lists : (id : Text) → (is_over_in m (row_of m key) id || is_over_in m now id) ≡ true → list_in v id ≡ list_of m id
-
--- which items the change of one flight has
-abbrev pub has_written : State → Text → Option Row → ItemName → Bool
-has_written m key now the_clock = false
-has_written m key now the_catalogue = false
-has_written m key now (a_row other) = same_text key other
-has_written m key now (a_list id) = is_over_in m (row_of m key) id || is_over_in m now id
 
 -- the change has the row and the lists of the flight, as they are in the state with the written row
 pub change_is : (v : Sight) (m : State) (key : Text) (now : Option Row) → Rewrites v m key now → (i : ItemName)

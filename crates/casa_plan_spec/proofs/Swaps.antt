@@ -20,7 +20,8 @@ use Rattle.casa_flight.specs.Replies.{is_issued, message_of, messages}
 use Rattle.casa_flight.specs.Good.{AreInOrder, IsGood}
 use Rattle.casa_filing.proofs.Entries.{named, all-put, at-put_same, sorted-put, filter_map-each}
 use Rattle.casa_laws.proofs.ChangeMessages.{stays}
-use Rattle.casa_laws.proofs.Swap.{CanExchange, SharedBy, shared_by}
+use Rattle.casa_laws.proofs.Outcomes.{CanExchange}
+use Rattle.casa_laws.proofs.Swap.{SharedBy, shared_by}
 use Rattle.casa_footprint.specs.Footprint.{governs}
 use Rattle.casa_footprint.proofs.Names.{text_itself}
 use Rattle.casa_footprint.proofs.OneFlight.{other_row}

@@ -14,9 +14,10 @@ use Rattle.casa_flight.specs.Listing.{Listing, listing, list_of, stance, stance_
 use Rattle.casa_flight.specs.Good.{AreInOrder}
 use Rattle.casa_filing.proofs.Entries.{text_cmp, same_name, named, apart, at-without_other}
 use Rattle.casa_laws.proofs.Kept.{set_at, at-without_same}
+use Rattle.casa_laws.proofs.Outcomes.{set_row}
 use Rattle.casa_laws.proofs.Lists.{list-with_row, list_cancelled, stance_is, with_same}
 use Rattle.casa_laws.proofs.Planned.{list_sorted}
-use Rattle.casa_footprint.specs.Footprint.{is_subject}
+use Rattle.casa_footprint.proofs.OneFlight.{is_over_in}
 use Rattle.casa_plan_spec.specs.Sight.{Sight, Written, list_in, row_in}
 use Rattle.casa_plan_spec.specs.Write.{Stances, with_flight, with_stances, write_flight, stances}
 use Rattle.casa_plan_spec.proofs.Changes.{at-put_by, test_same}
@@ -25,10 +26,7 @@ use Rattle.casa_plan_spec.proofs.Board.{Shows}
 use Rattle.casa_plan_spec.proofs.Crossings.{time_over}
 use Rattle.casa_plan_spec.proofs.Stances.{AreOnce, set_in, left_at, stands_at, at-with_stances, at-stances}
 
--- the state with this row under the key, or with none
-abbrev pub set_row : State → Text → Option Row → State
-set_row m key now = record m { rows = set_at m.rows key now }
-
+-- what is filed once one flight is written or removed
 pub row_set : (m : State) (key : Text) (now : Option Row) (q : Text) → AreInOrder m.rows → row_of (set_row m key now) q ≡ (if same_text key q then now else row_of m q)
 row_set m key (Some row) q sorted = at-put_by q key row m.rows
 row_set m key None q sorted =
@@ -149,9 +147,6 @@ governing_covered s key was new id st found plan before after stands q measure o
     ] refl
 
 -- which lists these are
-abbrev pub is_over_in : State → Option Row → Text → Bool
-is_over_in m row id = option_map_or (λ (f : Row). is_subject m f.plan id) row false
-
 pub stances_named : (m : State) (was now : Option Row) (id : Text) → AreInOrder m.regs → is_some (at_name (stances (catalogue m) was now) id) ≡ (is_over_in m was id || is_over_in m now id)
 stances_named m was now id sorted =
     ap is_some (at-stances m was now id sorted) ∙ named_by now (time_over id (measure_of m id) was) (time_over id (measure_of m id) now) (none now)
