@@ -59,7 +59,7 @@ pub fn run_command<'a>(alloc: Global) -> Result<Command<'a>, AllocError>
     ensures app { IfOk result (λ command. app_of command ≡ run_app) }
     ensures local { IfOk result (λ command. (fields_of command).has_globals ≡ false) }
 {
-    described(alloc, "run", help::RUN_ABOUT, help::RUN_AFTER_HELP)
+    subcommand(alloc, "run", help::RUN_ABOUT, help::RUN_AFTER_HELP)
         .override_usage(help::RUN_USAGE)
         .arg(journal_option(alloc))?
         .arg(force_flag(alloc))
@@ -70,7 +70,7 @@ fn report_command<'a>(alloc: Global) -> Result<Command<'a>, AllocError>
     ensures app { IfOk result (λ command. app_of command ≡ report_app) }
     ensures local { IfOk result (λ command. (fields_of command).has_globals ≡ false) }
 {
-    described(alloc, "report", help::REPORT_ABOUT, help::REPORT_AFTER_HELP)
+    subcommand(alloc, "report", help::REPORT_ABOUT, help::REPORT_AFTER_HELP)
         .arg(reg_option(alloc))?
         .arg(day_option(alloc))?
         .arg(strict_flag(alloc))
@@ -81,7 +81,7 @@ fn load_command<'a>(alloc: Global) -> Result<Command<'a>, AllocError>
     ensures app { IfOk result (λ command. app_of command ≡ load_app) }
     ensures local { IfOk result (λ command. (fields_of command).has_globals ≡ false) }
 {
-    described(alloc, "load", help::LOAD_ABOUT, help::LOAD_AFTER_HELP)
+    subcommand(alloc, "load", help::LOAD_ABOUT, help::LOAD_AFTER_HELP)
         .arg(reg_option(alloc))?
         .arg(day_option(alloc))?
         .arg(step_option(alloc))?
@@ -93,7 +93,7 @@ fn summary_command<'a>(alloc: Global) -> Result<Command<'a>, AllocError>
     ensures app { IfOk result (λ command. app_of command ≡ summary_app) }
     ensures local { IfOk result (λ command. (fields_of command).has_globals ≡ false) }
 {
-    let summary = described(
+    let summary = subcommand(
         alloc,
         "summary",
         help::SUMMARY_ABOUT,
@@ -108,7 +108,7 @@ fn why_command<'a>(alloc: Global) -> Result<Command<'a>, AllocError>
     ensures local { IfOk result (λ command. (fields_of command).has_globals ≡ false) }
 {
     let key = value_option(alloc, "key", "K", help::KEY_HELP).required(true);
-    described(alloc, "why", help::WHY_ABOUT, help::WHY_AFTER_HELP)
+    subcommand(alloc, "why", help::WHY_ABOUT, help::WHY_AFTER_HELP)
         .arg(key)?
         .arg(day_option(alloc))?
         .arg(strict_flag(alloc))
@@ -174,7 +174,7 @@ fn serve_without_clock<'a>(alloc: Global) -> Result<Command<'a>, AllocError>
     ensures local { IfOk result (λ command. (fields_of command).has_globals ≡ false) }
 {
     let connections = count_option(alloc, "connections", "N", help::CONNECTIONS_HELP);
-    described(alloc, "serve", help::SERVE_ABOUT, help::SERVE_AFTER_HELP)
+    subcommand(alloc, "serve", help::SERVE_ABOUT, help::SERVE_AFTER_HELP)
         .override_usage(help::SERVE_USAGE)
         .arg(port_option(alloc))?
         .arg(connections)
@@ -187,7 +187,7 @@ pub fn journal_command<'a>(alloc: Global) -> Result<Command<'a>, AllocError>
 {
     let action = word(alloc, "action", "ACTION", help::ACTION_HELP);
     let file = word(alloc, "file", "FILE", help::FILE_HELP);
-    described(
+    subcommand(
         alloc,
         "journal",
         help::JOURNAL_ABOUT,
@@ -199,7 +199,7 @@ pub fn journal_command<'a>(alloc: Global) -> Result<Command<'a>, AllocError>
 }
 
 /// A subcommand that takes no words, with what stands above its options and below them in its help.
-fn described<'a>(alloc: Global, name: &'a str, about: &'a str, after: &'a str) -> Command<'a>
+fn subcommand<'a>(alloc: Global, name: &'a str, about: &'a str, after: &'a str) -> Command<'a>
     ensures app { app_of result ≡ new_app name.entry.now }
     ensures local { (fields_of result).has_globals ≡ false }
 {

@@ -262,7 +262,7 @@ impl<W: Shareable + Drop, L: EngineName> CountedRoom<W, L> {
         let desks = room.desks();
         let history = room.into_history();
         let settled = settle(&history, passes.as_slice());
-        let mut all = gathered(spare, passes);
+        let mut all = gather(spare, passes);
         book.audit(&mut all);
         (history, desks, settled)
     }
@@ -316,7 +316,7 @@ fn know_all<W: World, L: EngineName>(
 }
 
 /// The share with those of all these passes.
-fn gathered<W: World, L: EngineName>(spare: Share<L>, passes: Vec<CountedPass<W, L>>) -> Share<L>
+fn gather<W: World, L: EngineName>(spare: Share<L>, passes: Vec<CountedPass<W, L>>) -> Share<L>
     requires { spare.parts ≤ L.parts }
     ensures parts { result.parts ≡ spare.parts + length passes.items }
     ensures within { result.parts ≤ L.parts }

@@ -76,7 +76,7 @@ impl<K: Store, L: EngineName, G: Gate<Board<K>> + Drop> SharedRoom<Board<K>, L, 
             × IsAuditOf (lists_in (state_after history)) audit) }
     {
         let alloc = self.alloc;
-        let shared = self.held(rt).lists(alloc);
+        let shared = self.hold(rt).lists(alloc);
         let lists = shared?;
         audit_shared(rt, alloc, lists.as_slice())
     }
@@ -95,7 +95,7 @@ impl<K: Store, L: EngineName, G: Gate<Board<K>> + Drop> SharedRoom<Board<K>, L, 
     {
         let alloc = self.alloc;
         let mut now = front.again();
-        let shared = self.held(rt).lists_seen(alloc, &mut now);
+        let shared = self.hold(rt).lists_seen(alloc, &mut now);
         let lists = shared?;
         let audit = audit_shared(rt, alloc, lists.as_slice())?;
         *front = now;

@@ -88,7 +88,7 @@ where
     }
 
     /// The room, which nobody else has until this is let go.
-    pub(crate) fn held<R: Wait>(&self, rt: &R) -> MutexGuard<'_, CountedRoom<W, L>> {
+    pub(crate) fn hold<R: Wait>(&self, rt: &R) -> MutexGuard<'_, CountedRoom<W, L>> {
         for _ in 0..LOOKS {
             if let Some(room) = self.room.try_lock() {
                 return room;
@@ -103,14 +103,14 @@ where
     pub fn desk<R: Wait>(&self, rt: &R) -> Result<CountedPass<W, L>, DeskFault>
         ensures { IfOk result (λ desk. receipts (pass_of desk) ≡ []) }
     {
-        self.held(rt).open_desk()
+        self.hold(rt).open_desk()
     }
 
     /// A front that sees the history as it is now, which is legal.
     pub fn front<R: Wait>(&self, rt: &R) -> Front<W::Call, W::Reply, L>
         ensures { IsLegal W.after W.reply W.opening result }
     {
-        self.held(rt).front()
+        self.hold(rt).front()
     }
 
     /// Lets a front see the history as it is now, which is legal, and begins with what the front had seen. How many entries
@@ -120,7 +120,7 @@ where
         ensures longer { IsPrefix front.old front.new }
         ensures legal { IsLegal W.after W.reply W.opening front.new }
     {
-        self.held(rt).see(front)
+        self.hold(rt).see(front)
     }
 
     /// Lets a front that has seen so many entries see the history as it is now, as `see` does, and shares those that it had
@@ -138,7 +138,7 @@ where
         ensures legal { OnOk result (IsLegal W.after W.reply W.opening front.new) }
         ensures same_front { OnErr result (front.new ≡ front.old) }
     {
-        self.held(rt).entries_behind(self.alloc, front, count)
+        self.hold(rt).entries_behind(self.alloc, front, count)
     }
 
     /// The history as it is now, which is legal, and begins with what each of these fronts has seen.
@@ -206,7 +206,7 @@ where
         let Ok(copy) = W::copy_call(call) else {
             return Err(CommitFault::NoMemory);
         };
-        let seen = self.held(rt).view(call);
+        let seen = self.hold(rt).view(call);
         let Ok(view) = seen else {
             return Err(CommitFault::NoMemory);
         };
@@ -215,7 +215,7 @@ where
             return Err(CommitFault::NoMemory);
         };
         // The lock is free again before a stale answer is dropped.
-        let committed = self.held(rt).commit(desk, prepared);
+        let committed = self.hold(rt).commit(desk, prepared);
         committed.map_err(|(fault, _)| fault)
     }
 
@@ -232,7 +232,7 @@ where
         ensures seen { IfOk result (λ r. IsSeenIn W.World (front_of desk.old) r (front_of desk.new)) }
         ensures same_front { OnErr result (front_of desk.new ≡ front_of desk.old) }
     {
-        self.held(rt).locked(self.alloc, desk, call, &Direct)
+        self.hold(rt).locked(self.alloc, desk, call, &Direct)
     }
 }
 

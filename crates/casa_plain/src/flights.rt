@@ -71,7 +71,7 @@ pub fn newcomers(
 }
 
 /// The flights that a regulation governs, by key.
-fn found_governed(
+fn find_governed(
     alloc: Global,
     rows: &BTreeMap<Key, Row>,
     regulation: &Regulation,
@@ -96,7 +96,7 @@ pub fn governed_flights(
     ensures { IfOk result (λ comps. comps.items ≡
         flights_over (is_governed_by regulation.now.id) regulation.now rows.now.entries) }
 {
-    let mut comps = found_governed(alloc, rows, regulation)?;
+    let mut comps = find_governed(alloc, rows, regulation)?;
     sort_comps(&mut comps);
     Ok(comps)
 }

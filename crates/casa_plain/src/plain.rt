@@ -70,7 +70,7 @@ impl Plain {
     }
 
     /// The same state in memory of its own.
-    pub(crate) fn copied(&self) -> Result<Plain, AllocError>
+    pub(crate) fn try_clone(&self) -> Result<Plain, AllocError>
         ensures { IfOk result (λ copy. copy ≡ self.now) }
     {
         Ok(Plain {

@@ -38,7 +38,7 @@ impl Plain {
         if plan.eobt() < self.clock() {
             return Ok(Outcome::Refused(Refusal::Late));
         }
-        let mut new = self.copied()?;
+        let mut new = self.try_clone()?;
         new.enter(alloc, plan.key(), Row::filed(plan)?)?;
         Ok(Outcome::Leads(new))
     }
@@ -56,7 +56,7 @@ impl Plain {
             return Ok(Outcome::Refused(Refusal::Late));
         }
         let row = row.amended(plan)?;
-        let mut new = self.copied()?;
+        let mut new = self.try_clone()?;
         new.enter(alloc, plan.key(), row)?;
         Ok(Outcome::Leads(new))
     }
@@ -68,7 +68,7 @@ impl Plain {
         let Some(_row) = self.row(key) else {
             return Ok(Outcome::Refused(Refusal::NoFlight));
         };
-        let mut new = self.copied()?;
+        let mut new = self.try_clone()?;
         new.remove_row(key);
         Ok(Outcome::Leads(new))
     }
@@ -77,7 +77,7 @@ impl Plain {
     fn ctot_with(&self, alloc: Global, key: Key, row: &Row) -> Result<u32, AllocError>
         ensures { IfOk result (λ ctot. ctot ≡ ctot_of (with_row self.now key row.now) key row.now) }
     {
-        let mut trial = self.copied()?;
+        let mut trial = self.try_clone()?;
         trial.put_row(key, row.clone()?)?;
         trial.ctot_of(alloc, key, row)
     }
@@ -102,7 +102,7 @@ impl Plain {
         ensures { IfOk result (λ m. m ≡ revise_to self.now key row.now new) }
     {
         let is_revised = self.is_revised(alloc, key, row, &new)?;
-        let mut then = self.copied()?;
+        let mut then = self.try_clone()?;
         if is_revised {
             then.put_row(key, new)?;
         }
@@ -131,7 +131,7 @@ impl Plain {
             return Ok(Outcome::Refused(Refusal::AlreadyExempt));
         }
         let row = row.exempted()?;
-        let mut new = self.copied()?;
+        let mut new = self.try_clone()?;
         new.put_row(key, row)?;
         Ok(Outcome::Leads(new))
     }
@@ -143,7 +143,7 @@ impl Plain {
     {
         let regulation = Regulation::of(id, &measure);
         let comps = newcomers(alloc, self.rows(), self.clock(), &regulation)?;
-        let mut new = self.copied()?;
+        let mut new = self.try_clone()?;
         new.put_measure(id, measure)?;
         new.enter_all(alloc, comps.as_slice())?;
         Ok(new)
@@ -179,7 +179,7 @@ impl Plain {
         ensures { IfOk result (λ m. m ≡ state_without_regulation self.now id) }
     {
         let rows = freed_rows(alloc, self.rows(), id)?;
-        let mut new = self.copied()?;
+        let mut new = self.try_clone()?;
         new.remove_measure(id);
         new.set_rows(rows);
         Ok(new)
@@ -217,7 +217,7 @@ impl Plain {
         if ends_later(profile, &old.profile) {
             return Ok(Outcome::Leads(self.take_in(alloc, id, measure)?));
         }
-        let mut new = self.copied()?;
+        let mut new = self.try_clone()?;
         new.put_measure(id, measure)?;
         Ok(Outcome::Leads(new))
     }
@@ -229,7 +229,7 @@ impl Plain {
         if at < self.clock() {
             return Ok(Outcome::Refused(Refusal::BackInTime));
         }
-        let mut new = self.copied()?;
+        let mut new = self.try_clone()?;
         new.set_clock(at);
         new.issue_due(alloc)?;
         Ok(Outcome::Leads(new))
@@ -242,7 +242,7 @@ impl Plain {
         let Some(_row) = self.row(key) else {
             return Ok(Outcome::Refused(Refusal::NoFlight));
         };
-        Ok(Outcome::Leads(self.copied()?))
+        Ok(Outcome::Leads(self.try_clone()?))
     }
 
     /// A list is shown, and nothing changes.
@@ -252,7 +252,7 @@ impl Plain {
         let Some(_measure) = self.measure(id) else {
             return Ok(Outcome::Refused(Refusal::NoRegulation));
         };
-        Ok(Outcome::Leads(self.copied()?))
+        Ok(Outcome::Leads(self.try_clone()?))
     }
 
     /// What comes of a call.

@@ -84,7 +84,7 @@ impl Plain {
         {
             return Ok(Outcome::Refused(Refusal::TooEarly));
         }
-        let mut new = self.copied()?;
+        let mut new = self.try_clone()?;
         new.put_row(key, with_issued_time(row, time)?)?;
         new.put_row(other, with_issued_time(mate, cto)?)?;
         Ok(Outcome::Leads(new))

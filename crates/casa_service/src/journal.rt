@@ -65,7 +65,7 @@ pub(crate) fn open_journal<
             tell_opened(rt, log, path, count, begun);
             Ok(journal)
         }
-        Err((fault, _)) => Err(refused(alloc, path, fault, aside.trouble, last)),
+        Err((fault, _)) => Err(refusal_of(alloc, path, fault, aside.trouble, last)),
     }
 }
 
@@ -90,7 +90,7 @@ fn tell_opened<R: Clock + Eprint>(
 }
 
 /// Why a journal is refused, where it may be for what could not be set aside.
-fn refused(
+fn refusal_of(
     alloc: Global,
     path: &str,
     fault: RecoveryFault,

@@ -1,6 +1,6 @@
 use Rattle.std.specs.Prelude.{◌≡◌, ◌+◌, ◌≤◌, length}
 use Rattle.casa_engine.specs.Passes.{calls_in}
-use Rattle.casa_engine.proofs.counted.gathered.Given as goal
+use Rattle.casa_engine.proofs.counted.gather.Given as goal
 
 abbrev pub invariant-loop-desk : goal.invariant-loop-desk
 invariant-loop-desk g l = record {
