@@ -19,7 +19,7 @@ use Rattle.casa_flight.specs.Steps.{list}
 use Rattle.casa_filing.specs.Text.{Text, at_name}
 use Rattle.casa_filing.proofs.Entries.{each_found}
 use Rattle.casa_inquiry.specs.Summary.{lists_told}
-use Rattle.casa_session.specs.Played.{state_after}
+use Rattle.casa_session.specs.Played.{state_after_calls}
 use Rattle.casa_app.specs.declared.fault.ProgramFault.{ProgramFault}
 use Rattle.casa_app.specs.declared.fault.ProgramFault.TheVariants.{NoMemory, NoRegulation}
 use Rattle.casa_app.specs.Listed.{list_as, list_in}
@@ -60,15 +60,15 @@ only_no_memory (Err f) fault e (inl p) open_now = e ∙ p
 only_no_memory (Err f) fault e (inr p) open_now = absurd (open_now p.1)
 
 -- a list that is told in the same state is the one with its regulation's number, and one is told
-module _ (before now : List Call) (same : state_after now ≡ state_after before) (i : ℕ) (r : Regulation)
-    (found : slice_get (catalogue (state_after before)) i ≡ Some r) where
-  pub next_told : (list : ListReply) → list_after now r.id ≡ Some list → slice_get (lists_told (state_after before)) i ≡ Some list
+module _ (before now : List Call) (same : state_after_calls now ≡ state_after_calls before) (i : ℕ) (r : Regulation)
+    (found : slice_get (catalogue (state_after_calls before)) i ≡ Some r) where
+  pub next_told : (list : ListReply) → list_after now r.id ≡ Some list → slice_get (lists_told (state_after_calls before)) i ≡ Some list
   next_told list told =
-      let (shown, is_told, there) = nth_told (state_after before) (good_after before) i r found in
+      let (shown, is_told, there) = nth_told (state_after_calls before) (good_after before) i r found in
       there ∙ sym is_told ∙ ap (λ (m : State). list_in (reply m (ListOf r.id))) (sym same) ∙ told
 
   pub is_listed : list_after now r.id ≡ None → ⊥
   is_listed untold =
-      let (shown, is_told, there) = nth_told (state_after before) (good_after before) i r found in
+      let (shown, is_told, there) = nth_told (state_after_calls before) (good_after before) i r found in
       let some : Some shown ≡ None = sym is_told ∙ ap (λ (m : State). list_in (reply m (ListOf r.id))) (sym same) ∙ untold in
       cc

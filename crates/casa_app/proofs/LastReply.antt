@@ -18,7 +18,7 @@ use Rattle.casa_laws.proofs.GoodRegs.{next-good}
 use Rattle.casa_history.specs.declared.entry.Receipt.{Receipt}
 use Rattle.casa_history.specs.Entries.{receipt, receipts_from}
 use Rattle.casa_commit.specs.Legal.{entry}
-use Rattle.casa_session.specs.Played.{only_desk, sequential_history, receipts_played, state_after}
+use Rattle.casa_session.specs.Played.{only_desk, sequential_history, receipts_played, state_after_calls}
 use Rattle.casa_app.specs.Listed.{list_in}
 use Rattle.casa_app.specs.Reports.{list_after}
 
@@ -35,20 +35,20 @@ reply_from m n (b ∷ before) (c ∷ now) r h =
     let tail : receipts_from (n + 1) (sequential_history (next m c) now) ≡ receipts_from (n + 1) (sequential_history (next m b) before) ++ r ∷ [] = cc in
     reply_from (next m b) (n + 1) before now r (subst (λ d. receipts_from (n + 1) (sequential_history (next m d) now) ≡ receipts_from (n + 1) (sequential_history (next m b) before) ++ r ∷ []) call_is tail)
 
-last_reply : (before now : List Call) (r : Receipt Call Reply) → receipts_played now ≡ receipts_played before ++ r ∷ [] → r.entry.reply ≡ reply (state_after before) r.entry.call
+last_reply : (before now : List Call) (r : Receipt Call Reply) → receipts_played now ≡ receipts_played before ++ r ∷ [] → r.entry.reply ≡ reply (state_after_calls before) r.entry.call
 last_reply before now r h = reply_from empty 1 before now r h
 
 -- so where a list was asked for, it is the one after the calls before
 pub last_list : (before now : List Call) (reg : Text) (r : Receipt Call Reply) → receipts_played now ≡ receipts_played before ++ r ∷ [] → r.entry.call ≡ ListOf reg
     → list_in r.entry.reply ≡ list_after before reg
-last_list before now reg r h asked = ap list_in (last_reply before now r h ∙ ap (λ (call : Call). reply (state_after before) call) asked)
+last_list before now reg r h asked = ap list_in (last_reply before now r h ∙ ap (λ (call : Call). reply (state_after_calls before) call) asked)
 
 good_from : (m : State) (calls : List Call) → IsGood m → IsGood (fold next m calls)
 good_from m [] good = good
 good_from m (c ∷ calls) good = good_from (next m c) calls (next-good m c good)
 
 -- every session leads to a good state
-pub good_after : (calls : List Call) → IsGood (state_after calls)
+pub good_after : (calls : List Call) → IsGood (state_after_calls calls)
 good_after calls = good_from empty calls empty_good
 
 -- the calls that receipts are of
@@ -69,7 +69,7 @@ list_leaves m reg None = refl
 list_leaves m reg (Some measure) = refl
 
 pub state_stays : (before now : List Call) (reg : Text) (r : Receipt Call Reply) → receipts_played now ≡ receipts_played before ++ r ∷ [] → r.entry.call ≡ ListOf reg
-    → state_after now ≡ state_after before
+    → state_after_calls now ≡ state_after_calls before
 state_stays before now reg r h asked =
-    ap state_after (call_added before now r h) ∙ fold-append next empty before (r.entry.call ∷ [])
-    ∙ ap (next (state_after before)) asked ∙ list_leaves (state_after before) reg (measure_of (state_after before) reg)
+    ap state_after_calls (call_added before now r h) ∙ fold-append next empty before (r.entry.call ∷ [])
+    ∙ ap (next (state_after_calls before)) asked ∙ list_leaves (state_after_calls before) reg (measure_of (state_after_calls before) reg)

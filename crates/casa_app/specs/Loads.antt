@@ -10,14 +10,14 @@ use Rattle.casa_flight.specs.declared.reply.ListReply.{ListReply}
 use Rattle.casa_flight.specs.Listing.{Listing, list_of}
 use Rattle.casa_inquiry.specs.Load.{steps}
 use Rattle.casa_report.specs.LoadTable.{load_text}
-use Rattle.casa_session.specs.Played.{state_after}
+use Rattle.casa_session.specs.Played.{state_after_calls}
 use Rattle.casa_app.specs.declared.fault.ProgramFault.{ProgramFault}
 use Rattle.casa_app.specs.declared.fault.ProgramFault.TheVariants.{NoRegulation}
 use Rattle.casa_app.specs.Reports.{list_after}
 
 -- the periods of a regulation after these calls; none where it is not open
 abbrev pub periods_after : List Call → Text → Option (List Period)
-periods_after answered reg = option_map (λ (kept : Listing). kept.profile) (list_of (state_after answered) reg)
+periods_after answered reg = option_map (λ (kept : Listing). kept.profile) (list_of (state_after_calls answered) reg)
 
 -- the text for a regulation with these periods and this list, by steps of so many minutes
 abbrev pub load_of : Text → Date → ℕ → List Period → ListReply → Text

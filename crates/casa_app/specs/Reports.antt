@@ -8,14 +8,14 @@ use Rattle.casa_flight.specs.declared.call.Call.TheVariants.{List as ListOf}
 use Rattle.casa_flight.specs.declared.reply.ListReply.{ListReply}
 use Rattle.casa_flight.specs.Replies.{reply}
 use Rattle.casa_report.specs.Table.{report_text}
-use Rattle.casa_session.specs.Played.{state_after}
+use Rattle.casa_session.specs.Played.{state_after_calls}
 use Rattle.casa_app.specs.declared.fault.ProgramFault.{ProgramFault}
 use Rattle.casa_app.specs.declared.fault.ProgramFault.TheVariants.{NoRegulation}
 use Rattle.casa_app.specs.Listed.{list_in}
 
 -- the list that the sequential allocator tells of a regulation after these calls; none where the regulation is not open
 abbrev pub list_after : List Call → Text → Option ListReply
-list_after answered reg = list_in (reply (state_after answered) (ListOf reg))
+list_after answered reg = list_in (reply (state_after_calls answered) (ListOf reg))
 
 -- the heading and the table of the list after these calls
 abbrev pub report_after : Text → Date → List Call → Result Text ProgramFault

@@ -7,14 +7,14 @@ use Rattle.casa_flight.specs.declared.call.Call.{Call}
 use Rattle.casa_inquiry.specs.Why.{why_of}
 use Rattle.casa_inquiry.specs.declared.why.Reasons.{Reasons}
 use Rattle.casa_report.specs.WhyText.{why_text}
-use Rattle.casa_session.specs.Played.{state_after}
+use Rattle.casa_session.specs.Played.{state_after_calls}
 use Rattle.casa_app.specs.declared.fault.ProgramFault.{ProgramFault}
 use Rattle.casa_app.specs.declared.fault.ProgramFault.TheVariants.{NoFlight}
 
 -- why the flight under a key stands as it does after these calls of the sequential allocator; none where there is no such
 -- flight
 abbrev pub reasons_after : List Call → Text → Option Reasons
-reasons_after answered key = why_of (state_after answered) key
+reasons_after answered key = why_of (state_after_calls answered) key
 
 -- the same as a text
 abbrev pub why_after : Text → Date → List Call → Result Text ProgramFault

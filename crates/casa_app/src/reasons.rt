@@ -6,7 +6,7 @@ ghost use Rattle.casa_time.specs.Moment.{last_moment};
 ghost use Rattle.casa_flight.specs.Listing.{delay_of, governing_list};
 ghost use Rattle.casa_flight.specs.Entry.{offer, offers, situation};
 ghost use Rattle.casa_inquiry.specs.Why.{holdings, why};
-ghost use Rattle.casa_session.specs.Played.{state_after};
+ghost use Rattle.casa_session.specs.Played.{state_after_calls};
 ghost use Rattle.casa_app.specs.Inputs.{is_marked};
 ghost use Rattle.casa_app.specs.Printed.{PrintEnds};
 ghost use Rattle.casa_app.specs.Remarked.{Says};
@@ -77,7 +77,7 @@ fn explain(alloc: Global, lone: &Lone, key: &Key) -> Result<Reasons, ProgramFaul
 
 /// Why a flight that stands so after the desk's calls does.
 fn reasons(alloc: Global, lone: &Lone, key: Key, row: &Row) -> Result<Reasons, AllocError>
-    ensures { IfOk result (λ reasons. reasons ≡ why (state_after lone.now) key row.now) }
+    ensures { IfOk result (λ reasons. reasons ≡ why (state_after_calls lone.now) key row.now) }
 {
     let offers = offers(alloc, lone, key, &row.plan)?;
     let rule = rule_of(lone.clock(), row, offers.as_slice());
@@ -93,7 +93,7 @@ fn reasons(alloc: Global, lone: &Lone, key: Key, row: &Row) -> Result<Reasons, A
 
 /// The list of the regulation that governs a flight; `None` where nothing does.
 fn governing_list<'a>(lone: &'a Lone, row: &Row) -> Option<&'a SlotList>
-    ensures { option_copied result ≡ governing_list (state_after lone.now) row.now }
+    ensures { option_copied result ≡ governing_list (state_after_calls lone.now) row.now }
 {
     match &row.governing {
         Some(id) => lone.list(id),
@@ -103,7 +103,7 @@ fn governing_list<'a>(lone: &'a Lone, row: &Row) -> Option<&'a SlotList>
 
 /// The delay of a flight in its governing list, in seconds.
 fn delay(lone: &Lone, key: &Key, row: &Row) -> u32
-    ensures value { result ≡ delay_of (state_after lone.now) key.now row.now }
+    ensures value { result ≡ delay_of (state_after_calls lone.now) key.now row.now }
     ensures in_range { result ≤ last_moment }
 {
     match governing_list(lone, row) {
@@ -120,7 +120,7 @@ fn holdings_of(
     row: &Row,
 ) -> Result<SharedSlice<Holding>, AllocError>
     ensures { IfOk result (λ all. all ≡
-        option_map_or (holdings key.now) (governing_list (state_after lone.now) row.now) []) }
+        option_map_or (holdings key.now) (governing_list (state_after_calls lone.now) row.now) []) }
 {
     match governing_list(lone, row) {
         Some(list) => holdings(alloc, list, key),
@@ -131,7 +131,7 @@ fn holdings_of(
 /// What each open regulation to which a flight is subject would offer it, in the order of their identifiers.
 fn offers(alloc: Global, lone: &Lone, key: Key, plan: &Plan) -> Result<Vec<Offer>, AllocError>
     ensures { IfOk result (λ all. all.items
-        ≡ offers (situation (state_after lone.now)) key plan.now) }
+        ≡ offers (situation (state_after_calls lone.now)) key plan.now) }
 {
     let mut all = Vec::new(alloc);
     for regulation in lone.catalogue() {
@@ -150,7 +150,7 @@ fn offer_of(
     plan: &Plan,
 ) -> Result<Option<Offer>, AllocError>
     ensures { IfOk result (λ made. made
-        ≡ offer (situation (state_after lone.now)) key plan.now regulation.now) }
+        ≡ offer (situation (state_after_calls lone.now)) key plan.now regulation.now) }
 {
     match lone.list(&regulation.id) {
         Some(list) => offer(regulation, list, key, plan),

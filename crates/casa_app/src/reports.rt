@@ -2,7 +2,7 @@
 
 ghost use Rattle.std.specs.Prelude.{◌≡◌, ◌≤◌, ◌⊎◌, All, IfErr, IfOk, None, OnOk, Some};
 ghost use Rattle.std.specs.Option.{option_copied};
-ghost use Rattle.casa_session.specs.Played.{state_after};
+ghost use Rattle.casa_session.specs.Played.{state_after_calls};
 ghost use Rattle.casa_app.specs.Inputs.{is_marked};
 ghost use Rattle.casa_app.specs.Listed.{list_in};
 ghost use Rattle.casa_app.specs.Printed.{PrintEnds};
@@ -70,7 +70,7 @@ pub(crate) fn ask_list(
 ) -> Result<ListReply, ProgramFault>
     ensures told { IfOk result (λ list. list_after lone.old reg ≡ Some list) }
     ensures in_time { IfOk result (λ list. All (λ row. row.eto ≤ row.cto) list.rows) }
-    ensures stays { OnOk result (state_after lone.new ≡ state_after lone.old) }
+    ensures stays { OnOk result (state_after_calls lone.new ≡ state_after_calls lone.old) }
     ensures untold { IfErr result (λ fault. (fault ≡ ProgramFault.NoMemory)
         ⊎ ((fault ≡ ProgramFault.NoRegulation) × (list_after lone.old reg ≡ None))) }
 {

@@ -18,24 +18,24 @@ use Rattle.casa_commit.specs.Legal.{entry, replay}
 use Rattle.casa_commit.specs.Rooms.{entries_of, next_entry, Extends, IsUnchanged}
 use Rattle.casa_commit.proofs.Replays.{slice_get-pushed}
 use Rattle.casa_session.specs.Alone.{IsAlone}
-use Rattle.casa_session.specs.Played.{calls_in, only_desk, sequential_history, receipts_played, state_after}
+use Rattle.casa_session.specs.Played.{calls_in, only_desk, sequential_history, receipts_played, state_after_calls}
 use Rattle.casa_session.proofs.PlayedCalls.{played-push, receipts_from-push}
 
 module _ {W V D : Type 0} {world : WorldOf W Call V D Reply} where
-  module _ (says : (es : List (Entry Call Reply)) (call : Call) → world.reply (replay world.after world.opening es) call ≡ reply (state_after (calls_in es)) call)
+  module _ (says : (es : List (Entry Call Reply)) (call : Call) → world.reply (replay world.after world.opening es) call ≡ reply (state_after_calls (calls_in es)) call)
       (room : Room W Call V D Reply world) (call : Call) (change : D) (given : Receipt Call Reply) (room' : Room W Call V D Reply world)
       (p : IsAlone room) (q : Extends room only_desk call change given room') where
     es : List (Entry Call Reply)
     es = entries_of room
 
     -- the entry that the room made is the sequential allocator's
-    next_is : next_entry room only_desk call ≡ entry only_desk call (reply (state_after (calls_in es)) call)
+    next_is : next_entry room only_desk call ≡ entry only_desk call (reply (state_after_calls (calls_in es)) call)
     unfolding es
     next_is =
         let e : Entry Call Reply = next_entry room only_desk call in
         let found : slice_get (entries_of room') (length es) ≡ Some e = ap (λ (l : List (Entry Call Reply)). slice_get l (length es)) q.history ∙ slice_get-pushed es e in
         let first : take (length es) (entries_of room') ≡ es = ap (take (length es)) q.history ∙ take-append_seam es (e ∷ []) in
-        let replied : e.reply ≡ reply (state_after (calls_in es)) call =
+        let replied : e.reply ≡ reply (state_after_calls (calls_in es)) call =
         q.legal (length es) e found ∙ ap (λ (l : List (Entry Call Reply)). world.reply (replay world.after world.opening l) call) first ∙ says es call in
         ap (entry only_desk call) replied
 
@@ -45,7 +45,7 @@ module _ {W V D : Type 0} {world : WorldOf W Call V D Reply} where
         let e : Entry Call Reply = next_entry room only_desk call in
         let calls_are : calls_in (entries_of room') ≡ calls_in es ++ call ∷ [] = ap calls_in q.history ∙ map-append (λ (x : Entry Call Reply). x.call) es (e ∷ []) in
         q.history ∙ ap (λ (x : Entry Call Reply). es ++ x ∷ []) next_is
-        ∙ ap (λ (l : List (Entry Call Reply)). l ++ entry only_desk call (reply (state_after (calls_in es)) call) ∷ []) p.history
+        ∙ ap (λ (l : List (Entry Call Reply)). l ++ entry only_desk call (reply (state_after_calls (calls_in es)) call) ∷ []) p.history
         ∙ sym (played-push empty (calls_in es) call) ∙ ap (sequential_history empty) (sym calls_are)
 
     receipts_are : receipts_from 1 (entries_of room') ≡ receipts_from 1 (entries_of room) ++ given ∷ []
@@ -72,7 +72,7 @@ module _ {W V D : Type 0} {world : WorldOf W Call V D Reply} where
     history = q.history ∙ p.history ∙ ap (λ (l : List (Entry Call Reply)). sequential_history empty (calls_in l)) (sym q.history);
   }
 
-  module _ (says : (es : List (Entry Call Reply)) (call : Call) → world.reply (replay world.after world.opening es) call ≡ reply (state_after (calls_in es)) call)
+  module _ (says : (es : List (Entry Call Reply)) (call : Call) → world.reply (replay world.after world.opening es) call ≡ reply (state_after_calls (calls_in es)) call)
       (room : Room W Call V D Reply world) (call : Call) (room' : Room W Call V D Reply world) (p : IsAlone room) where
     -- it stays alone, whether the call is answered or not
     pub alone-answered : (result : Result (Receipt Call Reply) AllocError) → IfOk result (λ given. (change : D) × Extends room only_desk call change given room')

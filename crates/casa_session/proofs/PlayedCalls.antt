@@ -15,7 +15,7 @@ use Rattle.casa_history.specs.Entries.{receipt, receipts_from}
 use Rattle.casa_commit.specs.Legal.{entry, replay_from}
 use Rattle.casa_session.specs.Receipts.{Receipts}
 use Rattle.casa_session.specs.Transcript.{AnswersLines, calls, calls_of, transcript}
-use Rattle.casa_session.specs.Played.{calls_in, only_desk, sequential_history, receipts_after, receipts_played, state_after}
+use Rattle.casa_session.specs.Played.{calls_in, only_desk, sequential_history, receipts_after, receipts_played, state_after_calls}
 use Rattle.casa_session.specs.Alone.{transcript_after}
 
 -- one call more is one entry more
@@ -76,7 +76,7 @@ given-after before now rs last lines grows called =
     let split : receipts_played before ++ receipts_after before (calls_of more) ≡ receipts_played before ++ more =
     sym (played-append empty 1 before (calls_of more)) ∙ ap receipts_played (sym now_is) ∙ whole in
     let after : receipts_after before (calls_of more) ≡ more = append_cancel_left (receipts_played before) (receipts_after before (calls_of more)) more split in
-    played-front (state_after before) (length before + 1) (calls_of more) rs last after ∙ ap (receipts_after before) called
+    played-front (state_after_calls before) (length before + 1) (calls_of more) rs last after ∙ ap (receipts_after before) called
 
 -- where the desk is alone, what is written is what the sequential allocator answers, and the desk has answered the calls of the
 -- lines

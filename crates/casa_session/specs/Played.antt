@@ -25,8 +25,8 @@ abbrev pub calls_in : List (Entry Call Reply) → List Call
 calls_in history = map (λ (e : Entry Call Reply). e.call) history
 
 -- the state after these calls from the empty one
-abbrev pub state_after : List Call → State
-state_after calls = fold next empty calls
+abbrev pub state_after_calls : List Call → State
+state_after_calls calls = fold next empty calls
 
 -- the receipts of these calls from the empty state
 abbrev pub receipts_played : List Call → Receipts
@@ -34,4 +34,4 @@ receipts_played calls = receipts_from 1 (sequential_history empty calls)
 
 -- the receipts of these calls after the calls before them
 abbrev pub receipts_after : List Call → List Call → Receipts
-receipts_after before calls = receipts_from (length before + 1) (sequential_history (state_after before) calls)
+receipts_after before calls = receipts_from (length before + 1) (sequential_history (state_after_calls before) calls)

@@ -5,7 +5,7 @@ ghost use Rattle.std.specs.Option.{option_copied};
 ghost use Rattle.casa_flight.specs.Listing.{list_of};
 ghost use Rattle.casa_flight.specs.State.{catalogue, row_of};
 ghost use Rattle.casa_session.specs.Alone.{lone_sides};
-ghost use Rattle.casa_session.specs.Played.{receipts_played, state_after};
+ghost use Rattle.casa_session.specs.Played.{receipts_played, state_after_calls};
 ghost use Rattle.casa_session.specs.Transcript.{Ends};
 
 use crate::fault::SessionFault;
@@ -103,28 +103,28 @@ impl Lone {
 
     /// The clock after the calls.
     pub fn clock(&self) -> Moment
-        ensures { result ≡ (state_after self.now).clock }
+        ensures { result ≡ (state_after_calls self.now).clock }
     {
         self.room.world().clock()
     }
 
     /// The regulations that are open after the calls, in the order of their identifiers.
     pub fn catalogue(&self) -> &[Regulation]
-        ensures { result.now ≡ catalogue (state_after self.now) }
+        ensures { result.now ≡ catalogue (state_after_calls self.now) }
     {
         self.room.world().catalogue()
     }
 
     /// The flight with this key as it stands after the calls; none where there is no such flight.
     pub fn row(&self, key: &Key) -> Option<&Row>
-        ensures { option_copied result ≡ row_of (state_after self.now) key.now }
+        ensures { option_copied result ≡ row_of (state_after_calls self.now) key.now }
     {
         self.room.world().row(key)
     }
 
     /// The list of the regulation with this identifier after the calls; none where it is not open.
     pub fn list(&self, id: &RegId) -> Option<&SlotList>
-        ensures { option_copied result ≡ list_of (state_after self.now) id.now }
+        ensures { option_copied result ≡ list_of (state_after_calls self.now) id.now }
     {
         self.room.world().list(id)
     }

@@ -5,7 +5,7 @@ use Rattle.casa_filing.specs.declared.regulation.Regulation.{Regulation}
 use Rattle.casa_flight.specs.declared.reply.ListReply.{ListReply}
 use Rattle.casa_flight.specs.State.{catalogue}
 use Rattle.casa_engine.proofs.Listed.{take_next}
-use Rattle.casa_session.specs.Played.{state_after}
+use Rattle.casa_session.specs.Played.{state_after_calls}
 use Rattle.casa_app.specs.Summaries.{lists_after}
 use Rattle.casa_app.proofs.AllListed.{is_listed, next_told, only_no_memory}
 use Rattle.casa_app.proofs.costs.ask_all_lists.Goals as goal
@@ -19,7 +19,7 @@ loop-regulation-preserved c =
     let items = c.as_slice-regulation-items in
     let there = slice_get_read items.result.now (length items.result.now) i r refl c.loop-regulation-test.true c.regulation-item.is in
     let same = items.ensures.value ∙ c.in_ok-regulations.ensures.items ∙ c.catalogue.ensures in
-    let found : slice_get (catalogue (state_after before)) i ≡ Some r = ap (λ (rs : List Regulation). slice_get rs i) (sym same) ∙ there in
+    let found : slice_get (catalogue (state_after_calls before)) i ≡ Some r = ap (λ (rs : List Regulation). slice_get rs i) (sym same) ∙ there in
     let next = next_told before c.loop-regulation.lone c.loop-regulation.invariant.stays i r found c.in_ok-list.list c.in_ok-list.ensures.told in
     record {
       told =
@@ -36,6 +36,6 @@ returns-in_err-list-clause-no_memory c =
     let items = c.as_slice-regulation-items in
     let there = slice_get_read items.result.now (length items.result.now) i r refl c.loop-regulation-test.true c.regulation-item.is in
     let same = items.ensures.value ∙ c.in_ok-regulations.ensures.items ∙ c.catalogue.ensures in
-    let found : slice_get (catalogue (state_after before)) i ≡ Some r = ap (λ (rs : List Regulation). slice_get rs i) (sym same) ∙ there in
+    let found : slice_get (catalogue (state_after_calls before)) i ≡ Some r = ap (λ (rs : List Regulation). slice_get rs i) (sym same) ∙ there in
     only_no_memory c.from_residual-in_err-list.result c.in_err-list.field-0.0 c.from_residual-in_err-list.ensures.1 c.in_err-list.ensures.untold
     (is_listed before c.loop-regulation.lone c.loop-regulation.invariant.stays i r found)

@@ -10,12 +10,12 @@ use Rattle.casa_history.specs.declared.entry.Receipt.{Receipt}
 use Rattle.casa_commit.specs.Legal.{replay}
 use Rattle.casa_commit.specs.Rooms.{entries_of}
 use Rattle.casa_view.specs.BoardState.{after, opening}
-use Rattle.casa_session.specs.Played.{calls_in, receipts_played, state_after}
+use Rattle.casa_session.specs.Played.{calls_in, receipts_played, state_after_calls}
 use Rattle.casa_session.proofs.Alone.{alone-answered, receipt-answered}
 use Rattle.casa_session.proofs.Shown.{state-replayed}
 use Rattle.casa_session.proofs.lone.Lone.receipt.Goals as goal
 
-says : (es : List (Entry Call Reply)) (call : Call) → reply ((replay after opening es).state) call ≡ reply (state_after (calls_in es)) call
+says : (es : List (Entry Call Reply)) (call : Call) → reply ((replay after opening es).state) call ≡ reply (state_after_calls (calls_in es)) call
 says es call = ap (λ (m : State). reply m call) (state-replayed es)
 
 pub invariant_of-self : goal.invariant_of-self
