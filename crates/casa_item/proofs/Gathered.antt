@@ -86,10 +86,6 @@ pub all_noted : {X Y : Type 0} (f : X → Option Y) (es : List (Text × X)) (res
     → rest ≡ [] → gathered f es now rest ≡ gathered f es before ks → HasGathered f es ks before now
 all_noted f es rest ks before now none same = has_gathered f es ks before now (ap (gathered f es now) (sym none) ∙ same)
 
-pub none_gathered : {X Y : Type 0} (f : X → Option Y) (es : List (Text × X)) (now : List (Text × Y))
-    → HasGathered f es [] now now
-none_gathered f es now = has_gathered f es [] now now refl
-
 -- what is gathered under names, and then under others
 pub gathered_both : {X Y : Type 0} (f : X → Option Y) (es : List (Text × X)) (ks ls : List Text)
     (a b c : List (Text × Y))

@@ -11,7 +11,7 @@ use Rattle.std.specs.Map.{keys_of}
 use Rattle.std.proofs.lemmas.Cmp.{nat_list_cmp_total}
 use Rattle.casa_filing.specs.Text.{Text, same_text, at_name, put, without}
 use Rattle.casa_flight.specs.Good.{AreInOrder}
-use Rattle.casa_filing.proofs.Entries.{text_cmp, same_name, itself, named, at-put, at-without_other, sorted-put}
+use Rattle.casa_filing.proofs.Entries.{text_cmp, same_name, named, at-put, at-without_other, sorted-put}
 use Rattle.casa_filing.proofs.Entries.{sorted-remove}
 use Rattle.casa_laws.proofs.Kept.{at_above, at-without_same, same_entries}
 use Rattle.casa_named.proofs.Found.{same_test}
@@ -123,22 +123,6 @@ where-put {X} P k w es fs order is h =
         ap (λ b. cond b w (at_name es q)) (sym (same_test k q)) ∙ sym (at-with_value q k w es order)
         ∙ ap (λ (gs : List (Text × X)). at_name gs q) (sym is)
 
--- entries in order that have this value under the name, and under every other what stood there
-pub written-put : {X : Type 0} (k : Text) (v : X) (es ns : List (Text × X)) → AreInOrder es → AreInOrder ns
-    → ((q : Text) → at_name ns q ≡ cond (is_eq (text_cmp k q)) (Some v) (at_name es q)) → ns ≡ put es k v
-written-put {X} k v es ns order sorted found =
-    same_entries ns (put es k v) sorted (sorted-put k v es order) (λ q.
-    found q ∙ ap (λ b. cond b (Some v) (at_name es q)) (either q (is_eq (text_cmp k q)) (is_eq (text_cmp q k)) refl refl)
-    ∙ sym (at-put q k v es))
-  where
-    either : (q : Text) (a b : Bool) → is_eq (text_cmp k q) ≡ a → is_eq (text_cmp q k) ≡ b → a ≡ b
-    either q true true s t = refl
-    either q false false s t = refl
-    either q true false s t =
-        let no : true ≡ false = sym (ap (λ (x : Text). is_eq (text_cmp x k)) (sym (same_name k q s)) ∙ itself k) ∙ t in cc
-    either q false true s t =
-        let no : true ≡ false = sym (ap (λ (x : Text). is_eq (text_cmp k x)) (same_name q k t) ∙ itself k) ∙ s in cc
-
 -- a copy that has the first entries, once the next one is put in
 pub put-next : {X : Type 0} (copy es rest all : List (Text × X)) (k : Text) (v w : X) → AreInOrder all → w ≡ v
     → es ≡ (k, v) ∷ rest
@@ -170,19 +154,6 @@ kept-next {Y} q k w a rest =
 
 pub kept-none : {A : Type 0} (a b : Option A) → option_or a None ≡ b → a ≡ b
 kept-none a b h = sym (option_or_none a) ∙ h
-
-pub kept-there : {Y : Type 0} (es : List (Text × Y)) (k q : Text) (w : Y) → is_some (at_name es k) ≡ true
-    → at_name es q ≡ option_or (at_name es q) (if same_text k q then Some w else None)
-kept-there {Y} es k q w h = by (same_text k q) refl
-  where
-    found : (o : Option Y) → is_some o ≡ true → o ≡ option_or o (Some w)
-    found None t = cc
-    found (Some x) t = refl
-
-    by : (b : Bool) → same_text k q ≡ b → at_name es q ≡ option_or (at_name es q) (if b then Some w else None)
-    by true t =
-        subst (λ (p : Text). at_name es p ≡ option_or (at_name es p) (Some w)) (named k q t) (found (at_name es k) h)
-    by false t = sym (option_or_none (at_name es q))
 
 pub kept-put : {Y : Type 0} (es : List (Text × Y)) (k q : Text) (w : Y) → is_some (at_name es k) ≡ false
     → at_name (put es k w) q ≡ option_or (at_name es q) (if same_text k q then Some w else None)
