@@ -1,5 +1,5 @@
 -- slots by the numbers of the periods' first slots
-use Rattle.std.proofs.Common.{◌≡◌, ℕ, ◌+◌, ◌-◌, ◌*◌, ◌/◌, ◌<◌, ◌≤◌, List, [], ◌∷◌, ◌++◌, length, get_or, All, Bool, true, false, not, nat_le, nat_lt, Option, None, Some, cond, refl, sym, ap, subst, ◌∙◌, arith, map, zero, suc, min, inl, inr}
+use Rattle.std.proofs.Common.{◌≡◌, ℕ, ◌+◌, ◌-◌, ◌*◌, ◌/◌, ◌<◌, ◌≤◌, List, [], ◌∷◌, ◌++◌, length, get_or, All, Bool, true, false, not, nat_le, nat_lt, None, Some, cond, refl, sym, ap, subst, ◌∙◌, arith, map, zero, suc, min, inl, inr}
 use Rattle.std.specs.List.{range_with_len, slice_get, slice_index_or, position_or_len, prefix_len}
 use Rattle.std.specs.List.Sorted.{IsNonDecreasingBy, IsPartitionPoint}
 use Rattle.std.specs.Option.{option_map_or}
