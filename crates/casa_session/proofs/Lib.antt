@@ -3,9 +3,10 @@ pub mod Parts
 pub mod Splitting
 pub mod Transcripts
 pub mod Gathered
+pub mod Moments
 pub mod Progress
-pub mod Sides
 pub mod Runs
+pub mod Endings
 pub mod PlayedCalls
 pub mod Shown
 pub mod Alone
