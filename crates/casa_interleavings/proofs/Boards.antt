@@ -1,5 +1,5 @@
 -- a run of a board, in the words of the sequential allocator
-use Rattle.std.proofs.Common.{◌≡◌, ℕ, List, Option, subst}
+use Rattle.std.proofs.Common.{◌≡◌, List, subst}
 use Rattle.casa_flight.specs.declared.call.Call.{Call}
 use Rattle.casa_flight.specs.declared.reply.Reply.{Reply}
 use Rattle.casa_flight.specs.Replies.{reply}
@@ -10,10 +10,10 @@ use Rattle.casa_view.specs.BoardState.{BoardState, IsGoodBoard, opening, after}
 use Rattle.casa_view.specs.GoodBoard.{opening_is_good, after_is_good}
 use Rattle.casa_plan.specs.Rooms.{IsBoardAfter}
 use Rattle.casa_plan.proofs.Replayed.{state_replayed, stands}
-use Rattle.casa_interleavings.specs.declared.event.Event.{Event}
-use Rattle.casa_interleavings.specs.declared.event.Outcome.{Outcome}
 use Rattle.casa_interleavings.specs.Scenes.{IsRun}
 use Rattle.casa_interleavings.specs.Board.{sequential_reply, HasSameStamps}
+use Rattle.casa_interleavings.specs.Runs.{Played, run_events, run_history, run_outcomes}
+use Rattle.casa_interleavings.specs.Openings.{IsBoardRun}
 
 abbrev Replying : Type 0
 Replying = List (Entry Call Reply) → Call → Reply
@@ -23,12 +23,15 @@ same_reply : (λ before call. reply (replay after opening before).state call) �
 same_reply i before call = reply (state_replayed before i) call
 
 -- a run, with the reply of the sequential allocator
-pub ran : (events : List (Event Call)) (history : List (Entry Call Reply)) (outcomes : ℕ → Option Outcome)
-    → IsRun (λ before call. reply (replay after opening before).state call) HasSameStamps events history outcomes
-    → IsRun sequential_reply HasSameStamps events history outcomes
-ran events history outcomes is = subst (λ (r : Replying). IsRun r HasSameStamps events history outcomes) same_reply is
+pub ran : {B : Type 0} → (run : Played B Call Reply)
+    → IsRun (λ before call. reply (replay after opening before).state call) HasSameStamps
+    (run_events run) (run_history run) (run_outcomes run)
+    → IsBoardRun run
+ran run is =
+    subst (λ (r : Replying). IsRun r HasSameStamps (run_events run) (run_history run) (run_outcomes run)) same_reply is
 
 -- how the board stands that is the replay of a history
-pub stands_after : (history : List (Entry Call Reply)) (s : BoardState) → s ≡ replay after opening history → IsBoardAfter history s
-stands_after history s is =
+pub stands_after : (history : List (Entry Call Reply)) {s : BoardState} → s ≡ replay after opening history
+    → IsBoardAfter history s
+stands_after history {s} is =
     stands history s is (good_state IsGoodBoard after after_is_good opening opening_is_good history s is)

@@ -1,5 +1,5 @@
 -- how a day goes on, and how it ends
-use Rattle.std.proofs.Common.{◌≡◌, ℕ, ◌<◌, ◌≤◌, arith, Result, Ok, Err, List, [], ◌∷◌, ◌++◌, length, take, refl, sym, subst}
+use Rattle.std.proofs.Common.{◌≡◌, ℕ, ◌<◌, ◌≤◌, arith, Ok, Err, List, length, take, refl}
 use Rattle.std.specs.Prelude.{IsErrOf}
 use Rattle.casa_flight.specs.declared.call.Call.{Call}
 use Rattle.casa_flight.specs.declared.reply.Reply.{Reply}
@@ -12,68 +12,71 @@ use Rattle.casa_tape.specs.Journals.{LeavesOnly}
 use Rattle.casa_day.specs.Journals.{Grows, IsSafe, Keeps}
 use Rattle.casa_day.proofs.Keeping.{kept_on}
 use Rattle.casa_day.proofs.Lists.{grows_not}
-use Rattle.casa_interleavings.specs.Runs.{Played, run_events, run_history, run_outcomes}
+use Rattle.casa_interleavings.specs.Runs.{Played, run_history, run_outcomes}
 use Rattle.casa_interleavings.specs.declared.day_event.DayEvent.{DayEvent}
-use Rattle.casa_interleavings.specs.Courses.{Stage, GoesOn, GoOn}
+use Rattle.casa_interleavings.specs.Courses.{GoOn}
 use Rattle.casa_interleavings.specs.Openings.{IsGoing}
 use Rattle.casa_interleavings.specs.Lives.{HasGoneOn}
-use Rattle.casa_interleavings.proofs.Coursing.{goes_push}
+use Rattle.casa_interleavings.proofs.Coursing.{stage_of}
+use Rattle.casa_interleavings.proofs.Refusing.{failed}
 
--- an end that is a fault
-abbrev pub failed : {B : Type 0} → DayFault → Result (Played B Call Reply) DayFault
-failed fault = Err fault
+-- the first so many of the events happened, and led from one run and its journal to another
+pub record HasCome {S D B : Type 0} (script : ScriptOf S Call Reply) (T : TapeOf D) (begun : Played B Call Reply)
+    (opened : Journal D) (events : List (DayEvent Call)) (happened : ℕ) (run : Played B Call Reply) (journal : Journal D)
+    : Type 0 where
+  pub going : IsGoing script T run journal
+  pub grown : Grows (run_history begun) (run_history run)
+  pub journaled : opened.journaled ≤ journal.journaled
+  pub any_moment : LeavesOnly T opened.tape journal.tape (Keeps script (run_history run) opened.journaled)
+  pub goes_on : GoOn script T (take happened events) (stage_of begun opened) (stage_of run journal)
 
-module _ {S D : Type 0} (script : ScriptOf S Call Reply) (T : TapeOf D) where
-  -- one event more, of a list of which some have happened
-  pub course_more : (es : List (DayEvent Call)) (e : DayEvent Call) (more : List (DayEvent Call)) → more ≡ es ++ e ∷ [] → (a b c : Stage D)
-      → GoOn script T es a b → GoesOn script T e b c → GoOn script T more a c
-  course_more es e more is a b c on goes = subst (λ (xs : List (DayEvent Call)). GoOn script T xs a c) (sym is) (goes_push script T es e a b c on goes)
+module _ {S D B : Type 0} {script : ScriptOf S Call Reply} {T : TapeOf D} {begun run : Played B Call Reply}
+    {opened journal : Journal D} {events : List (DayEvent Call)} {happened : ℕ}
+    (now : HasCome script T begun opened events happened run journal) where
+  -- all events happened
+  pub ended : happened ≡ length events
+      → HasGoneOn script T (run_history begun) (stage_of begun opened) events (Ok run) journal
+  ended all = record {
+    happened = happened;
+    within = omega (arith, all);
+    all = all;
+    failed = tt;
+    last = stage_of run journal;
+    goes_on = now.goes_on;
+    history = run_history run;
+    outcomes = run_outcomes run;
+    is_run = now.going.is_run;
+    begins = now.grown;
+    same = (refl, refl, λ w. refl, refl);
+    told = refl;
+    journaled = refl;
+    any_moment = now.any_moment;
+    safe = now.going.journaled.safe;
+    cause = λ failed. absurd (cc failed);
+  }
 
-  module _ {B : Type 0} (begun run : Played B Call Reply) (opened journal : Journal D) (events : List (DayEvent Call)) (i : ℕ)
-      (going : IsGoing script T run journal) (grown : Grows (run_history begun) (run_history run))
-      (on : GoOn script T (take i events) (record { deeds = run_events begun; journal = opened }) (record { deeds = run_events run; journal = journal }))
-      (more : opened.journaled ≤ journal.journaled) (moments : LeavesOnly T opened.tape journal.tape (Keeps script (run_history run) opened.journaled)) where
-    -- all events happened
-    pub ended : i ≡ length events → HasGoneOn script T (run_history begun) (record { deeds = run_events begun; journal = opened }) events (Ok run) journal
-    ended all = record {
-      happened = i;
-      within = omega (arith, all);
-      all = all;
-      failed = tt;
-      last = record { deeds = run_events run; journal = journal };
-      goes_on = on;
-      history = run_history run;
-      outcomes = run_outcomes run;
-      is_run = going.is_run;
-      begins = grown;
-      same = (refl, refl, λ w. refl, refl);
-      told = refl;
-      journaled = refl;
-      any_moment = moments;
-      safe = going.journaled.safe;
-      cause = λ failed. absurd (cc failed);
-    }
-
-    -- the next one could not
-    pub cut_short : i < length events → (fault : DayFault) (left : Journal D) → LeavesOnly T journal.tape left.tape (Keeps script (run_history run) journal.journaled)
-        → left.journaled ≡ journal.journaled → left.told.items ≡ journal.told.items → IsSafe script T (run_history run) left
-        → (IsErrOf (failed {B = B} fault) NotWritten → T.has_failed left.tape)
-        → HasGoneOn {B = B} script T (run_history begun) (record { deeds = run_events begun; journal = opened }) events (Err fault) left
-    cut_short before fault left then same told safe cause = record {
-      happened = i;
-      within = omega (arith, before);
-      all = tt;
-      failed = before;
-      last = record { deeds = run_events run; journal = journal };
-      goes_on = on;
-      history = run_history run;
-      outcomes = run_outcomes run;
-      is_run = going.is_run;
-      begins = grown;
-      same = tt;
-      told = told;
-      journaled = same;
-      any_moment = kept_on script T (run_history run) (run_history run) opened.journaled journal.journaled opened.tape journal.tape left.tape (grows_not (run_history run)) more moments then;
-      safe = safe;
-      cause = cause;
-    }
+  -- the next one could not
+  pub cut_short : happened < length events → (fault : DayFault) (left : Journal D)
+      → LeavesOnly T journal.tape left.tape (Keeps script (run_history run) journal.journaled)
+      → left.journaled ≡ journal.journaled → left.told.items ≡ journal.told.items → IsSafe script T (run_history run) left
+      → (IsErrOf (failed {A = Played B Call Reply} fault) NotWritten → T.has_failed left.tape)
+      → HasGoneOn {B = B} script T (run_history begun) (stage_of begun opened) events (Err fault) left
+  cut_short before fault left then same told safe cause = record {
+    happened = happened;
+    within = omega (arith, before);
+    all = tt;
+    failed = before;
+    last = stage_of run journal;
+    goes_on = now.goes_on;
+    history = run_history run;
+    outcomes = run_outcomes run;
+    is_run = now.going.is_run;
+    begins = now.grown;
+    same = tt;
+    told = told;
+    journaled = same;
+    any_moment = kept_on script T (run_history run) (run_history run) opened.journaled journal.journaled
+        opened.tape journal.tape left.tape (grows_not (run_history run)) now.journaled now.any_moment then;
+    safe = safe;
+    cause = cause;
+  }

@@ -1,37 +1,38 @@
+-- the run that a room with its desks has had
 use Rattle.std.proofs.Common.{◌≡◌, ℕ, Some, None, Option, List, map, sym, ap, ◌∙◌, refl}
 use Rattle.std.specs.Prelude.{slice_get, option_map}
 use Rattle.std.proofs.lemmas.Option.{slice_get-map}
-use Rattle.casa_history.specs.declared.entry.Entry.{Entry}
-use Rattle.casa_history.specs.declared.pass.Pass.{Pass}
+use Rattle.casa_commit.specs.declared.world.World.{Ghosts as WorldOf}
+use Rattle.casa_commit.specs.declared.room.Room.{Room}
+use Rattle.casa_commit.specs.Rooms.{entries_of}
 use Rattle.casa_interleavings.specs.declared.event.Outcome.{Outcome}
 use Rattle.casa_interleavings.specs.declared.event.Event.{Event}
-use Rattle.casa_interleavings.specs.declared.desk.Desk.{Desk}
-use Rattle.casa_interleavings.specs.Scenes.{Worker, Scene, Leads, IsRun, opening_scene}
-use Rattle.casa_interleavings.specs.Desks.{IsScene}
+use Rattle.casa_interleavings.specs.declared.stamped.Stamped.{Ghosts as StampedOf}
+use Rattle.casa_interleavings.specs.Scenes.{Worker, Scene, IsRun}
+use Rattle.casa_interleavings.specs.Rooms.{reply_after, IsRoomScene, HasHad}
 use Rattle.casa_interleavings.specs.Runs.{outcome_found}
-use Rattle.casa_interleavings.proofs.Seats.{none_past}
+use Rattle.casa_interleavings.proofs.Lists.{none_past}
+use Rattle.casa_interleavings.proofs.Seats.{DeskOf}
 
--- the outcomes of the last commits at these desks
-abbrev pub outcomes_at : {C R V P : Type 0} → List (Desk C R V P) → List (Option Outcome)
-outcomes_at {C} {R} {V} {P} ds = map (λ (d : Desk C R V P). d.outcome) ds
+module _ {W C V D R : Type 0} (world : WorldOf W C V D R) (stamped : StampedOf W C V D R)
+    (room : Room W C V D R world) where
+  -- the outcome of the last commit at a desk
+  abbrev outcome_at : List (DeskOf world) → ℕ → Option Outcome
+  outcome_at ds w = outcome_found (slice_get (map (λ (d : DeskOf world). d.outcome) ds) w)
 
--- desks that stand for a scene were told what its workers were
-pub scene_outcome : {C R V P : Type 0} → (Known : Pass C R → Type 0)
-    (IsView : C → List (Entry C R) → V → Type 0) (IsAnswer : C → List (Entry C R) → P → Type 0)
-    (es : List (Entry C R)) (ds : List (Desk C R V P)) (m : Scene C R) → IsScene Known IsView IsAnswer es ds m
-    → (w : ℕ) → outcome_found (slice_get (outcomes_at ds) w) ≡ (m.workers w).outcome
-scene_outcome {C} {R} {V} {P} Known IsView IsAnswer es ds m scene w =
-    ap (λ (o : Option (Option Outcome)). outcome_found o) (slice_get-map (λ (d : Desk C R V P). d.outcome) ds w) ∙ told (slice_get ds w) refl
-  where
-    told : (o : Option (Desk C R V P)) → slice_get ds w ≡ o → outcome_found (option_map (λ (d : Desk C R V P). d.outcome) o) ≡ (m.workers w).outcome
-    told None is = sym (ap (λ (x : Worker C R). x.outcome) (scene.2 w (none_past ds w is)))
-    told (Some d) is = (scene.1 w d is).2.1
+  -- desks that stand for a scene were told what its workers were
+  scene_outcome : (ds : List (DeskOf world)) (m : Scene C R) → IsRoomScene world stamped room ds m
+      → (w : ℕ) → outcome_at ds w ≡ (m.workers w).outcome
+  scene_outcome ds m scene w =
+      ap (λ (o : Option (Option Outcome)). outcome_found o) (slice_get-map (λ (d : DeskOf world). d.outcome) ds w)
+      ∙ told (slice_get ds w) refl
+    where
+      told : (o : Option (DeskOf world)) → slice_get ds w ≡ o
+          → outcome_found (option_map (λ (d : DeskOf world). d.outcome) o) ≡ (m.workers w).outcome
+      told None is = sym (ap (λ (x : Worker C R). x.outcome) (scene.2 w (none_past ds w is)))
+      told (Some d) is = (scene.1 w d is).2.1
 
--- desks to whose scene these events led are those of a run of them
-pub had_run : {C R V P : Type 0} → (reply : List (Entry C R) → C → R) (IsUnmoved : List (Entry C R) → C → List (Entry C R) → Type 0)
-    (Known : Pass C R → Type 0) (IsView : C → List (Entry C R) → V → Type 0) (IsAnswer : C → List (Entry C R) → P → Type 0)
-    (events : List (Event C)) (es : List (Entry C R)) (ds : List (Desk C R V P)) (m : Scene C R)
-    → Leads reply IsUnmoved events opening_scene m → IsScene Known IsView IsAnswer es ds m
-    → IsRun reply IsUnmoved events es (λ w. outcome_found (slice_get (outcomes_at ds) w))
-had_run reply IsUnmoved Known IsView IsAnswer events es ds m leads scene =
-    (m, leads, sym scene.0, scene_outcome Known IsView IsAnswer es ds m scene)
+  -- events that led to the scene for which the room stands are those of a run, with the history of the room
+  pub had_run : (events : List (Event C)) (ds : List (DeskOf world)) → HasHad world stamped events room ds
+      → IsRun (reply_after world) stamped.is_unmoved events (entries_of room) (outcome_at ds)
+  had_run events ds (all, (m, leads, scene)) = (m, leads, sym scene.0, scene_outcome ds m scene)

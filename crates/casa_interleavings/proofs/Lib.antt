@@ -1,3 +1,4 @@
+pub mod Lists
 pub mod Hands
 pub mod Passes
 pub mod Workers

@@ -24,9 +24,9 @@ abbrev Entries : Type 0
 Entries = List (Entry Call Reply)
 
 -- what a worker hands in was read after a history with which the present one begins
-commit_begins : (events : List (Event Call)) (w : ℕ) (call : Call) (before : Entries) (m : Scene Call Reply)
+commit_begins : {events : List (Event Call)} {w : ℕ} {call : Call} {before : Entries} {m : Scene Call Reply}
     → CommitsIn sequential_reply HasSameStamps events w call before m → Begins before m.history
-commit_begins events w call before m commit =
+commit_begins {events} {w} {m = m} commit =
     subst (λ (h : Hand Call Reply). HandBegins m.history h) commit.holds
     (leads_begin sequential_reply HasSameStamps (take commit.index events) opening_scene m (λ v. tt) commit.leads w)
 
@@ -43,14 +43,14 @@ pub are_sequential : (events : List (Event Call)) (n : Scene Call Reply)
     → Leads sequential_reply HasSameStamps events opening_scene n → IsSequential n.history
 are_sequential events n leads k e at =
     let (before, m, commit, same, unmoved, replied) = are_committed sequential_reply HasSameStamps events n leads k e at in
-    let begins = commit_begins events e.desk e.call before m commit in
+    let begins = commit_begins commit in
     let now = subst (λ (h : Entries). HasSameStamps before e.call h) begins.1 unmoved in
     replied ∙ reply_stays before begins.0 e.call now
     ∙ ap (λ (h : Entries). reply (state_after h) e.call) (sym begins.1 ∙ same)
 
 pub refusals_caused : (events : List (Event Call)) → RefusalsHaveCauses events
 refusals_caused events w call before m refused =
-    let begins = commit_begins events w call before m refused.commit in
-    let moved = refusal_moved sequential_reply HasSameStamps events w call before m refused in
+    let begins = commit_begins refused.commit in
+    let moved = refusal_moved sequential_reply HasSameStamps refused in
     let now = subst (λ (h : Entries). ¬ (HasSameStamps before call h)) begins.1 moved in
     (begins.0, begins.1, moved, λ none. now (λ i read_it. unwritten_stamp before begins.0 i (none i read_it)))

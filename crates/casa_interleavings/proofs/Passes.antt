@@ -16,10 +16,10 @@ abbrev IsTally : {C R : Type 0} → Pass C R → ℕ → List (Entry C R) → Ty
 IsTally p d es = (length (receipts p) ≡ (tally d es).calls) × (last_position (receipts p) ≡ (tally d es).last)
 
 -- with its receipt of a new entry, a pass has the tally of its desk
-tally_own : {C R : Type 0} → (es : List (Entry C R)) (e : Entry C R) (p q : Pass C R) (r : Receipt C R) (d : ℕ)
+tally_own : {C R : Type 0} → (es : List (Entry C R)) (e : Entry C R) (p q : Pass C R) {r : Receipt C R} {d : ℕ}
     → IsTally p d es → e.desk ≡ d → r ≡ receipt (length es + 1) e → receipts q ≡ receipts p ++ r ∷ []
     → IsTally q d (es ++ e ∷ [])
-tally_own {C} {R} es e p q r d was same is more =
+tally_own {C} {R} es e p q {r} {d} was same is more =
     let t : tally d (es ++ e ∷ []) ≡ (record { calls = length (receipts_of d es) + 1; last = length es + 1 }) =
     tally_of_same d es e same in
     let longer : length (receipts q) ≡ length (receipts p) + 1 =
@@ -41,14 +41,14 @@ fresh_admitted {W} {C} {V} {D} {R} room p number desk none empty = record {
       ∙ sym (ap (λ (es : List (Entry C R)). last_position (receipts_of (desk_of p) es)) none);
 }
 
-module _ {W C V D R : Type 0} {world : WorldOf W C V D R} (room room' : Room W C V D R world) (pass pass' : Pass C R) where
-  module _ (call : C) (change : D) (given : Receipt C R) (a : Accepts room pass call change given room' pass') where
+module _ {W C V D R : Type 0} {world : WorldOf W C V D R} {room room' : Room W C V D R world} {pass pass' : Pass C R} where
+  module _ {call : C} {change : D} {given : Receipt C R} (a : Accepts room pass call change given room' pass') where
     -- the room admits the pass whose call it accepted
     pub admits_own : Admits room' pass'
     admits_own =
         let e : Entry C R = next_entry room (desk_of pass) call in
         let t : IsTally pass' (desk_of pass) (entries_of room ++ e ∷ []) =
-        tally_own (entries_of room) e pass pass' given (desk_of pass) (a.admitted.calls, a.admitted.last) refl
+        tally_own (entries_of room) e pass pass' (a.admitted.calls, a.admitted.last) refl
         a.extended.receipt_is a.pass_with.2 in
         let now : IsTally pass' (desk_of pass') (entries_of room') =
         subst (λ (es : List (Entry C R)). IsTally pass' (desk_of pass') es) (sym a.extended.history)
@@ -85,17 +85,4 @@ module _ {W C V D R : Type 0} {world : WorldOf W C V D R} (room room' : Room W C
           desk = omega (arith, known.desk, u.same_room.desks);
           calls = known.calls ∙ sym (ap (λ (x : Tally). x.calls) t);
           last = known.last ∙ sym (ap (λ (x : Tally). x.last) t);
-        }
-
-    -- also the one that was handed in
-    pub admits_same : Admits room pass → Admits room' pass'
-    admits_same known =
-        let still : Admits room' pass = admits_still pass known in
-        record {
-          number = u.same_pass.0 ∙ still.number;
-          desk = omega (arith, u.same_pass.1, still.desk);
-          calls = ap (λ (rs : List (Receipt C R)). length rs) u.same_pass.2 ∙ still.calls
-              ∙ ap (λ (d : ℕ). length (receipts_of d (entries_of room'))) (sym u.same_pass.1);
-          last = ap (λ (rs : List (Receipt C R)). last_position rs) u.same_pass.2 ∙ still.last
-              ∙ ap (λ (d : ℕ). last_position (receipts_of d (entries_of room'))) (sym u.same_pass.1);
         }

@@ -1,58 +1,52 @@
-use Rattle.std.proofs.Common.{ℕ, ◌+◌, nat_lt, true, false, Bool, if◌then◌else◌, List, [], ◌∷◌, ◌++◌, length, append_assoc, sym, ap, subst, ◌∙◌, inl, inr}
-use Rattle.std.proofs.lemmas.Bool.{cases_eq}
+-- what workers hold was taken after a history with which the present one begins
+use Rattle.std.proofs.Common.{ℕ, ◌+◌, nat_lt, true, false, Bool, if◌then◌else◌, List, [], ◌∷◌, ◌++◌, length, sym, subst, refl, inl, inr}
 use Rattle.casa_history.specs.declared.entry.Entry.{Entry}
 use Rattle.casa_commit.specs.Legal.{entry}
-use Rattle.casa_day.proofs.Lists.{grows_not}
+use Rattle.casa_day.specs.Journals.{Grows}
+use Rattle.casa_day.proofs.Lists.{grows_not, grows_on}
 use Rattle.casa_interleavings.specs.declared.event.Event.{Event}
 use Rattle.casa_interleavings.specs.declared.event.Event.TheVariants.{Read, Compute, Commit, Abandon}
 use Rattle.casa_interleavings.specs.declared.event.Outcome.TheVariants.{Accepted, Refused}
 use Rattle.casa_interleavings.specs.Scenes.{Hand, nothing, view, answer, Worker, Scene, most_workers, with_worker, with_hand, read, compute, worker_after, Commits, Happens, Leads}
-use Rattle.casa_interleavings.specs.Desks.{Begins}
 use Rattle.casa_interleavings.specs.Past.{HandBegins, AllBegin}
-use Rattle.casa_interleavings.proofs.Workers.{worker_same, worker_other}
+use Rattle.casa_interleavings.proofs.Workers.{each_worker}
 
-begins_push : {C R : Type 0} → (before es : List (Entry C R)) (e : Entry C R) → Begins before es → Begins before (es ++ e ∷ [])
-begins_push {C} {R} before es e begins =
-    (begins.0 ++ e ∷ [], ap (λ (xs : List (Entry C R)). xs ++ e ∷ []) begins.1 ∙ append_assoc before begins.0 (e ∷ []))
+module _ {C R : Type 0} where
+  -- what is of the past stays so when the history grows
+  hand_grows : (es fs : List (Entry C R)) (hand : Hand C R) → Grows es fs → HandBegins es hand → HandBegins fs hand
+  hand_grows es fs nothing grown begins = begins
+  hand_grows es fs (view c before) grown begins = grows_on before es fs begins grown
+  hand_grows es fs (answer c before) grown begins = grows_on before es fs begins grown
 
-hand_push : {C R : Type 0} → (es : List (Entry C R)) (e : Entry C R) (h : Hand C R) → HandBegins es h → HandBegins (es ++ e ∷ []) h
-hand_push es e nothing begins = begins
-hand_push es e (view c before) begins = begins_push before es e begins
-hand_push es e (answer c before) begins = begins_push before es e begins
+  read_begins : (c : C) (es : List (Entry C R)) (hand : Hand C R) → HandBegins es hand → HandBegins es (read c es hand)
+  read_begins c es nothing begins = grows_not es
+  read_begins c es hand begins = begins
 
-read_begins : {C R : Type 0} → (c : C) (es : List (Entry C R)) (h : Hand C R) → HandBegins es h → HandBegins es (read c es h)
-read_begins c es nothing begins = grows_not es
-read_begins c es (view d before) begins = begins
-read_begins c es (answer d before) begins = begins
+  compute_begins : (es : List (Entry C R)) (hand : Hand C R) → HandBegins es hand → HandBegins es (compute hand)
+  compute_begins es nothing begins = begins
+  compute_begins es hand begins = begins
 
-compute_begins : {C R : Type 0} → (es : List (Entry C R)) (h : Hand C R) → HandBegins es h → HandBegins es (compute h)
-compute_begins es nothing begins = begins
-compute_begins es (view d before) begins = begins
-compute_begins es (answer d before) begins = begins
-
--- with a worker whose view is of the past, all views are
-with_begins : {C R : Type 0} → (w : ℕ) (x : Worker C R) (m : Scene C R) → AllBegin m → HandBegins m.history x.hand → AllBegin (with_worker w x m)
-with_begins {C} {R} w x m all begins v =
-    elim (cases_eq v w) [
-      | inl is ↦ subst (λ (k : ℕ). HandBegins m.history ((with_worker w x m).workers k).hand) (sym is)
-          (subst (λ (y : Worker C R). HandBegins m.history y.hand) (sym (worker_same w x m)) begins)
-      | inr other ↦ subst (λ (y : Worker C R). HandBegins m.history y.hand) (sym (worker_other w v x m other)) (all v)
-    ]
+  -- with a worker whose view is of the past, all views are
+  with_begins : (w : ℕ) (x : Worker C R) (m : Scene C R) → AllBegin m → HandBegins m.history x.hand
+      → AllBegin (with_worker w x m)
+  with_begins w x m all begins v =
+      each_worker (λ (k : ℕ) (y : Worker C R). HandBegins m.history y.hand) w x m begins (λ k other. all k) v
 
 -- all views go on being of the past
-module _ {C R : Type 0} (reply : List (Entry C R) → C → R) (IsUnmoved : List (Entry C R) → C → List (Entry C R) → Type 0) where
+module _ {C R : Type 0} (reply : List (Entry C R) → C → R)
+    (IsUnmoved : List (Entry C R) → C → List (Entry C R) → Type 0) where
   commits_begin : (w : ℕ) (hand : Hand C R) (m n : Scene C R) → AllBegin m → Commits reply IsUnmoved w hand m n → AllBegin n
   commits_begin w nothing m n all is = subst AllBegin (sym is) all
   commits_begin w (view c before) m n all is = subst AllBegin (sym is) all
   commits_begin w (answer c before) m n all (inl stays) =
       let e : Entry C R = entry w c (reply before c) in
       let longer : Scene C R = record m { history = m.history ++ e ∷ [] } in
-      let grown : AllBegin longer = λ v. hand_push m.history e (m.workers v).hand (all v) in
+      let grown : AllBegin longer = λ v. hand_grows m.history longer.history (m.workers v).hand (e ∷ [], refl) (all v) in
       subst AllBegin (sym stays.1) (with_begins w (worker_after (Accepted (length m.history + 1))) longer grown tt)
   commits_begin w (answer c before) m n all (inr moved) =
       subst AllBegin (sym moved.1) (with_begins w (worker_after Refused) m all tt)
 
-  pub happens_begin : (e : Event C) (m n : Scene C R) → AllBegin m → Happens reply IsUnmoved e m n → AllBegin n
+  happens_begin : (e : Event C) (m n : Scene C R) → AllBegin m → Happens reply IsUnmoved e m n → AllBegin n
   happens_begin (Read w c) m n all is =
       let x : Worker C R = m.workers w in
       let next : Scene C R = with_worker w (with_hand (read c m.history x.hand) x) m in

@@ -14,15 +14,17 @@ not_of_lines tape.NoMemory of = of
 not_of_lines tape.Failed of = of
 
 -- a result that is an error
-abbrev failed : {A E : Type 0} → E → Result A E
+abbrev pub failed : {A E : Type 0} → E → Result A E
 failed e = Err e
 
 -- what was not read has failed
-pub cause_of : {A B : Type 0} → (X : Type 0) (e : TapeError) (r : Result A TapeError) (q : Result B OpenFault) → r ≡ Err e → q ≡ Err (open_fault e)
-    → (IsErrOf r tape.Failed → X) → IsErrOf q opening.NotRead → X
-cause_of {A} {B} X e r q is also cause not_read =
-    step e (subst (λ (x : Result A TapeError). IsErrOf x tape.Failed → X) is cause) (subst (λ (x : Result B OpenFault). IsErrOf x opening.NotRead) also not_read)
+pub cause_of : {A B X : Type 0} {e : TapeError} {r : Result A TapeError} {q : Result B OpenFault} → r ≡ Err e
+    → q ≡ Err (open_fault e) → (IsErrOf r tape.Failed → X) → IsErrOf q opening.NotRead → X
+cause_of {A} {B} {X} {e} is also cause not_read =
+    step e (subst (λ (x : Result A TapeError). IsErrOf x tape.Failed → X) is cause)
+    (subst (λ (x : Result B OpenFault). IsErrOf x opening.NotRead) also not_read)
   where
-    step : (e : TapeError) → (IsErrOf (failed {A = A} e) tape.Failed → X) → IsErrOf (failed {A = B} (open_fault e)) opening.NotRead → X
+    step : (e : TapeError) → (IsErrOf (failed {A = A} e) tape.Failed → X)
+        → IsErrOf (failed {A = B} (open_fault e)) opening.NotRead → X
     step tape.NoMemory cause not_read = absurd (cc not_read)
     step tape.Failed cause not_read = cause refl

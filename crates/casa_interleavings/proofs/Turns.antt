@@ -8,7 +8,8 @@ use Rattle.casa_interleavings.specs.Scenes.{Hand, nothing, view, answer, Worker,
 use Rattle.casa_interleavings.proofs.Workers.{worker_same}
 
 -- who is changed twice is as after the second change
-with_worker_again : {C R : Type 0} → (w : ℕ) (x y : Worker C R) (m : Scene C R) → with_worker w x (with_worker w y m) ≡ with_worker w x m
+with_worker_again : {C R : Type 0} → (w : ℕ) (x y : Worker C R) (m : Scene C R)
+    → with_worker w x (with_worker w y m) ≡ with_worker w x m
 with_worker_again {C} {R} w x y m =
     λ i. record { history = m.history; workers = λ v. each (v == w) (m.workers v) i }
   where
@@ -16,36 +17,37 @@ with_worker_again {C} {R} w x y m =
     each true z = refl
     each false z = refl
 
-module _ {C R : Type 0} (reply : List (Entry C R) → C → R) (IsUnmoved : List (Entry C R) → C → List (Entry C R) → Type 0) where
+module _ {C R : Type 0} (reply : List (Entry C R) → C → R)
+    (IsUnmoved : List (Entry C R) → C → List (Entry C R) → Type 0)
+    (unmoved : (before : List (Entry C R)) (c : C) → IsUnmoved before c before) where
   -- who commits an answer on a view of the present history is accepted
-  commits_now : ((before : List (Entry C R)) (c : C) → IsUnmoved before c before) → (w : ℕ) (c : C) (hand : Hand C R) (m n : Scene C R)
-      → hand ≡ answer c m.history → Commits reply IsUnmoved w hand m n → n ≡ accepted_scene reply w c m.history m
-  commits_now unmoved w c hand m n is commits =
+  commits_now : (w : ℕ) (c : C) {hand : Hand C R} (m n : Scene C R) → hand ≡ answer c m.history
+      → Commits reply IsUnmoved w hand m n → n ≡ accepted_scene reply w c m.history m
+  commits_now w c m n is commits =
       elim (subst (λ (h : Hand C R). Commits reply IsUnmoved w h m n) is commits) [
         | inl accepted ↦ accepted.1
         | inr refused ↦ absurd (refused.0 (unmoved m.history c))
       ]
 
-  pub turn_accepted : ((before : List (Entry C R)) (c : C) → IsUnmoved before c before) → (w : ℕ) (c : C) (m n : Scene C R) → w < most_workers
-      → (m.workers w).hand ≡ nothing → Leads reply IsUnmoved (turn w c) m n → n ≡ accepted_scene reply w c m.history m
-  turn_accepted unmoved w c m n few idle leads =
+  -- who holds nothing, and reads, computes and commits with no event between, is accepted
+  pub turn_accepted : (w : ℕ) (c : C) (m n : Scene C R) → w < most_workers → (m.workers w).hand ≡ nothing
+      → Leads reply IsUnmoved (turn w c) m n → n ≡ accepted_scene reply w c m.history m
+  turn_accepted w c m n few idle (seen, reads, (worked, computes, (done, commits, end))) =
       let x : Worker C R = with_hand (view c m.history) (m.workers w) in
       let y : Worker C R = with_hand (answer c m.history) (m.workers w) in
       let small : nat_lt w most_workers ≡ true = grind (arith, nat_tests) in
-      let taken : leads.0 ≡ with_worker w x m =
-      leads.1 ∙ ap (λ b. if b then with_worker w (with_hand (read c m.history (m.workers w).hand) (m.workers w)) m else m) small
+      let holds_view : seen ≡ with_worker w x m =
+      reads ∙ ap (λ b. if b then with_worker w (with_hand (read c m.history (m.workers w).hand) (m.workers w)) m else m) small
       ∙ ap (λ h. with_worker w (with_hand (read c m.history h) (m.workers w)) m) idle in
-      let worker : (leads.0).workers w ≡ x = ap (λ (k : Scene C R). k.workers w) taken ∙ worker_same w x m in
-      let worked : leads.2.0 ≡ with_worker w y (with_worker w x m) =
-      leads.2.1 ∙ ap (λ (z : Worker C R). with_worker w (with_hand (compute z.hand) z) leads.0) worker
-      ∙ ap (λ (k : Scene C R). with_worker w y k) taken in
-      let holds : (leads.2.0.workers w).hand ≡ answer c m.history =
-      ap (λ (k : Scene C R). (k.workers w).hand) worked ∙ ap (λ (z : Worker C R). z.hand) (worker_same w y (with_worker w x m)) in
-      let same : leads.2.0.history ≡ m.history = ap (λ (k : Scene C R). k.history) worked in
-      let end : n ≡ leads.2.2.0 = leads.2.2.2 in
-      let done = commits_now unmoved w c (leads.2.0.workers w).hand leads.2.0 leads.2.2.0 (holds ∙ ap (λ h. answer c h) (sym same)) leads.2.2.1 in
-      end ∙ done ∙ ap (λ (k : Scene C R). accepted_scene reply w c k.history k) worked
-      ∙ with_worker_again w (worker_after (Accepted (length m.history + 1))) y
-      (with_worker w x (record m { history = m.history ++ entry w c (reply m.history c) ∷ [] }))
-      ∙ with_worker_again w (worker_after (Accepted (length m.history + 1))) x
-      (record m { history = m.history ++ entry w c (reply m.history c) ∷ [] })
+      let worker : seen.workers w ≡ x = ap (λ (k : Scene C R). k.workers w) holds_view ∙ worker_same w x m in
+      let holds_answer : worked ≡ with_worker w y m =
+      computes ∙ ap (λ (z : Worker C R). with_worker w (with_hand (compute z.hand) z) seen) worker
+      ∙ ap (λ (k : Scene C R). with_worker w y k) holds_view ∙ with_worker_again w y x m in
+      let same : worked.history ≡ m.history = ap (λ (k : Scene C R). k.history) holds_answer in
+      let hand : (worked.workers w).hand ≡ answer c worked.history =
+      ap (λ (k : Scene C R). (k.workers w).hand) holds_answer ∙ ap (λ (z : Worker C R). z.hand) (worker_same w y m)
+      ∙ ap (λ h. answer c h) (sym same) in
+      let longer : Scene C R = record m { history = m.history ++ entry w c (reply m.history c) ∷ [] } in
+      end ∙ commits_now w c worked done hand commits
+      ∙ ap (λ (k : Scene C R). accepted_scene reply w c k.history k) holds_answer
+      ∙ with_worker_again w (worker_after (Accepted (length m.history + 1))) y longer

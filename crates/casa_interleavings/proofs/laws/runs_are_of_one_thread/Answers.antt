@@ -3,15 +3,14 @@ use Rattle.std.specs.Prelude.{slice_get}
 use Rattle.casa_flight.specs.declared.call.Call.{Call}
 use Rattle.casa_flight.specs.declared.reply.Reply.{Reply}
 use Rattle.casa_history.specs.declared.entry.Entry.{Entry}
-use Rattle.casa_plan.specs.Rooms.{IsSequential}
 use Rattle.casa_interleavings.specs.Board.{sequential_reply, HasSameStamps}
 use Rattle.casa_interleavings.specs.Causes.{AreCommitted}
 use Rattle.casa_interleavings.proofs.Causes.{are_committed, are_placed, are_of_refusals}
-use Rattle.casa_interleavings.proofs.OneThread.{are_sequential}
+use Rattle.casa_interleavings.proofs.Legal.{sequential_run}
 use Rattle.casa_interleavings.proofs.laws.runs_are_of_one_thread.Goals as goal
 
 pub returns-clause-sequential : goal.returns-clause-sequential
-returns-clause-sequential c events history outcomes is = subst IsSequential (sym is.2) (are_sequential events is.0 is.1)
+returns-clause-sequential c = sequential_run
 
 pub returns-clause-committed : goal.returns-clause-committed
 returns-clause-committed c events history outcomes is =

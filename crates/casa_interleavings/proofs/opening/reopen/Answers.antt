@@ -37,15 +37,17 @@ returns-in_err-mend-clause-cause g c =
     let e = c.in_err-mend.field-0.0 in
     let p = err_from_is_err_and c.from_residual-in_err-mend.result c.from_residual-in_err-mend.ensures.1 in
     let is : c.from_residual-in_err-mend.result ≡ Err (open_fault e) = p.1 ∙ ap (λ f. Err f) p.2 in
-    cause_of (g.T.Tape.has_failed c.mend.new.tape) e c.mend.result c.from_residual-in_err-mend.result c.in_err-mend.was is c.mend.ensures.cause.failed
+    cause_of c.in_err-mend.was is c.mend.ensures.cause.failed
 
 pub returns-in_err-mend-clause-any_moment : goal.returns-in_err-mend-clause-any_moment
 returns-in_err-mend-clause-any_moment g c =
-    stands_on g.T.Tape c.args.tape.now c.look.new.tape c.mend.new.tape (g.met.T.Tape.counts_now c.look.new.tape) c.look.ensures.any_moment c.mend.ensures.any_moment
+    stands_on g.T.Tape c.args.tape.now c.look.new.tape c.mend.new.tape (g.met.T.Tape.counts_now c.look.new.tape)
+    c.look.ensures.any_moment c.mend.ensures.any_moment
 
 pub returns-clause-any_moment : goal.returns-clause-any_moment
 returns-clause-any_moment g c =
-    stands_on g.T.Tape c.args.tape.now c.look.new.tape c.mend.new.tape (g.met.T.Tape.counts_now c.look.new.tape) c.look.ensures.any_moment c.mend.ensures.any_moment
+    stands_on g.T.Tape c.args.tape.now c.look.new.tape c.mend.new.tape (g.met.T.Tape.counts_now c.look.new.tape)
+    c.look.ensures.any_moment c.mend.ensures.any_moment
 
 pub returns-clause-reopened : goal.returns-clause-reopened
 returns-clause-reopened g c =

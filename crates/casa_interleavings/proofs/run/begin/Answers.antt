@@ -1,7 +1,6 @@
-use Rattle.std.proofs.Common.{◌≡◌, [], map, length, sym, ap, subst, refl, arith}
-use Rattle.casa_commit.specs.Rooms.{Admits, entries_of}
-use Rattle.casa_interleavings.specs.Scenes.{opening_scene, Leads, most_workers}
-use Rattle.casa_interleavings.specs.Rooms.{reply_after, IsRoomView, IsRoomAnswer, HasHad}
+use Rattle.std.proofs.Common.{◌≡◌, map, length, sym, subst, refl, arith}
+use Rattle.casa_interleavings.specs.Scenes.{opening_scene, most_workers}
+use Rattle.casa_interleavings.specs.Rooms.{HasHad}
 use Rattle.casa_interleavings.proofs.Had.{had_run}
 use Rattle.casa_interleavings.proofs.run.begin.Goals as goal
 
@@ -14,8 +13,5 @@ invariant_of-result g c =
 
 pub returns-clause-run : goal.returns-clause-run
 returns-clause-run g c =
-    let room = c.open_desks.new.room in
-    let none : map (λ e. e.value) c.new.result.items ≡ [] = ap (λ es. map (λ e. e.value) es) c.new.ensures.items in
-    had_run (reply_after g.W.World) g.W.Stamped.is_unmoved (Admits room) (IsRoomView g.W.World g.W.Stamped room) (IsRoomAnswer g.W.World g.W.Stamped room)
-    (map (λ e. e.value) c.new.result.items) (entries_of room) c.in_ok-desks.desks.items opening_scene
-    (subst (λ es. Leads (reply_after g.W.World) g.W.Stamped.is_unmoved es opening_scene opening_scene) (sym none) refl) c.in_ok-desks.ensures.scene
+    had_run g.W.World g.W.Stamped c.open_desks.new.room (map (λ e. e.value) c.new.result.items) c.in_ok-desks.desks.items
+    (invariant_of-result g c)

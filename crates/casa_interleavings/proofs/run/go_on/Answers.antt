@@ -1,13 +1,11 @@
 use Rattle.std.proofs.Common.{◌≡◌, [], ◌∷◌, ◌++◌, length, take, drop, map, sym, ap, subst, ◌∙◌, arith}
 use Rattle.std.proofs.lemmas.List.{map-append}
 use Rattle.casa_interleavings.specs.Scenes.{opening_scene, Leads, most_workers}
-use Rattle.casa_commit.specs.Prepared.{view_of}
-use Rattle.casa_commit.specs.Rooms.{Admits, world_of, entries_of}
-use Rattle.casa_interleavings.specs.Rooms.{reply_after, IsRoomView, IsRoomAnswer, IsRoomScene, AreOfRoom, HasHad}
+use Rattle.casa_interleavings.specs.Rooms.{reply_after, IsRoomScene, AreOfRoom}
 use Rattle.casa_interleavings.proofs.Happening.{leads_push}
-use Rattle.casa_interleavings.proofs.Seats.{seated, written_back}
+use Rattle.casa_interleavings.proofs.Lists.{written_back}
+use Rattle.casa_interleavings.proofs.Seats.{seated}
 use Rattle.casa_interleavings.proofs.Had.{had_run}
-use Rattle.casa_interleavings.proofs.run.go_on.Given.{Over}
 use Rattle.casa_interleavings.proofs.run.go_on.Goals as goal
 
 pub happen-requires-clause-seated : goal.happen-requires-clause-seated
@@ -15,14 +13,11 @@ happen-requires-clause-seated g c =
     let room = c.run.inside.room in
     let had = c.run.invariant in
     subst (λ ds. AreOfRoom g.W.World room ds) (sym c.as_mut_slice.ensures.value)
-    (seated (Admits room) (IsRoomView g.W.World g.W.Stamped room) (IsRoomAnswer g.W.World g.W.Stamped room)
-    g.W.World.is_for (λ p. g.W.World.is_of (view_of p) (world_of room)) (entries_of room) c.run.inside.desks.items had.1.0
-    (λ k b v sees. sees.0) (λ k b p is. is.1) had.1.2)
+    (seated g.W.World g.W.Stamped room c.run.inside.desks.items had.1.0 had.1.2)
 
 -- the new desks stand for the scene to which the events lead
-had : (g : Over) (c : goal.In_ok-push g) → HasHad g.W.World g.W.Stamped (map (λ e. e.value) c.push.new.self.items) c.happen.new.room
-    (take c.run.inside.desks.len (c.happen.new.desks ++ drop (length c.happen.new.desks) c.run.inside.desks.items))
-had g c =
+pub invariant_of-result : goal.invariant_of-result
+invariant_of-result g c =
     let was = c.run.inside in
     let past = c.run.invariant in
     let room = c.happen.new.room in
@@ -47,13 +42,7 @@ had g c =
       ),
     )
 
-pub invariant_of-result : goal.invariant_of-result
-invariant_of-result = had
-
 pub returns-clause-run : goal.returns-clause-run
 returns-clause-run g c =
-    let now = had g c in
-    let room = c.happen.new.room in
-    had_run (reply_after g.W.World) g.W.Stamped.is_unmoved (Admits room) (IsRoomView g.W.World g.W.Stamped room) (IsRoomAnswer g.W.World g.W.Stamped room)
-    (map (λ e. e.value) c.push.new.self.items) (entries_of room)
-    (take c.run.inside.desks.len (c.happen.new.desks ++ drop (length c.happen.new.desks) c.run.inside.desks.items)) now.1.0 now.1.1 now.1.2
+    had_run g.W.World g.W.Stamped c.happen.new.room (map (λ e. e.value) c.push.new.self.items)
+    (take c.run.inside.desks.len (c.happen.new.desks ++ drop (length c.happen.new.desks) c.run.inside.desks.items)) (invariant_of-result g c)

@@ -1,13 +1,13 @@
-use Rattle.std.proofs.Common.{◌≡◌, ◌≢◌, ℕ, Some, sym, subst, refl, ◌∙◌}
-use Rattle.casa_commit.specs.Legal.{entry}
-use Rattle.casa_commit.specs.Prepared.{call_of, view_of, reply_of}
+use Rattle.std.proofs.Common.{Some, sym, subst, refl, ◌∙◌}
+use Rattle.casa_commit.specs.Prepared.{view_of}
 use Rattle.casa_commit.specs.Rooms.{entries_of}
 use Rattle.casa_day.proofs.Lists.{grows_on}
 use Rattle.casa_interleavings.specs.declared.desk.Held.{Held}
-use Rattle.casa_interleavings.specs.Scenes.{nothing, Worker, Scene}
-use Rattle.casa_interleavings.specs.Desks.{Holds, IsOutcomeOfCommit}
+use Rattle.casa_interleavings.specs.Scenes.{Hand, nothing, Worker, Commits}
+use Rattle.casa_interleavings.specs.Desks.{Holds}
 use Rattle.casa_interleavings.specs.Rooms.{reply_after, IsRoomView, IsRoomAnswer, IsRoomWorker}
-use Rattle.casa_interleavings.proofs.Workers.{handed, by_answer, still_holds}
+use Rattle.casa_interleavings.proofs.Hands.{answer_held, still_holds}
+use Rattle.casa_interleavings.proofs.Workers.{handed}
 use Rattle.casa_interleavings.proofs.worker.commit.Goals as goal
 
 -- what other desks hold goes on standing for the same: the world keeps the name of the views, and the history only grows
@@ -38,22 +38,24 @@ returns-in_ok-outcome-in-Answer-clause-happens g c w m sits history stands =
     let reply = reply_after world in
     let room = c.args.room.now in
     let room' = c.hand_in.new.room in
-    let es = entries_of room in
     let fs = entries_of room' in
     let p = c.in-Answer.prepared in
     let outcome = c.in_ok-outcome-in-Answer.outcome in
     let desk = c.args.desk.now in
     let desk' = record desk { pass = c.hand_in.new.pass; held = c.replace.new.dest; outcome = Some outcome } in
-    let empty = subst (λ (x : Held _ _ _). Holds (IsRoomView world stamped room') (IsRoomAnswer world stamped room') x nothing)
-    (sym c.replace.ensures.after) tt in
-    let Rest : Scene _ _ → Type 0 = λ n.
-    (n.history ≡ fs) × IsRoomWorker world stamped room' desk' (n.workers w) × ((v : ℕ) → v ≢ w → n.workers v ≡ m.workers v) in
-    let r = by_answer (IsRoomView world stamped room) (IsRoomAnswer world stamped room) reply stamped.is_unmoved Rest w m desk.held p
-    (m.workers w).hand (sym c.replace.ensures.value ∙ c.in-Answer.is) stands.0
-    (λ k before is.
+    let hand = (m.workers w).hand in
+    let IsView = IsRoomView world stamped room in
+    let IsAnswer = IsRoomAnswer world stamped room in
+    let held = subst (λ (h : Held _ _ _). Holds IsView IsAnswer h hand) (sym c.replace.ensures.value ∙ c.in-Answer.is) stands.0 in
+    let (call, before, holds, is) = answer_held IsView IsAnswer p hand held in
     let seen = subst (λ d. stamped.is_view_of before d (view_of p)) (sym is.0) is.2 in
-    let tells = subst (λ (n : ℕ). IsOutcomeOfCommit (stamped.is_unmoved before (call_of p) es) outcome es (entry n (call_of p) (reply_of p)) fs) sits
+    let (n, commits, grown, worker, others) = handed reply stamped.is_unmoved before fs outcome m sits is.0 is.4 history
     (c.in_ok-outcome-in-Answer.ensures.tells before is.3 seen is.5) in
-    let h = handed reply stamped.is_unmoved w m es fs (call_of p) k (reply_of p) before outcome history is.0 is.4 tells in
-    (h.0, h.1, (h.2, subst (λ (y : Worker _ _). IsRoomWorker world stamped room' desk' y) (sym h.3) (empty, refl), h.4))) in
-    (r.0, r.1, r.2.0, r.2.1, r.2.2)
+    let empty = subst (λ (h : Held _ _ _). Holds (IsRoomView world stamped room') (IsRoomAnswer world stamped room') h nothing)
+    (sym c.replace.ensures.after) tt in (
+      n,
+      subst (λ (h : Hand _ _). Commits reply stamped.is_unmoved w h m n) (sym holds) commits,
+      grown,
+      subst (λ (y : Worker _ _). IsRoomWorker world stamped room' desk' y) (sym worker) (empty, refl),
+      others,
+    )
