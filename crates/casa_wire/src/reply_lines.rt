@@ -184,7 +184,10 @@ fn push_answer_opening(out: &mut Vec<u8>, answer: &Answer) -> Result<(), AllocEr
     }
 }
 
-fn push_messages(out: &mut Vec<u8>, messages: &[Message]) -> Result<(), AllocError>
+/// Writes messages as a reply has them, behind the bytes that stand there.
+///
+/// `AllocError` where there is no memory for them; some of the text may then stand there.
+pub fn push_messages(out: &mut Vec<u8>, messages: &[Message]) -> Result<(), AllocError>
     ensures { Writes result out.old.items out.new.items
         (compact_text (messages_data messages.now)) }
 {
@@ -257,7 +260,10 @@ fn push_slot<'n>(
     )
 }
 
-fn push_flight(out: &mut Vec<u8>, flight: &FlightReply) -> Result<(), AllocError>
+/// Writes a flight as a reply has it, behind the bytes that stand there.
+///
+/// `AllocError` where there is no memory for it; some of the text may then stand there.
+pub fn push_flight(out: &mut Vec<u8>, flight: &FlightReply) -> Result<(), AllocError>
     ensures { Writes result out.old.items out.new.items (compact_text (flight_data flight.now)) }
 {
     push_parts(
@@ -284,7 +290,10 @@ fn push_flight(out: &mut Vec<u8>, flight: &FlightReply) -> Result<(), AllocError
     )
 }
 
-fn push_list(out: &mut Vec<u8>, list: &ListReply) -> Result<(), AllocError>
+/// Writes a regulation's list as a reply has it, behind the bytes that stand there.
+///
+/// `AllocError` where there is no memory for it; some of the text may then stand there.
+pub fn push_list(out: &mut Vec<u8>, list: &ListReply) -> Result<(), AllocError>
     ensures { Writes result out.old.items out.new.items (compact_text (list_data list.now)) }
 {
     push_list_opening(out, list)?;

@@ -1,0 +1,4 @@
+pub mod StateText
+pub mod ListText
+pub mod FlightText
+pub mod SinceText

@@ -1,0 +1,210 @@
+//! A flight: its plan, how it stands, and why it waits.
+
+ghost use Rattle.std.specs.Prelude.{◌≡◌, ◌++◌, IfOk, OnOk, Some};
+ghost use Rattle.serde_json.specs.Data.{string};
+ghost use Rattle.serde_json.specs.Written.{compact_text};
+ghost use Rattle.casa_wire.specs.LineTexts.{or_null};
+ghost use Rattle.casa_wire.specs.Parts.{part_text};
+ghost use Rattle.casa_look.specs.FlightText.{crossing_data, flight_text, holder_text, holding_data, offer_data, plan_data, rule_name, status_name};
+
+use crate::array::{Json, push_array};
+use casa_flight::{Crossing, Key, Offer, Plan, Stance, Sts};
+use casa_inquiry::{Holding, Reasons, Rule};
+use casa_list::Member;
+use casa_wire::{Part, kind_name, push_flight, push_parts, push_text};
+use std::alloc::{AllocError, Global};
+
+/// A flight with this plan after so many calls, and why it stands as it does.
+///
+/// An object with
+/// - `flight`, the flight as a reply has it;
+/// - `holdings`, an object for each slot that it waits for and each flight that has it: where the slot begins (`begin`), the
+///   flight's estimated time over (`eto`), its `key`, how it stands (`kind`, as in a list), and the slot's number (`slot`).
+///   `eto`, `key` and `kind` are null where nobody has it;
+/// - `n`, the number of the calls;
+/// - `offers`, an object for each regulation to which it is subject: the calculated time over (`cto`) and the `delay` that it
+///   would have there if it entered now, and the regulation (`reg`);
+/// - `plan`, an object with the members of a filing: `eobt`, `key`, `sts`, `taxi` and `via`;
+/// - `rule`, the name of the rule by which it is governed, or not, as `"GreatestDelay"`.
+///
+/// Times are seconds from midnight UTC, delays and taxi times seconds. `AllocError` where there is no memory for it.
+pub fn flight_text(
+    alloc: Global,
+    calls: usize,
+    plan: &Plan,
+    why: &Reasons,
+) -> Result<Vec<u8>, AllocError>
+    ensures { IfOk result (λ text. text.items ≡ flight_text calls plan.now why.now) }
+{
+    let mut text = Vec::new(alloc);
+    push_text(&mut text, b"{\"flight\":")?;
+    push_flight(&mut text, &why.flight)?;
+    push_text(&mut text, b",\"holdings\":")?;
+    push_array(&mut text, why.holdings.as_slice())?;
+    push_parts(
+        &mut text,
+        &[
+            Part::Text(b",\"n\":"),
+            Part::Number(calls as u64),
+            Part::Text(b",\"offers\":"),
+        ],
+    )?;
+    push_array(&mut text, why.offers.as_slice())?;
+    push_text(&mut text, b",\"plan\":")?;
+    push_plan(&mut text, &plan.key(), plan)?;
+    push_parts(
+        &mut text,
+        &[
+            Part::Text(b",\"rule\":"),
+            Part::Name(rule_name(why.rule).as_bytes()),
+            Part::Text(b"}"),
+        ],
+    )?;
+    Ok(text)
+}
+
+/// Writes a plan, which has this key.
+fn push_plan(out: &mut Vec<u8>, key: &Key, plan: &Plan) -> Result<(), AllocError>
+    requires { key.now ≡ plan.now.key }
+    ensures { OnOk result (out.new.items ≡ out.old.items ++ compact_text (plan_data plan.now)) }
+{
+    push_parts(
+        out,
+        &[
+            Part::Text(b"{\"eobt\":"),
+            Part::Number(plan.eobt().secs() as u64),
+            Part::Text(b",\"key\":"),
+            Part::Name(key.as_bytes()),
+            Part::Text(b",\"sts\":"),
+            status_or_null(plan.sts()),
+            Part::Text(b",\"taxi\":"),
+            Part::Number(plan.taxi() as u64),
+            Part::Text(b",\"via\":"),
+        ],
+    )?;
+    push_array(out, plan.via())?;
+    push_text(out, b"}")?;
+    Ok(())
+}
+
+/// The status in quotation marks, or `null` for the plain one.
+fn status_or_null(status: Sts) -> Part<'static>
+    ensures { part_text result ≡ compact_text (or_null string (status_name status)) }
+{
+    match status {
+        Sts::Plain => Part::Text(b"null"),
+        Sts::Head => Part::Name(b"HEAD"),
+        Sts::Sar => Part::Name(b"SAR"),
+        Sts::Medevac => Part::Name(b"MEDEVAC"),
+        Sts::Ffr => Part::Name(b"FFR"),
+        Sts::Atfmx => Part::Name(b"ATFMX"),
+    }
+}
+
+/// The name of a rule.
+fn rule_name(rule: Rule) -> &'static str
+    ensures { result.now ≡ rule_name rule }
+{
+    match rule {
+        Rule::GreatestDelay => "GreatestDelay",
+        Rule::SmallestId => "SmallestId",
+        Rule::SinceEntry => "SinceEntry",
+        Rule::GovernedGone => "GovernedGone",
+        Rule::Exempt => "Exempt",
+        Rule::Gone => "Gone",
+        Rule::Outside => "Outside",
+    }
+}
+
+impl Json for Crossing {
+    ghost value = { crossing_data };
+
+    fn push(&self, out: &mut Vec<u8>) -> Result<(), AllocError> {
+        push_parts(
+            out,
+            &[
+                Part::Text(b"{\"eto\":"),
+                Part::Number(self.eto.secs() as u64),
+                Part::Text(b",\"loc\":"),
+                Part::Name(self.loc.as_bytes()),
+                Part::Text(b"}"),
+            ],
+        )?;
+        Ok(())
+    }
+}
+
+impl Json for Offer {
+    ghost value = { offer_data };
+
+    fn push(&self, out: &mut Vec<u8>) -> Result<(), AllocError> {
+        let id = self.id();
+        push_parts(
+            out,
+            &[
+                Part::Text(b"{\"cto\":"),
+                Part::Number(self.cto().secs() as u64),
+                Part::Text(b",\"delay\":"),
+                Part::Number(self.delay() as u64),
+                Part::Text(b",\"reg\":"),
+                Part::Name(id.as_bytes()),
+                Part::Text(b"}"),
+            ],
+        )?;
+        Ok(())
+    }
+}
+
+impl Json for Holding {
+    ghost value = { holding_data };
+
+    fn push(&self, out: &mut Vec<u8>) -> Result<(), AllocError> {
+        push_parts(
+            out,
+            &[
+                Part::Text(b"{\"begin\":"),
+                Part::Number(self.begin.secs() as u64),
+            ],
+        )?;
+        push_holder(out, &self.holder)?;
+        push_parts(
+            out,
+            &[
+                Part::Text(b",\"slot\":"),
+                Part::Number(self.slot as u64),
+                Part::Text(b"}"),
+            ],
+        )?;
+        Ok(())
+    }
+}
+
+/// Writes the members of a slot that tell who has it.
+fn push_holder(out: &mut Vec<u8>, holder: &Option<Member>) -> Result<(), AllocError>
+    ensures { OnOk result (out.new.items ≡ out.old.items ++ holder_text holder.now) }
+{
+    match holder {
+        None => push_text(out, b",\"eto\":null,\"key\":null,\"kind\":null")?,
+        Some(member) => push_member(out, &member.key(), &member.stance())?,
+    }
+    Ok(())
+}
+
+/// Writes these members where the flight with this key has the slot, and stands so.
+fn push_member(out: &mut Vec<u8>, key: &Key, stance: &Stance) -> Result<(), AllocError>
+    ensures { OnOk result (out.new.items
+        ≡ out.old.items ++ holder_text (Some (key.now, stance.now))) }
+{
+    push_parts(
+        out,
+        &[
+            Part::Text(b",\"eto\":"),
+            Part::Number(stance.eto().secs() as u64),
+            Part::Text(b",\"key\":"),
+            Part::Name(key.as_bytes()),
+            Part::Text(b",\"kind\":"),
+            Part::Name(kind_name(stance.kind()).as_bytes()),
+        ],
+    )?;
+    Ok(())
+}

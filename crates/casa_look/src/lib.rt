@@ -1,0 +1,15 @@
+//! What can be looked at, as JSON: the state, a regulation's list, a flight, and what came of calls.
+//!
+//! Each is a text in compact form that is made whole, with the members in the byte order of their names and no line end.
+#![tactic(auto)]
+
+mod array;
+mod flight;
+mod list;
+mod since;
+mod state;
+
+pub use flight::flight_text;
+pub use list::list_text;
+pub use since::{News, since_text};
+pub use state::{OpenRegulation, state_text};

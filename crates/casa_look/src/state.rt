@@ -1,0 +1,137 @@
+//! The state: the clock, and what each open regulation costs.
+
+ghost use Rattle.std.specs.Prelude.{◌≡◌, ◌++◌, IfOk, OnOk};
+ghost use Rattle.serde_json.specs.Data.{string};
+ghost use Rattle.serde_json.specs.Written.{compact_text};
+ghost use Rattle.casa_wire.specs.LineTexts.{count};
+ghost use Rattle.casa_look.specs.StateText.{open_regulation, period_data, regulation_data, state_text};
+
+use crate::array::{Json, push_array};
+use casa_flight::{ListReply, Measure, RegId};
+use casa_grid::Period;
+use casa_inquiry::Cost;
+use casa_time::Moment;
+use casa_wire::{Part, push_parts, push_text};
+use itoa::Buffer;
+use std::alloc::{AllocError, Global};
+
+/// Room for a state without its regulations, in bytes.
+const STATE_ROOM: usize = 64;
+
+/// Room for a regulation with three periods, in bytes.
+const REGULATION_ROOM: usize = 320;
+
+/// An open regulation as a state shows it: what it protects, at which rates, and what it costs.
+#[derive(Drop, Debug)]
+pub struct OpenRegulation {
+    pub id: RegId,
+    pub measure: Measure,
+    pub cost: Cost,
+}
+
+impl OpenRegulation {
+    /// The regulation with this identifier and measure, with what it costs by its list.
+    pub fn of(id: RegId, measure: Measure, list: &ListReply) -> OpenRegulation
+        ensures { result ≡ open_regulation id measure list.now }
+    {
+        OpenRegulation {
+            id,
+            measure,
+            cost: Cost::of(list),
+        }
+    }
+}
+
+/// The state after so many calls, at this clock, with these open regulations in the order of their identifiers.
+///
+/// An object with `clock`, in seconds from midnight UTC; `n`, the number of the calls; and `regs`, an object for each
+/// regulation with its identifier `reg`, its location `loc`, its `periods` as in a command line, and the figures of its line
+/// in a summary, of which `delay` and `longest` are seconds: `slots`, `governed`, `issued`, `forced`, `over`, `delay` and
+/// `longest`. `AllocError` where there is no memory for it.
+pub fn state_text(
+    alloc: Global,
+    calls: usize,
+    clock: Moment,
+    regulations: &[OpenRegulation],
+) -> Result<Vec<u8>, AllocError>
+    ensures { IfOk result (λ text. text.items ≡ state_text calls clock regulations.now) }
+{
+    let mut text = Vec::with_capacity(alloc, room_for(regulations.len()))?;
+    push_parts(
+        &mut text,
+        &[
+            Part::Text(b"{\"clock\":"),
+            Part::Number(clock.secs() as u64),
+            Part::Text(b",\"n\":"),
+            Part::Number(calls as u64),
+            Part::Text(b",\"regs\":"),
+        ],
+    )?;
+    push_array(&mut text, regulations)?;
+    push_text(&mut text, b"}")?;
+    Ok(text)
+}
+
+/// About how many bytes a state with so many regulations takes.
+fn room_for(regulations: usize) -> usize {
+    STATE_ROOM.saturating_add(regulations.saturating_mul(REGULATION_ROOM))
+}
+
+impl Json for OpenRegulation {
+    ghost value = { regulation_data };
+
+    fn push(&self, out: &mut Vec<u8>) -> Result<(), AllocError> {
+        push_figure(out, b"{\"delay\":", self.cost.delay)?;
+        push_figure(out, b",\"forced\":", self.cost.forced)?;
+        push_figure(out, b",\"governed\":", self.cost.governed)?;
+        push_figure(out, b",\"issued\":", self.cost.issued)?;
+        push_name(out, b",\"loc\":", self.measure.loc.as_bytes())?;
+        push_figure(out, b",\"longest\":", self.cost.longest as u128)?;
+        push_figure(out, b",\"over\":", self.cost.over)?;
+        push_text(out, b",\"periods\":")?;
+        push_array(out, self.measure.profile.periods())?;
+        push_name(out, b",\"reg\":", self.id.as_bytes())?;
+        push_figure(out, b",\"slots\":", self.cost.slots)?;
+        push_text(out, b"}")?;
+        Ok(())
+    }
+}
+
+impl Json for Period {
+    ghost value = { period_data };
+
+    fn push(&self, out: &mut Vec<u8>) -> Result<(), AllocError> {
+        push_parts(
+            out,
+            &[
+                Part::Text(b"{\"from\":"),
+                Part::Number(self.begin.secs() as u64),
+                Part::Text(b",\"rate\":"),
+                Part::Number(self.rate as u64),
+                Part::Text(b",\"to\":"),
+                Part::Number(self.until.secs() as u64),
+                Part::Text(b"}"),
+            ],
+        )?;
+        Ok(())
+    }
+}
+
+/// Writes what stands before a name, and the name in quotation marks.
+fn push_name(out: &mut Vec<u8>, before: &'static [u8], name: &[u8]) -> Result<(), AllocError>
+    ensures { OnOk result (out.new.items
+        ≡ out.old.items ++ (before.now ++ compact_text (string name.now))) }
+{
+    push_parts(out, &[Part::Text(before), Part::Name(name)])?;
+    Ok(())
+}
+
+/// Writes what stands before a number, and the number.
+fn push_figure(out: &mut Vec<u8>, before: &'static [u8], figure: u128) -> Result<(), AllocError>
+    ensures { OnOk result (out.new.items
+        ≡ out.old.items ++ (before.now ++ compact_text (count figure))) }
+{
+    let mut buffer = Buffer::new();
+    out.extend_from_slice(before)?;
+    out.extend_from_slice(buffer.format(figure).as_bytes())
+}
