@@ -1,11 +1,15 @@
 -- to believe: what is shown of a state
-use Rattle.std.specs.Prelude.{ℕ, List, [], ◌∷◌, codes}
+use Rattle.std.specs.Prelude.{ℕ, List, [], ◌∷◌, map, codes}
 use Rattle.serde_json.specs.Data.{Data, string}
 use Rattle.serde_json.specs.Written.{compact_text}
 use Rattle.casa_grid.specs.declared.period.Period.{Period}
 use Rattle.casa_filing.specs.Text.{Text}
 use Rattle.casa_filing.specs.declared.regulation.Measure.{Measure}
+use Rattle.casa_filing.specs.Subject.{regulation}
 use Rattle.casa_flight.specs.declared.reply.ListReply.{ListReply}
+use Rattle.casa_flight.specs.declared.state.State.{State}
+use Rattle.casa_flight.specs.Listing.{listing}
+use Rattle.casa_flight.specs.Replies.{list_reply}
 use Rattle.casa_inquiry.specs.Summary.{cost_of}
 use Rattle.casa_wire.specs.LineTexts.{count, list_of, object_of}
 use Rattle.casa_look.specs.declared.state.OpenRegulation.{OpenRegulation}
@@ -13,6 +17,11 @@ use Rattle.casa_look.specs.declared.state.OpenRegulation.{OpenRegulation}
 -- a regulation with what it costs by its list
 abbrev pub open_regulation : Text → Measure → ListReply → OpenRegulation
 open_regulation id measure list = record { id = id; measure = measure; cost = cost_of list }
+
+-- the open regulations of a state, in the order of their identifiers
+abbrev pub open_regulations : State → List OpenRegulation
+open_regulations m =
+    map (λ (e : Text × Measure). open_regulation e.0 e.1 (list_reply m (regulation e.0 e.1) (listing m.rows e.0 e.1))) m.regs
 
 -- a period as in a command line
 abbrev pub period_data : Period → Data

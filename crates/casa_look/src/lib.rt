@@ -5,11 +5,13 @@
 
 mod array;
 mod flight;
+mod laws;
 mod list;
 mod since;
 mod state;
 
 pub use flight::flight_text;
+pub use laws::state_shows_what_flights_wait;
 pub use list::list_text;
 pub use since::{News, since_text};
 pub use state::{OpenRegulation, state_text};
