@@ -1,0 +1,9 @@
+//! The page on which a day is looked at: one text of HTML, with no other resource.
+//!
+//! It asks the casa that serves it, or shows what stands in it.
+#![tactic(auto)]
+
+mod page;
+mod text;
+
+pub use text::{live_page, recorded_page};
