@@ -4,8 +4,8 @@ use Rattle.casa_html.proofs.text.with_recorded.Goals as goal
 pub returns : goal.returns
 returns c =
     rw (
-      c.in_ok-extend_from_slice-4.ensures.items,
       c.in_ok-extend_from_slice-3.ensures.items,
+      c.in_ok-push_scripted.ensures,
       c.in_ok-extend_from_slice-2.ensures.items,
       c.in_ok-extend_from_slice.ensures.items,
       c.new-text.ensures.items,
