@@ -4,6 +4,7 @@ use Rattle.std.specs.Prelude.{codes}
 use Rattle.serde_json.specs.Data.{string}
 use Rattle.serde_json.specs.Written.{compact_text}
 use Rattle.serde_json.proofs.OnLiterals.{serde_json_on_literals}
+use Rattle.jiff.specs.Words.{date_text}
 use Rattle.casa_filing.specs.FlightPlan.{FlightPlan}
 use Rattle.casa_flight.specs.declared.call.Call.{Call}
 use Rattle.casa_flight.specs.declared.reply.ListReply.{ListReply}
@@ -12,8 +13,11 @@ use Rattle.casa_history.specs.declared.entry.Entry.{Entry}
 use Rattle.casa_inquiry.specs.declared.why.Holding.{Holding}
 use Rattle.casa_inquiry.specs.declared.why.Reasons.{Reasons}
 use Rattle.casa_wire.specs.LineTexts.{count, flight_data, list_data, list_of, messages_data, or_null}
+use Rattle.casa_look.specs.declared.day.DayRecord.{DayRecord}
+use Rattle.casa_look.specs.declared.day.PlannedFlight.{PlannedFlight}
 use Rattle.casa_look.specs.declared.since.News.{News}
 use Rattle.casa_look.specs.declared.state.OpenRegulation.{OpenRegulation}
+use Rattle.casa_look.specs.DayText.{day_text, planned_data}
 use Rattle.casa_look.specs.FlightText.{crossing_data, flight_text, holder_text, holding_data, offer_data, plan_data, rule_name, status_name}
 use Rattle.casa_look.specs.ListText.{list_text}
 use Rattle.casa_look.specs.SinceText.{news_behind, news_data, since_text}
@@ -76,3 +80,16 @@ pub explained_text : (calls : ℕ) (plan : FlightPlan) (why : Reasons)
     ++ (codes ",\"rule\":" ++ (compact_text (string (rule_name why.rule)) ++ codes "}"))))))))) ≡ flight_text calls plan why
 unfolding serde_json_on_literals
 explained_text calls plan why = simp append_assoc refl
+
+pub planned_text : (f : PlannedFlight)
+    → codes "{\"flight\":" ++ (compact_text (flight_data f.flight) ++ (codes ",\"plan\":" ++ (compact_text (plan_data f.plan) ++ codes "}"))) ≡ compact_text (planned_data f)
+unfolding serde_json_on_literals
+planned_text f = refl
+
+pub whole_day_text : (kept : DayRecord)
+    → (codes "{\"day\":" ++ (compact_text (string (date_text kept.day)) ++ codes ",\"flights\":"))
+    ++ (compact_text (list_of planned_data kept.flights.items) ++ (codes ",\"lists\":" ++ (compact_text (list_of list_data kept.lists.items)
+    ++ (codes ",\"since\":" ++ (since_text kept.position kept.entries.items ++ (codes ",\"state\":"
+    ++ (state_text kept.calls kept.clock kept.regulations.items ++ codes "}"))))))) ≡ day_text kept
+unfolding serde_json_on_literals
+whole_day_text kept = simp append_assoc refl

@@ -63,8 +63,9 @@ pub fn flight_text(
     Ok(text)
 }
 
-/// Writes a plan, which has this key.
-fn push_plan(out: &mut Vec<u8>, key: &Key, plan: &Plan) -> Result<(), AllocError>
+/// Writes a plan, which has this key, behind the bytes that stand there. `AllocError` where there is no memory for it; some of
+/// it may then stand there.
+pub(crate) fn push_plan(out: &mut Vec<u8>, key: &Key, plan: &Plan) -> Result<(), AllocError>
     requires { key.now ≡ plan.now.key }
     ensures { OnOk result (out.new.items ≡ out.old.items ++ compact_text (plan_data plan.now)) }
 {

@@ -1,15 +1,17 @@
-//! What can be looked at, as JSON: the state, a regulation's list, a flight, and what came of calls.
+//! What can be looked at, as JSON: the state, a regulation's list, a flight, what came of calls, and a whole day.
 //!
 //! Each is a text in compact form that is made whole, with the members in the byte order of their names and no line end.
 #![tactic(auto)]
 
 mod array;
+mod day;
 mod flight;
 mod laws;
 mod list;
 mod since;
 mod state;
 
+pub use day::{DayRecord, PlannedFlight, day_text};
 pub use flight::flight_text;
 pub use laws::state_shows_what_flights_wait;
 pub use list::list_text;

@@ -1,6 +1,6 @@
 //! What came of the calls behind a position.
 
-ghost use Rattle.std.specs.Prelude.{◌≡◌, ◌+◌, ◌<◌, ◌^◌, length, IfOk};
+ghost use Rattle.std.specs.Prelude.{◌≡◌, ◌+◌, ◌<◌, ◌^◌, ◌++◌, length, IfOk, OnOk};
 ghost use Rattle.serde_json.specs.Written.{compact_text};
 ghost use Rattle.casa_wire.specs.LineTexts.{count, or_null};
 ghost use Rattle.casa_wire.specs.Parts.{part_text};
@@ -72,19 +72,34 @@ pub fn since_text(
     requires { position + length entries.now < 2 ^ 64 }
     ensures { IfOk result (λ text. text.items ≡ since_text position entries.now) }
 {
-    let news = news_behind(alloc, position, entries)?;
     let mut text = Vec::new(alloc);
+    push_since(alloc, &mut text, position, entries)?;
+    Ok(text)
+}
+
+/// Writes what came of entries, as of `since_text`, behind the bytes that stand there. `AllocError` where there is no memory
+/// for it; some of it may then stand there.
+pub(crate) fn push_since(
+    alloc: Global,
+    out: &mut Vec<u8>,
+    position: usize,
+    entries: &[SharedEntry<Call, Reply>],
+) -> Result<(), AllocError>
+    requires { position + length entries.now < 2 ^ 64 }
+    ensures { OnOk result (out.new.items ≡ out.old.items ++ since_text position entries.now) }
+{
+    let news = news_behind(alloc, position, entries)?;
     push_parts(
-        &mut text,
+        out,
         &[
             Part::Text(b"{\"n\":"),
             Part::Number((position + entries.len()) as u64),
             Part::Text(b",\"news\":"),
         ],
     )?;
-    push_array(&mut text, news.as_slice())?;
-    push_text(&mut text, b"}")?;
-    Ok(text)
+    push_array(out, news.as_slice())?;
+    push_text(out, b"}")?;
+    Ok(())
 }
 
 /// What came of these entries, which stand behind this position.

@@ -57,8 +57,23 @@ pub fn state_text(
     ensures { IfOk result (λ text. text.items ≡ state_text calls clock regulations.now) }
 {
     let mut text = Vec::with_capacity(alloc, room_for(regulations.len()))?;
+    push_state(&mut text, calls, clock, regulations)?;
+    Ok(text)
+}
+
+/// Writes a state, as of `state_text`, behind the bytes that stand there. `AllocError` where there is no memory for it; some
+/// of it may then stand there.
+pub(crate) fn push_state(
+    out: &mut Vec<u8>,
+    calls: usize,
+    clock: Moment,
+    regulations: &[OpenRegulation],
+) -> Result<(), AllocError>
+    ensures { OnOk result (out.new.items
+        ≡ out.old.items ++ state_text calls clock regulations.now) }
+{
     push_parts(
-        &mut text,
+        out,
         &[
             Part::Text(b"{\"clock\":"),
             Part::Number(clock.secs() as u64),
@@ -67,9 +82,9 @@ pub fn state_text(
             Part::Text(b",\"regs\":"),
         ],
     )?;
-    push_array(&mut text, regulations)?;
-    push_text(&mut text, b"}")?;
-    Ok(text)
+    push_array(out, regulations)?;
+    push_text(out, b"}")?;
+    Ok(())
 }
 
 /// About how many bytes a state with so many regulations takes.
