@@ -294,7 +294,7 @@ const want=new URLSearchParams(location.search);
 if(want.get("step"))step=+want.get("step");
 /* What stands at the end of the page is drawn as it is; where nothing does, the page asks the casa that served it, once a second. */
 addEventListener("DOMContentLoaded",()=>{
-if(typeof RECORDED!=="undefined"){S.day=RECORDED.day;takeState(RECORDED.state);RECORDED.lists.forEach(takeList);takeNews(RECORDED.since);flightsOfLists();(RECORDED.flights||[]).forEach(takeFlight);
+if(typeof RECORDED!=="undefined"){S.day=RECORDED.day;takeState(RECORDED.state);for(const list of RECORDED.lists)takeList({list});takeNews(RECORDED.since);flightsOfLists();(RECORDED.flights||[]).forEach(takeFlight);
   $("dot").className="dot rec";$("live").textContent="as after call "+S.n;reg=want.get("reg")||costliest();key=want.get("key")||longestWait();draw()}
 else{
   const get=async path=>{const r=await fetch(path);if(!r.ok)throw new Error(r.status);return r.json()};
