@@ -1,8 +1,10 @@
 -- the moments of a session
 use Rattle.std.specs.Prelude.{ℕ, List, Option, Result}
+use Rattle.casa_wire.specs.Commands.{line_call}
 use Rattle.casa_session.specs.declared.fault.SessionFault.{SessionFault}
 use Rattle.casa_session.specs.declared.replies.Replies.{Replies}
 use Rattle.casa_session.specs.Receipts.{Receipts}
+use Rattle.casa_session.specs.Replies.{Answers, Fails}
 use Rattle.casa_session.specs.Transcript.{Ends}
 
 -- what a session starts with: what there is to read, the desk's receipts, and what was written
@@ -18,6 +20,7 @@ pub record Moment : Type 0 where
   pub output : Option (List ℕ)
   pub replies : Replies
 
+-- the first moment: nothing was read, answered or written since the start
 abbrev pub first_moment : Start → Replies → Moment
 first_moment start replies = record {
   left = start.input;
@@ -26,7 +29,17 @@ first_moment start replies = record {
   replies = replies;
 }
 
--- the session ends rightly by this result at this moment
+-- from one moment to the next a line was answered, and its text gathered
+abbrev pub IsAnswered : List ℕ → (now next : Moment) → Type 0
+IsAnswered line now next =
+    Answers (line_call line) now.receipts next.receipts now.replies next.replies now.output next.output
+
+-- from one moment to the next this fault came instead of the reply to a line
+abbrev pub IsFailed : (foreign : Type 0) → SessionFault → List ℕ → (now next : Moment) → Type 0
+IsFailed foreign fault line now next =
+    Fails foreign fault (line_call line) now.receipts next.receipts now.replies now.output next.output
+
+-- a session ends rightly by this result at this moment
 abbrev pub EndsAt : (foreign : Type 0) → Result ℕ SessionFault → Start → Moment → Type 0
 EndsAt foreign result start now =
     Ends foreign result (record {

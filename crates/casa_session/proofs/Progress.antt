@@ -1,5 +1,6 @@
 -- how far a session has come: which lines were answered, and how much of their transcript was written
-use Rattle.std.proofs.Common.{◌≡◌, ℕ, ◌+◌, List, [], ◌∷◌, ◌++◌, length, take, true, false, Option, refl, sym, ap, ◌∙◌, subst, append-nil, append_assoc, length-append, arith, inl, inr}
+use Rattle.std.proofs.Common.{◌≡◌, ℕ, ◌+◌, List, [], ◌∷◌, ◌++◌, length, take, true, false, Option, None, Some, refl, sym, ap, ◌∙◌, subst, append-nil, append_assoc, length-append, arith, inl, inr}
+use Rattle.std.specs.Prelude.{IfSome, ◌⊎◌}
 use Rattle.std.specs.Io.KnownBytes.{Appends}
 use Rattle.std.proofs.KnownBytes.{Appends-nil, Appends-trans}
 use Rattle.std.proofs.Math.Seq.{take-append-add}
@@ -7,16 +8,21 @@ use Rattle.casa_session.specs.Sending.{saturating_count}
 use Rattle.casa_wire.specs.Commands.{line_call}
 use Rattle.casa_wire.specs.LineTexts.{too_long_line}
 use Rattle.casa_session.specs.declared.replies.Replies.{Replies}
-use Rattle.casa_session.specs.Lines.{is_too_long, has_too_long}
-use Rattle.casa_session.specs.Replies.{Answers, CutText, MayReply}
+use Rattle.casa_session.specs.Lines.{lines_of, is_too_long, has_too_long}
+use Rattle.casa_session.specs.Replies.{CutText, MayReply}
 use Rattle.casa_session.specs.Receipts.{Receipts}
 use Rattle.casa_session.specs.Transcript.{calls_of, calls, transcript, AnswersLines, Cut, Stopped}
-use Rattle.casa_session.proofs.Moments.{Start, Moment, first_moment}
+use Rattle.casa_session.proofs.Moments.{Start, Moment, first_moment, IsAnswered}
 use Rattle.casa_session.proofs.Splitting.{has_too_long-append}
 use Rattle.casa_session.proofs.Transcripts.{called-append, grown, one_call, one_line, transcript-append}
 
--- by now these lines were answered; of their transcript what is gathered is left, and the part before it was written
+-- the lines of the input begin with these
+abbrev pub AreFirst : Option (List ℕ) → List (List ℕ) → Type 0
+AreFirst input lines = IfSome input (λ xs. (rest : List (List ℕ)) × (lines_of xs ≡ lines ++ rest))
+
+-- by now these first lines were answered; of their transcript what is gathered is left, and all before it was written
 pub record Progress (start : Start) (now : Moment) (done : List (List ℕ)) : Type 0 where
+  pub first : AreFirst start.input done
   pub short : has_too_long done ≡ false
   pub receipts : Receipts
   pub grows : now.receipts ≡ start.receipts ++ receipts
@@ -33,9 +39,15 @@ pub record Writes (now next : Moment) : Type 0 where
   pub none : next.replies.bytes.items ≡ []
   pub count : next.replies.written ≡ saturating_count (now.replies.written + length now.replies.bytes.items)
 
+none_first : (input : Option (List ℕ)) → AreFirst input []
+none_first None = tt
+none_first (Some xs) = (lines_of xs, refl)
+
+-- at the first moment no line was answered
 pub no_progress : (start : Start) (replies : Replies) → replies.bytes.items ≡ [] → replies.written ≡ 0
     → Progress start (first_moment start replies) []
 no_progress start replies none zero = record {
+  first = none_first start.input;
   short = refl;
   receipts = [];
   grows = sym (append-nil start.receipts);
@@ -49,16 +61,19 @@ no_progress start replies none zero = record {
 module _ {start : Start} {now : Moment} {done : List (List ℕ)} (p : Progress start now done) where
   -- the transcript goes on with that of more lines
   transcript_more : (receipts : Receipts) (more : List (List ℕ))
-      → transcript (p.receipts ++ receipts) (done ++ more) ≡ p.sent ++ (now.replies.bytes.items ++ transcript receipts more)
+      → transcript (p.receipts ++ receipts) (done ++ more)
+      ≡ p.sent ++ (now.replies.bytes.items ++ transcript receipts more)
   transcript_more receipts more =
       transcript-append p.receipts receipts done more p.short p.called
       ∙ ap (λ l. l ++ transcript receipts more) p.split
       ∙ append_assoc p.sent now.replies.bytes.items (transcript receipts more)
 
+  -- what is gathered is written
   pub progress_written : (next : Moment) → Writes now next → Progress start next done
   progress_written next w =
       let bytes : List ℕ = now.replies.bytes.items in
       record {
+        first = p.first;
         short = p.short;
         receipts = p.receipts;
         grows = w.same ∙ p.grows;
@@ -71,16 +86,17 @@ module _ {start : Start} {now : Moment} {done : List (List ℕ)} (p : Progress s
 
   -- one line more is answered
   pub progress_line : (next : Moment) (line : List ℕ) → is_too_long line ≡ false
-      → Answers (line_call line) now.receipts next.receipts now.replies next.replies now.output next.output
-      → Progress start next (done ++ line ∷ [])
-  progress_line next line short (text, q, g) =
+      → AreFirst start.input (done ++ line ∷ []) → IsAnswered line now next → Progress start next (done ++ line ∷ [])
+  progress_line next line short first (text, q, g) =
       let text_is : transcript q.receipts (line ∷ []) ≡ text = one_line line q.receipts short ∙ sym q.answer in
       record {
+        first = first;
         short = has_too_long-append done (line ∷ []) p.short ∙ rw short refl;
         receipts = p.receipts ++ q.receipts;
         grows = grown start.receipts now.receipts next.receipts p.receipts q.receipts p.grows q.grows;
         called =
-            called-append p.receipts q.receipts done (line ∷ []) p.short p.called (q.called ∙ sym (one_call line short));
+            called-append p.receipts q.receipts done (line ∷ []) p.short p.called
+            (q.called ∙ sym (one_call line short));
         sent = p.sent ++ g.sent;
         split =
             transcript_more q.receipts (line ∷ [])
@@ -149,24 +165,21 @@ module _ {start : Start} {now : Moment} {done : List (List ℕ)} (p : Progress s
     rw same (cut_done next.output (subst (λ (t : List ℕ). CutText t now.replies n now.output next.output) none cut)),
   )
 
-  all_written : (output : Option (List ℕ)) → Appends now.output output now.replies.bytes.items
-      → Appends start.output output (transcript p.receipts done)
-  all_written output sent =
-      subst (Appends start.output output) (sym p.split)
-      (Appends-trans start.output now.output output p.sent now.replies.bytes.items p.written sent)
-
-  -- all was written, and no line answered after that
-  pub stopped_between : (next : Moment) (left : List (List ℕ)) → next.receipts ≡ now.receipts
+  -- all was written, and perhaps the next line answered
+  pub stopped_after : (next : Moment) (left : List (List ℕ)) (last : Receipts) → next.receipts ≡ now.receipts ++ last
+      → (last ≡ []) ⊎ (calls_of last ≡ calls (take 1 left))
       → Appends now.output next.output now.replies.bytes.items
       → Stopped start.receipts next.receipts start.output next.output done left
-  stopped_between next left same sent = record {
+  stopped_after next left last grows of_next sent = record {
     short = p.short;
     receipts = p.receipts;
-    last = [];
-    of_next = inl refl;
-    grows = same ∙ p.grows ∙ sym (append-nil (start.receipts ++ p.receipts));
+    last = last;
+    of_next = of_next;
+    grows = grows ∙ ap (λ rs. rs ++ last) p.grows;
     called = p.called;
-    written = all_written next.output sent;
+    written =
+        subst (Appends start.output next.output) (sym p.split)
+        (Appends-trans start.output now.output next.output p.sent now.replies.bytes.items p.written sent);
   }
 
   -- all was written before a line that has no reply
@@ -174,16 +187,10 @@ module _ {start : Start} {now : Moment} {done : List (List ℕ)} (p : Progress s
       → MayReply now.receipts next.receipts (line_call line) text
       → Appends now.output next.output now.replies.bytes.items
       → Stopped start.receipts next.receipts start.output next.output done (line ∷ rest)
-  stopped next line rest short (inl q) sent = record {
-    short = p.short;
-    receipts = p.receipts;
-    last = q.receipts;
-    of_next = inr (q.called ∙ sym (one_call line short));
-    grows = q.grows ∙ ap (λ l. l ++ q.receipts) p.grows;
-    called = p.called;
-    written = all_written next.output sent;
-  }
-  stopped next line rest short (inr (same, none)) sent = stopped_between next (line ∷ rest) same sent
+  stopped next line rest short (inl q) sent =
+      stopped_after next (line ∷ rest) q.receipts q.grows (inr (q.called ∙ sym (one_call line short))) sent
+  stopped next line rest short (inr (same, none)) sent =
+      stopped_after next (line ∷ rest) [] (same ∙ sym (append-nil now.receipts)) (inl refl) sent
 
   -- all was written, and the text for a line that is too long
   pub too_long_written : (output : Option (List ℕ)) (first : List ℕ) (tail : List (List ℕ)) → is_too_long first ≡ true

@@ -1,46 +1,48 @@
-use Rattle.std.proofs.Common.{◌≡◌, ℕ, ◌+◌, ◌<◌, List, [], ◌∷◌, length, arith, refl}
+use Rattle.std.proofs.Common.{◌≡◌, ℕ, ◌+◌, ◌<◌, List, [], ◌∷◌, length, arith, refl, sym, ◌∙◌, append-nil}
 use Rattle.std.proofs.lemmas.Grind.{common_steps}
 use Rattle.std.specs.Io.KnownBytes.{Consumes}
 use Rattle.casa_session.specs.LineReader.{pending}
-use Rattle.casa_session.proofs.Endings.{Finished, ends_at_last, ends_at_line, ends_between, ends_finished, ends_too_long, ends_unfinished, ends_unread, ends_without_memory, finished, finished_last, finished_written}
-use Rattle.casa_session.proofs.Runs.{Between, after_line, after_read, begins, line_ended, line_goes_on, passed_on}
+use Rattle.casa_session.proofs.Endings.{Finished, ends_at_last, ends_at_line, ends_finished, ends_too_long, ends_unread, ends_unwritten, ends_without_memory, finished, finished_last, finished_written}
+use Rattle.casa_session.proofs.Moments.{Start}
+use Rattle.casa_session.proofs.Runs.{Between, after_line, after_read, begins, part_moved, passed_on}
 use Rattle.casa_session.proofs.session.run.Given.{Over}
 use Rattle.casa_session.proofs.session.run.Invariants.{start, moment}
 use Rattle.casa_session.proofs.session.run.Goals.{After-read, In-Ok-true, In_ok-answer-in-End}
 use Rattle.casa_session.proofs.session.run.Goals as goal
 
--- the part that was taken ended the line: its LF comes next
+-- where a part was taken that an LF ends, the line is whole and that LF is the next byte
 ended : (g : Over) (c : In-Ok-true g) → Between (start g c.args.reader.now c.args.desk.now c.args.writer.now)
     (moment g c.lines.reader c.lines.desk c.lines.writer c.lines.replies)
     c.lines.count c.take_part.new.line.items (10 ∷ pending c.take_part.new.self)
 ended g c =
-    line_ended c.lines.invariant.between _ c.take_part.new.line.items (pending c.take_part.new.self)
-    c.in-Ok-true.field-0-test c.in-Ok-true.ensures.ok c.in-Ok-true.ensures.short
+    let moved = rw c.in-Ok-true.field-0-test at (c.in-Ok-true.ensures.ok) in
+    part_moved c.lines.invariant.between _ _ moved c.in-Ok-true.ensures.short
 
--- the line goes on: all that was gathered was written, and a read gave this chunk
+-- where no LF was pending, all of it went to the line, all that was gathered was written, and then a chunk was read
 read_on : (g : Over) (c : After-read g) (chunk : List ℕ)
     → Consumes (g.R.Read.remaining c.lines.reader) (g.R.Read.remaining c.read.new.source) chunk
     → Between (start g c.args.reader.now c.args.desk.now c.args.writer.now)
     (moment g c.read.new.source c.lines.desk c.write.new.writer c.write.new.self)
     c.lines.count c.take_part.new.line.items chunk
 read_on g c chunk given =
-    let goes_on = line_goes_on c.lines.invariant.between _ c.take_part.new.line.items (pending c.take_part.new.self)
-    c.in-Ok-false.field-0-test c.in-Ok-false.ensures.ok c.in-Ok-false.ensures.short in
+    let (part, no_lf, all, joined) = rw c.in-Ok-false.field-0-test at (c.in-Ok-false.ensures.ok) in
+    let whole = all.0 ∙ sym (append-nil part) in
+    let moved = part_moved c.lines.invariant.between [] _ (part, no_lf, whole, joined) c.in-Ok-false.ensures.short in
     let written = c.in_ok-write-in-Ok-false.ensures in
-    after_read chunk goes_on (record { same = refl; written = written.ok; none = written.none; count = written.count }) given
+    after_read moved _ chunk
+    (record { same = refl; written = written.ok; none = written.none; count = written.count }) given
 
 -- the last line, which no LF ended, was answered
-last_answered : (g : Over) (c : In_ok-answer-in-End g)
-    → Between (start g c.args.reader.now c.args.desk.now c.args.writer.now)
-    (moment g c.read.new.source c.lines.desk c.write.new.writer c.write.new.self)
+last_answered : {from : Start} (g : Over) (c : In_ok-answer-in-End g)
+    → Between from (moment g c.read.new.source c.lines.desk c.write.new.writer c.write.new.self)
     c.lines.count c.take_part.new.line.items []
-    → Finished (start g c.args.reader.now c.args.desk.now c.args.writer.now)
+    → Finished from
     (moment g c.read.new.source c.answer-in-End.new.desk c.answer-in-End.new.writer c.answer-in-End.new.self)
     (c.lines.count + 1)
 last_answered g c between =
     let some : 0 < length c.take_part.new.line.items = grind (arith, common_steps) in
     let answers = rw c.deref-in-End.ensures.value at (c.in_ok-answer-in-End.ensures.ok) in
-    finished_last between _ c.in-End.ensures.given.1 some answers
+    finished_last between c.in-End.ensures.given.1 some _ answers
 
 pub lines-init : goal.lines-init
 lines-init g c = record {
@@ -56,7 +58,7 @@ returns-in_err-answer-in-Ok-true-clause-ends g c =
     let now = moment g c.lines.reader c.answer.new.desk c.answer.new.writer c.answer.new.self in
     let fails = rw c.deref.ensures.value at (c.in_err-answer-in-Ok-true.ensures.err) in
     rw (passed_on c.from_residual.result c.from_residual.ensures)
-    (ends_at_line (ended g steps.In-Ok-true) g.D.Desk.may_be_foreign c.in_err-answer-in-Ok-true.field-0.0 now fails)
+    (ends_at_line (ended g steps.In-Ok-true) g.D.Desk.may_be_foreign _ now fails)
 
 pub lines-preserved-in-Ok-true : goal.lines-preserved-in-Ok-true
 lines-preserved-in-Ok-true g c =
@@ -64,7 +66,7 @@ lines-preserved-in-Ok-true g c =
     let answers = rw c.deref.ensures.value at (c.in_ok-answer-in-Ok-true.ensures.ok) in
     let fewer = c.in-Ok-true.ensures.fewer c.in-Ok-true.field-0-test in
     record {
-      between = after_line c.clear.new.self.items (ended g steps.In-Ok-true) refl c.clear.ensures.items answers;
+      between = after_line (ended g steps.In-Ok-true) _ c.clear.new.self.items refl c.clear.ensures.items answers;
       few = omega (arith, fewer, c.lines.invariant.few);
     }
 
@@ -73,7 +75,8 @@ returns-in_err-write-in-Ok-false-clause-ends g c =
     let output = g.W.Write.contents c.write.new.writer in
     let failed = c.from_residual-in_err-write-in-Ok-false in
     rw (passed_on failed.result failed.ensures)
-    (ends_between c.lines.invariant.between g.D.Desk.may_be_foreign _ output c.in_err-write-in-Ok-false.ensures.err)
+    (ends_unwritten c.lines.invariant.between.progress g.D.Desk.may_be_foreign _ output
+    c.in_err-write-in-Ok-false.ensures.err)
 
 pub lines-preserved : goal.lines-preserved
 lines-preserved g c =
@@ -98,7 +101,7 @@ returns-in-Err-LineTooLong-clause-ends g c =
 
 pub returns-in-Err-NoMemory-clause-ends : goal.returns-in-Err-NoMemory-clause-ends
 returns-in-Err-NoMemory-clause-ends g c =
-    ends_without_memory c.lines.invariant.between g.D.Desk.may_be_foreign c.end.result
+    ends_without_memory c.lines.invariant.between.progress g.D.Desk.may_be_foreign c.end.result
     (g.W.Write.contents c.end.new.writer) c.end.ensures
 
 pub returns-in_err-answer-in-End-clause-ends : goal.returns-in_err-answer-in-End-clause-ends
@@ -110,7 +113,7 @@ returns-in_err-answer-in-End-clause-ends g c =
     let fails = rw c.deref-in-End.ensures.value at (c.in_err-answer-in-End.ensures.err) in
     let failed = c.from_residual-in_err-answer-in-End in
     rw (passed_on failed.result failed.ensures)
-    (ends_at_last between g.D.Desk.may_be_foreign c.in_err-answer-in-End.field-0.0 now c.in-End.ensures.given.1 some fails)
+    (ends_at_last between c.in-End.ensures.given.1 some g.D.Desk.may_be_foreign _ now fails)
 
 pub returns-in_err-write-in-End-clause-ends : goal.returns-in_err-write-in-End-clause-ends
 returns-in_err-write-in-End-clause-ends g c =
@@ -119,7 +122,7 @@ returns-in_err-write-in-End-clause-ends g c =
     let output = g.W.Write.contents c.write-in-End.new.writer in
     let failed = c.from_residual-in_err-write-in-End in
     rw (passed_on failed.result failed.ensures)
-    (ends_unfinished last g.D.Desk.may_be_foreign c.in_err-write-in-End.field-0.0 output c.in_err-write-in-End.ensures.err)
+    (ends_unwritten last.progress g.D.Desk.may_be_foreign _ output c.in_err-write-in-End.ensures.err)
 
 pub returns-in-End-clause-ends : goal.returns-in-End-clause-ends
 returns-in-End-clause-ends g c =
