@@ -26,7 +26,8 @@ next_entry_at history e {now} {position} at is =
 
 -- what is found at the next position is the entry behind the history
 pub entry_found : {C R : Type 0} → (history : List (Entry C R)) (e : Entry C R) {now : List (Entry C R)} {position : ℕ}
-    {found : Entry C R} → position ≡ length history + 1 → now ≡ history ++ e ∷ [] → Some found ≡ entry_at position now → found ≡ e
+    {found : Entry C R} → position ≡ length history + 1 → now ≡ history ++ e ∷ [] → Some found ≡ entry_at position now
+    → found ≡ e
 entry_found history e {found = found} at is there = same_Some found e (there ∙ next_entry_at history e at is)
 
 -- a line that does not vouch for the sequential reply does not vouch for that of a board

@@ -35,7 +35,8 @@ module _ {S D : Type 0} (script : ScriptOf S Call Reply) (T : TapeOf D) where
       subst (λ (ts : List (Told D)). Grows a.journal.told.items ts) (sym goes.1.told) (grows_not a.journal.told.items)
   told_step (Tell position) a b goes = (goes.1.now.now, goes.1.now.behind)
 
-  told_on : (es : List (DayEvent Call)) (a b : Stage D) → GoOn script T es a b → Grows a.journal.told.items b.journal.told.items
+  told_on : (es : List (DayEvent Call)) (a b : Stage D) → GoOn script T es a b
+      → Grows a.journal.told.items b.journal.told.items
   told_on [] a b is =
       subst (λ (c : Stage D). Grows a.journal.told.items c.journal.told.items) is (grows_not a.journal.told.items)
   told_on (e ∷ es) a b on =
@@ -43,21 +44,24 @@ module _ {S D : Type 0} (script : ScriptOf S Call Reply) (T : TapeOf D) where
       (told_step e a on.0 on.1) (told_on es on.0 b on.2)
 
 -- whenever a life was cut short that went on like this, it was left by one of those that follow one another
-module _ {S D B : Type 0} {script : ScriptOf S Call Reply} {T : TapeOf D} {first : List (Entry Call Reply)} {deeds : List (Event Call)}
-    {opening journal : Journal D} {events : List (DayEvent Call)} {end : Result (Played B Call Reply) DayFault}
+module _ {S D B : Type 0} {script : ScriptOf S Call Reply} {T : TapeOf D} {first : List (Entry Call Reply)}
+    {deeds : List (Event Call)} {opening journal : Journal D} {events : List (DayEvent Call)} {end : Result (Played B Call Reply) DayFault}
     (w : HasGoneOn script T first (record { deeds = deeds; journal = opening }) events end journal) where
-  pub is_life : {W V G : Type 0} → (world : WorldOf W Call V G Reply) (found : List ℕ) → Say script 1 (whole_lines found) first
-      → IsBegun opening.tape (length first) opening → IsLegal world.after world.reply world.opening w.history
+  pub is_life : {W V G : Type 0} → (world : WorldOf W Call V G Reply) (found : List ℕ)
+      → Say script 1 (whole_lines found) first → IsBegun opening.tape (length first) opening → IsLegal world.after world.reply world.opening w.history
       → ((t u : ℕ) (c : List ℕ) → t ≤ u → T.left_since journal.tape u c → T.left_since journal.tape t c)
       → (moment : ℕ) (left : List ℕ) → WasOpen T journal moment → T.left_since journal.tape moment left
-      → IsLived script world found (record { history = w.history; at_opening = length first; told = told_by T journal moment }) left
+      → IsLived script world found
+      (record { history = w.history; at_opening = length first; told = told_by T journal moment }) left
   is_life world found said begun legal earlier moment left was_open since =
       let more = told_on script T (take w.happened events) (record { deeds = deeds; journal = opening }) w.last w.goes_on in
       let split : journal.told.items ≡ begun.opening ∷ more.0 = w.told ∙ more.1 ∙ ap (λ ts. ts ++ more.0) begun.alone in
       let kept : IsKept script T w.history journal.tape begun.opening =
       (subst (AllByRecursion (IsKept script T w.history journal.tape)) split w.safe).0 in
-      let same : was_open.opening ≡ begun.opening = ap (λ ts. slice_index_or ts 0 was_open.opening) (sym was_open.first ∙ split) in
-      let by : T.moment begun.opening.at.value ≤ moment = subst (λ (t : Told D). T.moment t.at.value ≤ moment) same was_open.by in
+      let same : was_open.opening ≡ begun.opening =
+      ap (λ ts. slice_index_or ts 0 was_open.opening) (sym was_open.first ∙ split) in
+      let by : T.moment begun.opening.at.value ≤ moment =
+      subst (λ (t : Told D). T.moment t.at.value ≤ moment) same was_open.by in
       record {
         legal = legal;
         within = omega (arith, ap (λ es. length es) w.begins.1, length-append first w.begins.0);

@@ -30,7 +30,8 @@ pub legal : (history : Entries) → IsSequential history → IsLegal after (λ s
 legal history is k e at = is k e at ∙ ap (λ m. reply m e.call) (sym (state_replayed (take k history)))
 
 -- and so are its first entries
-pub legal_take : (count : ℕ) (history : Entries) → IsSequential history → IsLegal after (λ s call. reply s.state call) opening (take count history)
+pub legal_take : (count : ℕ) (history : Entries) → IsSequential history
+    → IsLegal after (λ s call. reply s.state call) opening (take count history)
 legal_take count history is = right_take after (λ s call. reply s.state call) count 1 opening history (legal history is)
 
 pub sequential_run : (events : List (Event Call)) (history : Entries) (outcomes : ℕ → Option Outcome)

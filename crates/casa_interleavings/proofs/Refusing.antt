@@ -1,6 +1,7 @@
 -- how an opening fails
-use Rattle.std.proofs.Common.{◌≡◌, Result, Err, refl, subst}
-use Rattle.std.specs.Prelude.{IsErrOf}
+use Rattle.std.proofs.Common.{◌≡◌, Result, Err, refl, ap, subst, ◌∙◌}
+use Rattle.std.specs.Prelude.{IsErrOf, IsErrAnd}
+use Rattle.std.proofs.lemmas.Result.{err_from_is_err_and}
 use Rattle.casa_tape.specs.declared.tape.TapeError.{TapeError}
 use Rattle.casa_tape.specs.declared.tape.TapeError.TheVariants as tape
 use Rattle.casa_day.specs.declared.event.OpenFault.{OpenFault}
@@ -12,6 +13,10 @@ use Rattle.casa_day.specs.Refusals.{IsOfLines}
 pub not_of_lines : (e : TapeError) → IsOfLines (open_fault e) → ⊥
 not_of_lines tape.NoMemory of = of
 not_of_lines tape.Failed of = of
+
+-- a fault that is passed on
+pub passed_on : {A E : Type 0} {fault : E} (r : Result A E) → IsErrAnd r (λ e. e ≡ fault) → r ≡ Err fault
+passed_on r is = let p = err_from_is_err_and r is in p.1 ∙ ap (λ e. Err e) p.2
 
 -- a result that is an error
 abbrev pub failed : {A E : Type 0} → E → Result A E

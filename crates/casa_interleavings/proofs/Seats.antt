@@ -28,13 +28,15 @@ module _ {C R V P : Type 0} where
 
   -- with one more such desk, fresh desks are fresh
   pub fresh_push : (number : ℕ) (ds : List (Desk C R V P)) (pass : Pass C R) → AreFresh number ds
-      → desk_of pass ≡ length ds → number_of pass ≡ number → receipts pass ≡ [] → AreFresh number (ds ++ fresh_desk pass ∷ [])
+      → desk_of pass ≡ length ds → number_of pass ≡ number → receipts pass ≡ []
+      → AreFresh number (ds ++ fresh_desk pass ∷ [])
   fresh_push number ds pass fresh desk numbered none w d at =
       elim (at_push ds (fresh_desk pass) w d at) [
         | inl before ↦ fresh w d before
         | inr last ↦
             subst (λ (x : Desk C R V P).
-            (desk_of x.pass ≡ w) × (number_of x.pass ≡ number) × (receipts x.pass ≡ []) × (x.held ≡ Nothing) × (x.outcome ≡ None))
+            (desk_of x.pass ≡ w) × (number_of x.pass ≡ number) × (receipts x.pass ≡ [])
+            × (x.held ≡ Nothing) × (x.outcome ≡ None))
             (sym last.1) (desk ∙ sym last.0, numbered, none, refl, refl)
       ]
 
@@ -45,8 +47,8 @@ DeskOf {W} {C} {V} {D} {R} world = Desk C R V (Prepared W C V D R world)
 module _ {W C V D R : Type 0} (world : WorldOf W C V D R) (stamped : StampedOf W C V D R) where
   module _ (room : Room W C V D R world) where
     -- fresh desks of a room without entries stand for the opening scene
-    pub fresh_scene : (ds : List (DeskOf world)) → length ds ≡ open_desks room → entries_of room ≡ [] → AreFresh (room_number room) ds
-        → IsRoomScene world stamped room ds opening_scene
+    pub fresh_scene : (ds : List (DeskOf world)) → length ds ≡ open_desks room → entries_of room ≡ []
+        → AreFresh (room_number room) ds → IsRoomScene world stamped room ds opening_scene
     fresh_scene ds all empty fresh = (
       sym empty,
       (λ w d at.
@@ -73,7 +75,8 @@ module _ {W C V D R : Type 0} (world : WorldOf W C V D R) (stamped : StampedOf W
           was.0,
           was.1,
           holds_for IsView IsAnswer world.is_for (λ c before v is. is.0) d.held hand was.2.0,
-          holds_of IsView IsAnswer (λ p. world.is_of (view_of p) (world_of room)) (λ c before p is. is.1) d.held hand was.2.0,
+          holds_of IsView IsAnswer (λ p. world.is_of (view_of p) (world_of room)) (λ c before p is. is.1)
+              d.held hand was.2.0,
         )
 
   module _ (room room' : Room W C V D R world) where
@@ -85,7 +88,8 @@ module _ {W C V D R : Type 0} (world : WorldOf W C V D R) (stamped : StampedOf W
       pub stands : IsRoomWorker world stamped room' d' (n.workers w)
       pub others : (v : ℕ) → v ≢ w → n.workers v ≡ m.workers v
       pub admits : (p : Pass C R) → desk_of p ≢ desk_of d.pass → Admits room p → Admits room' p
-      pub stay : (y : DeskOf world) (x : Worker C R) → IsRoomWorker world stamped room y x → IsRoomWorker world stamped room' y x
+      pub stay : (y : DeskOf world) (x : Worker C R) → IsRoomWorker world stamped room y x
+          → IsRoomWorker world stamped room' y x
 
     -- a desk of the changed room is a worker's, and stands for it
     abbrev IsOf : Scene C R → ℕ → DeskOf world → Type 0

@@ -51,7 +51,7 @@ turn_made w c es reads computes commits =
     ∙ append_assoc es (Read w c ∷ Compute w ∷ []) (Commit w ∷ [])
 
 -- the run of the journal's calls, with one call more
-module _ {B : Type 0} (run next : Played B Call Reply) (c : Call) (was : IsAgain run)
+module _ {B : Type 0} {run : Played B Call Reply} (next : Played B Call Reply) (c : Call) (was : IsAgain run)
     (more : run_events next ≡ run_events run ++ turn 0 c) (is : IsBoardRun next) where
   -- the call stands behind the history, with its sequential reply
   pub answered_history : run_history next ≡ run_history run ++ entry 0 c (sequential_reply (run_history run) c) ∷ []

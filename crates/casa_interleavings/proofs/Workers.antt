@@ -58,13 +58,14 @@ module _ {C R : Type 0} (reply : List (Entry C R) → C → R)
       )
 
   -- what is told of a commit, in the words of the room, is what happens in the scene
-  pub handed : {v w : ℕ} {d c : C} {r : R} {es : List (Entry C R)} (before fs : List (Entry C R)) (outcome : Outcome) (m : Scene C R)
-      → v ≡ w → d ≡ c → r ≡ reply before c → m.history ≡ es
+  pub handed : {v w : ℕ} {d c : C} {r : R} {es : List (Entry C R)} (before fs : List (Entry C R)) (outcome : Outcome)
+      (m : Scene C R) → v ≡ w → d ≡ c → r ≡ reply before c → m.history ≡ es
       → IsOutcomeOfCommit (IsUnmoved before d es) outcome es (entry v d r) fs
       → (n : Scene C R) × Commits reply IsUnmoved w (answer c before) m n × (n.history ≡ fs)
       × (n.workers w ≡ worker_after outcome) × ((v : ℕ) → v ≢ w → n.workers v ≡ m.workers v)
   handed {w = w} {c = c} before fs outcome m sits call says history told =
       came w c before fs outcome m
       (subst (λ (X : Type 0). X)
-      (λ i. IsOutcomeOfCommit (IsUnmoved before (call i) (sym history i)) outcome (sym history i) (entry (sits i) (call i) (says i)) fs)
+      (λ i. IsOutcomeOfCommit (IsUnmoved before (call i) (sym history i)) outcome (sym history i)
+      (entry (sits i) (call i) (says i)) fs)
       told)

@@ -19,8 +19,8 @@ pub loop-preserved : goal.loop-preserved
 loop-preserved g c =
     let inv = c.loop.invariant in
     let en = c.in-Ok.ensures in
-    let desk : desk_of c.in-Ok.pass ≡ length c.loop.desks.items = omega (arith, en.pass.1, inv.opened, inv.counted, c.loop.desks.ok.0) in
     let ds = c.loop.desks.items in
+    let desk : desk_of c.in-Ok.pass ≡ length ds = omega (arith, en.pass.1, inv.opened, inv.counted, c.loop.desks.ok.0) in
     record {
       counted = search rules;
       opened = search rules;

@@ -12,7 +12,8 @@ use Rattle.casa_interleavings.proofs.living.happen.Goals as goal
 pub returns-in_ok-next-in-Do-clause-going : goal.returns-in_ok-next-in-Do-clause-going
 returns-in_ok-next-in-Do-clause-going g c =
     let next = c.in_ok-next-in-Do in
-    next_goes c.args.run next.next _ g.S.Script g.T.Tape c.args.journal.now c.requires next.ensures.run next.ensures.events
+    next_goes c.requires next.ensures.run
+    (next_grows c.args.run next.next _ c.requires.is_run next.ensures.run next.ensures.events)
 
 pub returns-in_ok-next-in-Do-clause-grows : goal.returns-in_ok-next-in-Do-clause-grows
 returns-in_ok-next-in-Do-clause-grows g c =
@@ -23,7 +24,8 @@ pub returns-in_ok-next-in-Do-clause-course : goal.returns-in_ok-next-in-Do-claus
 returns-in_ok-next-in-Do-clause-course g c =
     let next = c.in_ok-next-in-Do in
     let journal = c.args.journal.now in
-    goes_by g.S.Script g.T.Tape (stage_of c.args.run journal) (stage_of next.next journal) c.in-Do.is (next.ensures.events, refl)
+    goes_by g.S.Script g.T.Tape (stage_of c.args.run journal) (stage_of next.next journal) c.in-Do.is
+    (next.ensures.events, refl)
 
 pub returns-in_ok-flush-in-Flush-clause-course : goal.returns-in_ok-flush-in-Flush-clause-course
 returns-in_ok-flush-in-Flush-clause-course g c =

@@ -23,5 +23,6 @@ returns-clause-lived g c xs held =
       any_moment = c.in_ok-run.ensures.any_moment;
       went_on = w;
       cut_short = is_life w _ xs opened.said opened.begun
-          (legal w.history (sequential_run w.last.deeds w.history w.outcomes w.is_run)) (g.met.T.Tape.since_earlier journal.tape);
+          (legal w.history (sequential_run w.last.deeds w.history w.outcomes w.is_run))
+          (g.met.T.Tape.since_earlier journal.tape);
     }

@@ -7,11 +7,11 @@ returns-clause-answered g c =
     let committed = c.in_ok-committed in
     let turn = turn_made 0 c.args.call (run_events c.args.run) c.in_ok-read.ensures.events c.in_ok-computed.ensures.events
     committed.ensures.events in
-    answered c.args.run committed.committed c.args.call c.requires.again turn committed.ensures.run
+    answered committed.committed c.args.call c.requires.again turn committed.ensures.run
 
 pub returns-clause-history : goal.returns-clause-history
 returns-clause-history g c =
     let committed = c.in_ok-committed in
     let turn = turn_made 0 c.args.call (run_events c.args.run) c.in_ok-read.ensures.events c.in_ok-computed.ensures.events
     committed.ensures.events in
-    answered_history c.args.run committed.committed c.args.call c.requires.again turn committed.ensures.run
+    answered_history committed.committed c.args.call c.requires.again turn committed.ensures.run

@@ -1,11 +1,10 @@
-use Rattle.std.proofs.Common.{◌≡◌, Err, ◌∙◌, ap, rules}
-use Rattle.std.proofs.lemmas.Result.{err_from_is_err_and}
+use Rattle.std.proofs.Common.{◌≡◌, Err, ap, rules}
 use Rattle.casa_tape.specs.Lines.{whole_lines}
 use Rattle.casa_tape.specs.Recovery.{lines_found}
 use Rattle.casa_tape.proofs.WholeLines.{parts}
 use Rattle.casa_day.specs.Faults.{open_fault}
 use Rattle.casa_day.proofs.Restoring.{if_err, refused_same, stands_on}
-use Rattle.casa_interleavings.proofs.Refusing.{not_of_lines, cause_of}
+use Rattle.casa_interleavings.proofs.Refusing.{not_of_lines, passed_on, cause_of}
 use Rattle.casa_interleavings.proofs.opening.reopen.Goals as goal
 
 pub returns-in_err-run-clause-refused : goal.returns-in_err-run-clause-refused
@@ -21,23 +20,19 @@ returns-in_err-run-clause-refused g c =
 pub returns-in_err-mend-clause-refused : goal.returns-in_err-mend-clause-refused
 returns-in_err-mend-clause-refused g c =
     let e = c.in_err-mend.field-0.0 in
-    let p = err_from_is_err_and c.from_residual-in_err-mend.result c.from_residual-in_err-mend.ensures.1 in
-    let is : c.from_residual-in_err-mend.result ≡ Err (open_fault e) = p.1 ∙ ap (λ f. Err f) p.2 in
-    if_err _ c.from_residual-in_err-mend.result (open_fault e) is (λ of. absurd (not_of_lines e of))
+    let residual = c.from_residual-in_err-mend in
+    if_err _ residual.result (open_fault e) (passed_on residual.result residual.ensures.1) (λ of. absurd (not_of_lines e of))
 
 pub returns-in_err-mend-clause-untouched : goal.returns-in_err-mend-clause-untouched
 returns-in_err-mend-clause-untouched g c =
     let e = c.in_err-mend.field-0.0 in
-    let p = err_from_is_err_and c.from_residual-in_err-mend.result c.from_residual-in_err-mend.ensures.1 in
-    let is : c.from_residual-in_err-mend.result ≡ Err (open_fault e) = p.1 ∙ ap (λ f. Err f) p.2 in
-    if_err _ c.from_residual-in_err-mend.result (open_fault e) is (λ of. absurd (not_of_lines e of))
+    let residual = c.from_residual-in_err-mend in
+    if_err _ residual.result (open_fault e) (passed_on residual.result residual.ensures.1) (λ of. absurd (not_of_lines e of))
 
 pub returns-in_err-mend-clause-cause : goal.returns-in_err-mend-clause-cause
 returns-in_err-mend-clause-cause g c =
-    let e = c.in_err-mend.field-0.0 in
-    let p = err_from_is_err_and c.from_residual-in_err-mend.result c.from_residual-in_err-mend.ensures.1 in
-    let is : c.from_residual-in_err-mend.result ≡ Err (open_fault e) = p.1 ∙ ap (λ f. Err f) p.2 in
-    cause_of c.in_err-mend.was is c.mend.ensures.cause.failed
+    let residual = c.from_residual-in_err-mend in
+    cause_of c.in_err-mend.was (passed_on residual.result residual.ensures.1) c.mend.ensures.cause.failed
 
 pub returns-in_err-mend-clause-any_moment : goal.returns-in_err-mend-clause-any_moment
 returns-in_err-mend-clause-any_moment g c =

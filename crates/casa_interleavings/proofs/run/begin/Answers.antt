@@ -8,7 +8,8 @@ pub invariant_of-result : goal.invariant_of-result
 invariant_of-result g c =
     let desks = c.in_ok-desks.desks in
     let all : length desks.items ≡ most_workers = omega (arith, c.in_ok-desks.ensures.all, desks.ok.0) in
-    subst (λ es. HasHad g.W.World g.W.Stamped (map (λ e. e.value) es) c.open_desks.new.room desks.items) (sym c.new.ensures.items)
+    subst (λ es. HasHad g.W.World g.W.Stamped (map (λ e. e.value) es) c.open_desks.new.room desks.items)
+    (sym c.new.ensures.items)
     (all, (opening_scene, refl, c.in_ok-desks.ensures.scene))
 
 pub returns-clause-run : goal.returns-clause-run

@@ -46,12 +46,14 @@ returns-in_ok-outcome-in-Answer-clause-happens g c w m sits history stands =
     let hand = (m.workers w).hand in
     let IsView = IsRoomView world stamped room in
     let IsAnswer = IsRoomAnswer world stamped room in
-    let held = subst (λ (h : Held _ _ _). Holds IsView IsAnswer h hand) (sym c.replace.ensures.value ∙ c.in-Answer.is) stands.0 in
+    let is_answer = sym c.replace.ensures.value ∙ c.in-Answer.is in
+    let held = subst (λ (h : Held _ _ _). Holds IsView IsAnswer h hand) is_answer stands.0 in
     let (call, before, holds, is) = answer_held IsView IsAnswer p hand held in
     let seen = subst (λ d. stamped.is_view_of before d (view_of p)) (sym is.0) is.2 in
     let (n, commits, grown, worker, others) = handed reply stamped.is_unmoved before fs outcome m sits is.0 is.4 history
     (c.in_ok-outcome-in-Answer.ensures.tells before is.3 seen is.5) in
-    let empty = subst (λ (h : Held _ _ _). Holds (IsRoomView world stamped room') (IsRoomAnswer world stamped room') h nothing)
+    let empty =
+    subst (λ (h : Held _ _ _). Holds (IsRoomView world stamped room') (IsRoomAnswer world stamped room') h nothing)
     (sym c.replace.ensures.after) tt in (
       n,
       subst (λ (h : Hand _ _). Commits reply stamped.is_unmoved w h m n) (sym holds) commits,

@@ -20,7 +20,8 @@ returns-in_ok-answer-in-View-clause-stands g c x stands =
     let answered = c.in_ok-answer-in-View.ensures in
     let IsView = IsRoomView world stamped room in
     let IsAnswer = IsRoomAnswer world stamped room in
-    let held = subst (λ (h : Held _ _ _). Holds IsView IsAnswer h x.hand) (sym c.replace.ensures.value ∙ c.in-View.is) stands.0 in (
+    let is_view = sym c.replace.ensures.value ∙ c.in-View.is in
+    let held = subst (λ (h : Held _ _ _). Holds IsView IsAnswer h x.hand) is_view stands.0 in (
       holds_compute IsView IsAnswer c.in-View.call c.in-View.view p
           (λ d before same is.
           let state = replay world.after world.opening before in
