@@ -1,3 +1,4 @@
+pub mod Costs
 pub mod EachOnce
 pub mod Held
 pub mod Steps
@@ -5,4 +6,6 @@ pub mod Summed
 pub mod Told
 pub mod Flights
 pub mod Leaving
+pub mod Listed
+pub mod Ordered
 pub mod Waiting

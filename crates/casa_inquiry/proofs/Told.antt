@@ -1,8 +1,8 @@
 -- the delays that lists tell are those that the flights have
-use Rattle.std.proofs.Common.{◌≡◌, ℕ, ◌+◌, ◌-◌, List, [], ◌∷◌, ◌++◌, Bool, true, false, cond, map, refl, sym, ap, ◌∙◌, Option, Some, zero-add, arith}
+use Rattle.std.proofs.Common.{◌≡◌, ◌+◌, ◌-◌, List, [], ◌∷◌, ◌++◌, map, refl, ap, ◌∙◌, Option, Some, arith}
 use Rattle.std.proofs.lemmas.List.Elements.{filter-append}
-use Rattle.std.proofs.lemmas.List.Sums.{sum_by-append, sum_by-cons, sum_by-insert}
-use Rattle.std.specs.List.{AllByRecursion, filter, fold, sum_by}
+use Rattle.std.proofs.lemmas.List.Sums.{sum_by-append, sum_by-cons}
+use Rattle.std.specs.List.{AllByRecursion, filter, sum_by}
 use Rattle.std.specs.Option.{option_map_or}
 use Rattle.casa_filing.specs.declared.regulation.Measure.{Measure}
 use Rattle.casa_flight.specs.declared.reply.ListReply.{ListReply}
@@ -12,38 +12,13 @@ use Rattle.casa_flight.specs.declared.row.Stance.TheVariants.{Competing, Issued,
 use Rattle.casa_flight.specs.declared.state.State.{State}
 use Rattle.casa_filing.specs.Text.{Text}
 use Rattle.casa_flight.specs.Good.{AreInOrder}
-use Rattle.casa_flight.specs.Listing.{Listing, cto_as, delay_in, eto_as, sorted_by, listing, insert_sorted, stance_in, stance_of}
+use Rattle.casa_flight.specs.Listing.{Listing, cto_as, delay_in, eto_as, sorted_by, listing, stance_in, stance_of}
 use Rattle.casa_flight.specs.Replies.{is_row_before, kind_of, list_reply, list_rows, row_in}
 use Rattle.casa_filing.specs.Subject.{regulation}
 use Rattle.casa_filing.proofs.Entries.{each_found}
 use Rattle.casa_laws.proofs.Kept.{sorted-kept}
+use Rattle.casa_inquiry.proofs.Ordered.{delays-in_order}
 use Rattle.casa_inquiry.specs.Summary.{delay, delays_in, governs, is_governed, lists_told, rows_of, total_delay}
-
--- a sum over the elements that pass a test
-sum_by-filter : {X : Type 0} (f : X → ℕ) (test : X → Bool) (xs : List X)
-    → sum_by f (filter test xs) ≡ sum_by (λ (x : X). cond (test x) (f x) 0) xs
-sum_by-filter f test [] = refl
-sum_by-filter {X} f test (x ∷ xs) =
-    let or_none : X → ℕ = λ x. cond (test x) (f x) 0 in
-    elim (test x) as (λ (b : Bool). test x ≡ b → sum_by f (cond b (x ∷ filter test xs) (filter test xs)) ≡ sum_by or_none (x ∷ xs)) [
-      | true ↦ λ e.
-          let here : or_none x ≡ f x = ap (λ (b : Bool). cond b (f x) 0) e in
-          omega (arith, sum_by-cons f x (filter test xs), sum_by-cons or_none x xs, here, sum_by-filter f test xs)
-      | false ↦ λ e.
-          let here : or_none x ≡ 0 = ap (λ (b : Bool). cond b (f x) 0) e in
-          omega (arith, sum_by-cons or_none x xs, here, sum_by-filter f test xs)
-    ] refl
-
--- to put a list in order leaves its sum
-sum_by-fold : {X : Type 0} (f : X → ℕ) (precedes : X → X → Bool) (ys xs : List X)
-    → sum_by f (fold (λ (ys : List X) (x : X). insert_sorted precedes x ys) ys xs) ≡ sum_by f ys + sum_by f xs
-sum_by-fold f precedes ys [] = omega arith
-sum_by-fold f precedes ys (x ∷ xs) =
-    let put : sum_by f (insert_sorted precedes x ys) ≡ sum_by f ys + f x = sum_by-insert f ys _ x in
-    omega (arith, put, sum_by-cons f x xs, sum_by-fold f precedes (insert_sorted precedes x ys) xs)
-
-sum_by-in_order : {X : Type 0} (f : X → ℕ) (precedes : X → X → Bool) (xs : List X) → sum_by f (sorted_by precedes xs) ≡ sum_by f xs
-sum_by-in_order f precedes xs = sum_by-fold f precedes [] xs ∙ zero-add (sum_by f xs)
 
 -- the delays of some flights of a list, as rows and as the flights have them
 shown_delays : (m : State) (l : Listing) (es : List (Text × Stance)) → AllByRecursion (λ (e : Text × Stance). stance_of l e.0 ≡ Some e.1) es
@@ -80,9 +55,7 @@ shown_delays m l ((key, Forced eto) ∷ es) h = shown_delays m l es h.1
 pub list_delays : (m : State) (l : Listing) → AreInOrder l.flights → sum_by delay (filter is_governed (list_rows m l)) ≡ delays_in l
 list_delays m l sorted_by =
     let rows : List ListRow = map (λ (e : Text × Stance). row_in m l e.0 e.1) l.flights in
-    let or_none : ListRow → ℕ = λ row. cond (is_governed row) (delay row) 0 in
-    sum_by-filter delay is_governed (list_rows m l) ∙ sum_by-in_order or_none is_row_before rows ∙ sym (sum_by-filter delay is_governed rows)
-    ∙ shown_delays m l l.flights (each_found l.flights sorted_by)
+    delays-in_order is_row_before rows ∙ shown_delays m l l.flights (each_found l.flights sorted_by)
 
 -- and those that all lists tell are those of the flights of each
 pub told_delays : (m : State) → AreInOrder m.rows → total_delay (lists_told m) ≡ sum_by delays_in (map (λ (e : Text × Measure). listing m.rows e.0 e.1) m.regs)

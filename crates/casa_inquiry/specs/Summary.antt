@@ -1,5 +1,5 @@
 -- to believe: what regulations cost: flights by how they stand in the lists, and the delays of the governed ones
-use Rattle.std.specs.Prelude.{ℕ, ◌-◌, ◌≤◌, ◌/◌, ◌==◌, ◌&&◌, List, length, map, filter, fold, max, Bool, true, false, not, is_some, Option, Some, None, if◌then◌else◌}
+use Rattle.std.specs.Prelude.{ℕ, ◌+◌, ◌-◌, ◌≤◌, ◌/◌, ◌==◌, ◌&&◌, List, length, map, filter, fold, max, Bool, true, false, cond, not, is_some, Option, Some, None, if◌then◌else◌}
 use Rattle.std.specs.List.{flat_map, sum_by}
 use Rattle.casa_flight.specs.declared.reply.Kind.{Kind}
 use Rattle.casa_flight.specs.declared.reply.Kind.TheVariants.{Pre, Issued, Forced}
@@ -10,9 +10,11 @@ use Rattle.casa_flight.specs.declared.row.Stance.{Stance}
 use Rattle.casa_flight.specs.declared.state.State.{State}
 use Rattle.casa_filing.specs.Text.{Text}
 use Rattle.casa_flight.specs.Listing.{Listing, delay_in, listing}
-use Rattle.casa_flight.specs.Replies.{kind_of, list_reply}
+use Rattle.casa_flight.specs.Replies.{kind_of, list_reply, row_in}
+use Rattle.casa_flight.specs.State.{empty}
 use Rattle.casa_filing.specs.Subject.{regulation}
 use Rattle.casa_inquiry.specs.declared.summary.Cost.{Cost}
+use Rattle.casa_inquiry.specs.declared.summary.GovernedFlight.{GovernedFlight}
 
 -- whether a flight that a list shows so is governed by the list's regulation
 abbrev pub governs : Kind → Bool
@@ -94,6 +96,26 @@ cost_of_all lists = cost (sum_by (λ (list : ListReply). list.slots) lists) (row
 -- the mean delay of the governed flights, rounded down to whole seconds; none where there is no such flight
 abbrev pub mean_delay : Cost → Option ℕ
 mean_delay cost = if cost.governed == 0 then None else Some (cost.delay / cost.governed)
+
+-- inner: a flight of a list as its reply shows it in the empty state: but for the time of a forced one, as in any
+abbrev pub row_told : Listing → Text × Stance → ListRow
+row_told l e = row_in empty l e.0 e.1
+
+-- inner: what of a row counts, if its flight is governed
+abbrev pub governed_as : ListRow → Option GovernedFlight
+governed_as row =
+    if is_governed row then Some (record { issued = issues row.kind; over = not (is_some row.slot); delay = delay row }) else None
+
+-- inner: what a regulation costs with one flight more, governed or forced
+abbrev pub with_flight : Cost → Option GovernedFlight → Cost
+with_flight cost None = record cost { forced = cost.forced + 1 }
+with_flight cost (Some flight) = record cost {
+  governed = cost.governed + 1;
+  issued = cost.issued + cond flight.issued 1 0;
+  over = cost.over + cond flight.over 1 0;
+  delay = cost.delay + flight.delay;
+  longest = max cost.longest flight.delay;
+}
 
 -- inner: each number of slots and flights is at most this
 pub record AreAtMost (most : ℕ) (cost : Cost) : Type 0 where

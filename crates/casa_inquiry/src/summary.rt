@@ -1,10 +1,15 @@
 //! What each regulation costs.
 
-ghost use Rattle.std.specs.Prelude.{◌≡◌, ◌≤◌, ◌+◌, ◌^◌, [], filter, max, IfNone, IfSome};
+ghost use Rattle.std.specs.Prelude.{◌≡◌, ◌≤◌, ◌<◌, ◌+◌, ◌^◌, [], Some, filter, max, IfNone, IfSome};
 ghost use Rattle.std.specs.List.{sum_by};
-ghost use Rattle.casa_inquiry.specs.Summary.{AreAtMost, cost, count, cost_of, cost_of_all, delay, governed_delays, governs, greatest, is_forced, is_governed, is_issued, is_over, issues, mean_delay, total_delay};
+ghost use Rattle.casa_filing.specs.declared.regulation.Regulation.{Regulation};
+ghost use Rattle.casa_flight.specs.declared.state.State.{State};
+ghost use Rattle.casa_flight.specs.Listing.{stance_of};
+ghost use Rattle.casa_flight.specs.Replies.{list_reply};
+ghost use Rattle.casa_inquiry.specs.Summary.{AreAtMost, cost, count, cost_of, cost_of_all, delay, governed_as, governed_delays, governs, greatest, is_forced, is_governed, is_issued, is_over, issues, mean_delay, row_told, total_delay, with_flight};
 
 use casa_flight::{Kind, ListReply, ListRow};
+use casa_list::{Member, Place, SlotList};
 
 /// What a regulation costs, or several together: their slots, their flights by how they stand in the lists, and the delays
 /// of the flights that are governed, in seconds.
@@ -26,6 +31,16 @@ pub struct Cost {
     pub longest: u32,
 }
 
+/// A flight that the regulation of a list governs, as it stands there.
+#[derive(Clone, Copy, PartialEq, Eq, Debug)]
+struct GovernedFlight {
+    issued: bool,
+    /// Whether no slot is left for it.
+    over: bool,
+    /// Its delay, in seconds.
+    delay: u32,
+}
+
 impl Cost {
     /// What a regulation costs, by its list.
     pub fn of(list: &ListReply) -> Cost
@@ -33,6 +48,19 @@ impl Cost {
     {
         let mut cost = Cost::nothing(delay_in(list.rows.as_slice()));
         cost.count(list);
+        cost
+    }
+
+    /// The same by the list as the allocator keeps it, without the rows of a reply: what `of` gives of the reply to the
+    /// question for it, in whichever state.
+    pub fn of_list(list: &SlotList) -> Cost
+        ensures { (m : State) (r : Regulation) → result ≡ cost_of (list_reply m r list.now) }
+    {
+        let mut cost = Cost::nothing(0);
+        cost.slots = list.grid().len() as u128;
+        for member in list.flights() {
+            cost.add(governed_in(list, member));
+        }
         cost
     }
 
@@ -75,6 +103,24 @@ impl Cost {
         }
     }
 
+    /// Adds a flight of a list: one that the regulation governs, or a forced one.
+    fn add(&mut self, flight: Option<GovernedFlight>)
+        requires room { AreAtMost (2 ^ 127) self.old }
+        requires delay { self.old.delay ≤ 2 ^ 127 }
+        ensures added { self.new ≡ with_flight self.old flight }
+        ensures short { self.new.delay ≤ self.old.delay + 2 ^ 32 }
+    {
+        let Some(flight) = flight else {
+            self.forced += 1;
+            return;
+        };
+        self.governed += 1;
+        self.issued += flight.issued as u128;
+        self.over += flight.over as u128;
+        self.delay += flight.delay as u128;
+        self.longest = self.longest.max(flight.delay);
+    }
+
     /// Adds a list, but not its delays.
     fn count(&mut self, list: &ListReply)
         requires room { AreAtMost (2 ^ 127) self.old }
@@ -96,6 +142,25 @@ impl Cost {
         self.over += over(rows) as u128;
         self.longest = self.longest.max(longest(rows));
     }
+}
+
+/// A flight of a list, as it stands there; `None` where it is forced.
+fn governed_in(list: &SlotList, member: &Member) -> Option<GovernedFlight>
+    requires { stance_of list.now member.now.0 ≡ Some member.now.1 }
+    ensures { result ≡ governed_as (row_told list.now member.now) }
+{
+    let place = list.place_of(&member.key())?;
+    let stance = member.stance();
+    let (eto, issued) = (stance.eto(), stance.issued_cto());
+    let cto = match issued {
+        Some(cto) => cto,
+        None => list.grid().cto(eto, place),
+    };
+    Some(GovernedFlight {
+        issued: issued.is_some(),
+        over: matches!(place, Place::Over),
+        delay: cto.secs().saturating_sub(eto.secs()),
+    })
 }
 
 /// Whether a flight that a list shows so is governed by the list's regulation.
