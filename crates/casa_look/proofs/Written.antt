@@ -88,8 +88,8 @@ planned_text f = refl
 
 pub whole_day_text : (kept : DayRecord)
     → (codes "{\"day\":" ++ (compact_text (string (date_text kept.day)) ++ codes ",\"flights\":"))
-    ++ (compact_text (list_of planned_data kept.flights.items) ++ (codes ",\"lists\":" ++ (compact_text (list_of list_data kept.lists.items)
-    ++ (codes ",\"since\":" ++ (since_text kept.position kept.entries.items ++ (codes ",\"state\":"
-    ++ (state_text kept.calls kept.clock kept.regulations.items ++ codes "}"))))))) ≡ day_text kept
+    ++ (compact_text (list_of planned_data kept.flights) ++ (codes ",\"lists\":" ++ (compact_text (list_of list_data kept.lists)
+    ++ (codes ",\"since\":" ++ (since_text kept.position kept.entries ++ (codes ",\"state\":"
+    ++ (state_text kept.calls kept.clock kept.regulations ++ codes "}"))))))) ≡ day_text kept
 unfolding serde_json_on_literals
 whole_day_text kept = simp append_assoc refl

@@ -18,10 +18,10 @@ planned_data f = object_of ((codes "flight", flight_data f.flight) ∷ (codes "p
 abbrev pub day_data : DayRecord → Data
 day_data kept = object_of (
     (codes "day", string (date_text kept.day)) ∷
-    (codes "flights", list_of planned_data kept.flights.items) ∷
-    (codes "lists", list_of list_data kept.lists.items) ∷
-    (codes "since", since_data kept.position kept.entries.items) ∷
-    (codes "state", state_data kept.calls kept.clock kept.regulations.items) ∷ [])
+    (codes "flights", list_of planned_data kept.flights) ∷
+    (codes "lists", list_of list_data kept.lists) ∷
+    (codes "since", since_data kept.position kept.entries) ∷
+    (codes "state", state_data kept.calls kept.clock kept.regulations) ∷ [])
 
 abbrev pub day_text : DayRecord → Text
 day_text kept = compact_text (day_data kept)

@@ -9,7 +9,7 @@ use crate::array::{Json, push_array};
 use crate::flight::push_plan;
 use crate::since::push_since;
 use crate::state::{OpenRegulation, push_state};
-use casa_flight::{Call, FlightReply, ListReply, Plan, Reply};
+use casa_flight::{Call, FlightReply, ListReply, Plan, Reply, SharedSlice};
 use casa_history::SharedEntry;
 use casa_time::Moment;
 use casa_wire::{Part, push_flight, push_list, push_parts, push_text};
@@ -24,15 +24,15 @@ pub struct DayRecord {
     pub calls: usize,
     pub clock: Moment,
     /// The open regulations, in the order of their identifiers.
-    pub regulations: Vec<OpenRegulation>,
+    pub regulations: SharedSlice<OpenRegulation>,
     /// Their lists.
-    pub lists: Vec<ListReply>,
+    pub lists: SharedSlice<ListReply>,
     /// The flights, in the order of their keys.
-    pub flights: Vec<PlannedFlight>,
+    pub flights: SharedSlice<PlannedFlight>,
     /// The position in the history behind which the entries stand.
     pub position: usize,
     /// The entries of which messages are kept.
-    pub entries: Vec<SharedEntry<Call, Reply>>,
+    pub entries: SharedSlice<SharedEntry<Call, Reply>>,
 }
 
 /// A flight as it stands, with its plan.
@@ -48,7 +48,7 @@ pub struct PlannedFlight {
 /// `lists`, each list as a reply has it; `since`, as of `since_text`; and `state`, as of `state_text`. `AllocError` where there
 /// is no memory for it.
 pub fn day_text(alloc: Global, kept: &DayRecord) -> Result<Vec<u8>, AllocError>
-    requires { kept.now.position + length kept.now.entries.items < 2 ^ 64 }
+    requires { kept.now.position + length kept.now.entries < 2 ^ 64 }
     ensures { IfOk result (λ text. text.items ≡ day_text kept.now) }
 {
     let mut text = Vec::new(alloc);

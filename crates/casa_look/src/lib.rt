@@ -16,4 +16,4 @@ pub use flight::flight_text;
 pub use laws::state_shows_what_flights_wait;
 pub use list::list_text;
 pub use since::{News, since_text};
-pub use state::{OpenRegulation, state_text};
+pub use state::{OpenRegulation, open_regulations, shown_text, state_text};

@@ -4,12 +4,17 @@ ghost use Rattle.std.specs.Prelude.{◌≡◌, ◌++◌, IfOk, OnOk};
 ghost use Rattle.serde_json.specs.Data.{string};
 ghost use Rattle.serde_json.specs.Written.{compact_text};
 ghost use Rattle.casa_wire.specs.LineTexts.{count};
-ghost use Rattle.casa_look.specs.StateText.{open_regulation, period_data, regulation_data, state_text};
+ghost use Rattle.casa_filing.specs.declared.regulation.Regulation.{Regulation};
+ghost use Rattle.casa_flight.specs.declared.state.State.{State};
+ghost use Rattle.casa_flight.specs.Replies.{list_reply};
+ghost use Rattle.casa_inquiry.specs.Shown.{AreShownOf};
+ghost use Rattle.casa_look.specs.StateText.{open_regulation, open_regulations, period_data, regulation_data, state_text};
 
 use crate::array::{Json, push_array};
-use casa_flight::{ListReply, Measure, RegId};
+use casa_flight::{ListReply, Measure, RegId, Regulation};
 use casa_grid::Period;
-use casa_inquiry::Cost;
+use casa_inquiry::{Cost, ShownLists};
+use casa_list::SlotList;
 use casa_time::Moment;
 use casa_wire::{Part, push_parts, push_text};
 use itoa::Buffer;
@@ -40,6 +45,67 @@ impl OpenRegulation {
             cost: Cost::of(list),
         }
     }
+
+    /// The same by the list as the allocator keeps it: what `of` gives of the reply to the question for it, in whichever
+    /// state.
+    pub fn of_list(id: RegId, measure: Measure, list: &SlotList) -> OpenRegulation
+        ensures { (m : State) (r : Regulation) →
+            result ≡ open_regulation id measure (list_reply m r list.now) }
+    {
+        OpenRegulation {
+            id,
+            measure,
+            cost: Cost::of_list(list),
+        }
+    }
+}
+
+/// The open regulations of the state whose clock, regulations and lists these are, each with what it costs, in the order of
+/// their identifiers. `AllocError` where there is no memory for it, or where what a profile owns is shared too often to be
+/// counted.
+pub fn open_regulations(
+    alloc: Global,
+    shown: &ShownLists<'_>,
+) -> Result<Vec<OpenRegulation>, AllocError>
+    ensures { IfOk result (λ all. (m : State) → AreShownOf m shown.now →
+        all.items ≡ open_regulations m) }
+{
+    let mut all = Vec::with_capacity(alloc, shown.regulations.len())?;
+    for (number, regulation) in shown.regulations.iter().enumerate() {
+        if let Some(list) = shown.lists.get(number) {
+            all.push(listed_regulation(regulation, list.list())?)?;
+        }
+    }
+    Ok(all)
+}
+
+/// An open regulation with what it costs by its list, which has its profile. `AllocError` where what the profile owns is
+/// shared too often to be counted.
+fn listed_regulation(regulation: &Regulation, list: &SlotList) -> Result<OpenRegulation, AllocError>
+    ensures { IfOk result (λ shown. (m : State) (r : Regulation) →
+        shown ≡ open_regulation regulation.now.id
+        (record { loc = regulation.now.loc; profile = list.now.profile })
+        (list_reply m r list.now)) }
+{
+    let measure = Measure {
+        loc: regulation.loc,
+        profile: list.grid().profile().clone()?,
+    };
+    Ok(OpenRegulation::of_list(regulation.id, measure, list))
+}
+
+/// The state whose clock, regulations and lists these are, after so many calls, as `state_text` writes it. `AllocError` where
+/// there is no memory for it.
+pub fn shown_text(
+    alloc: Global,
+    calls: usize,
+    shown: &ShownLists<'_>,
+) -> Result<Vec<u8>, AllocError>
+    ensures { IfOk result (λ text. (m : State) → AreShownOf m shown.now →
+        text.items ≡ state_text calls m.clock (open_regulations m)) }
+{
+    let regulations = open_regulations(alloc, shown)?;
+    state_text(alloc, calls, shown.clock, regulations.as_slice())
 }
 
 /// The state after so many calls, at this clock, with these open regulations in the order of their identifiers.

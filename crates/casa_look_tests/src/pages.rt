@@ -1,7 +1,7 @@
 //! A day that is kept, and the page of it.
 
 use crate::session::{clock, issued, plan_of, played};
-use casa_flight::{Call, ListReply, Reply};
+use casa_flight::{Call, ListReply, Reply, SharedSlice};
 use casa_history::SharedEntry;
 use casa_html::{live_page, recorded_page};
 use casa_look::{DayRecord, PlannedFlight, day_text};
@@ -23,12 +23,19 @@ fn kept(rt: &impl Abort, alloc: Global) -> DayRecord {
         day: Date::new(2025, 6, 1).expect(rt, "a day"),
         calls: 5,
         clock: clock(rt),
-        regulations: vec![in alloc; regulation].expect(rt, "memory"),
-        lists: vec![in alloc; list].expect(rt, "memory"),
-        flights: vec![in alloc; flight].expect(rt, "memory"),
+        regulations: one(rt, alloc, regulation),
+        lists: one(rt, alloc, list),
+        flights: one(rt, alloc, flight),
         position: 3,
-        entries,
+        entries: SharedSlice::from_vec(entries).expect(rt, "memory"),
     }
+}
+
+/// This alone.
+fn one<T: Drop>(rt: &impl Abort, alloc: Global, item: T) -> SharedSlice<T> {
+    let mut items = Vec::new(alloc);
+    items.push(item).expect(rt, "memory");
+    SharedSlice::from_vec(items).expect(rt, "memory")
 }
 
 /// The same entries, shared.
@@ -65,7 +72,7 @@ const KEPT: &str = concat!(
 fn a_day_is_kept(rt: HostRuntime) {
     let alloc = rt.alloc();
     let kept = kept(&rt, alloc);
-    assert!(&rt; kept.position == 3 && kept.entries.len() == 2);
+    assert!(&rt; kept.position == 3 && kept.entries.as_slice().len() == 2);
     let text = day_text(alloc, &kept).expect(&rt, "memory");
     assert!(&rt; text.as_slice() == KEPT.as_bytes());
 }
