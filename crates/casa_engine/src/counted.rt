@@ -289,7 +289,7 @@ fn enter<C, R, L: EngineName>(
 }
 
 /// These entries, shared. `AllocError` as of `entries_behind`.
-fn shared_all<C: Drop, R: Drop>(
+pub(crate) fn shared_all<C: Drop, R: Drop>(
     alloc: Global,
     entries: &[SharedEntry<C, R>],
 ) -> Result<Vec<SharedEntry<C, R>>, AllocError>

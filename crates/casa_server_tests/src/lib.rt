@@ -10,6 +10,8 @@ mod engines;
 #[cfg(test)]
 mod lists;
 #[cfg(test)]
+mod looks;
+#[cfg(test)]
 mod lost;
 #[cfg(test)]
 mod memory;

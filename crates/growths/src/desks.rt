@@ -1,6 +1,7 @@
 //! What desks do at engines, tried with memory refused.
 
 use crate::engines::{Deed, Place, try_engine};
+use crate::looks::Asked;
 use growths_of_values::{CALLS, Trial, line_of};
 use std::alloc::Global;
 use std::io::{self, Read, Write};
@@ -11,13 +12,19 @@ use std::thread::Threads;
 const BY_CALLS: [&str; 2] = ["call", "call-shelf"];
 
 /// The other scenarios with their cases, and `without` behind those whose call takes no memory.
-const OTHERS: [&str; 10] = [
+const OTHERS: [&str; 16] = [
     "desk first",
     "desk fifth",
     "desk ninth",
     "desk 1025th without",
     "audit copies",
     "audit shelf",
+    "look copies",
+    "look shelf",
+    "would-reply copies",
+    "would-reply shelf",
+    "behind copies",
+    "behind shelf",
     "close copies without",
     "close shelf without",
     "session copies",
@@ -46,8 +53,14 @@ fn deed(scenario: &str, case: &str) -> Option<(Place, Deed<'static>)> {
         ("desk", "fifth") => Some((Place::Copies, Deed::Open(4))),
         ("desk", "ninth") => Some((Place::Copies, Deed::Open(8))),
         ("desk", "1025th") => Some((Place::Copies, Deed::Open(1024))),
-        ("audit", "copies") => Some((Place::Copies, Deed::Audit)),
-        ("audit", "shelf") => Some((Place::Shelf, Deed::Audit)),
+        ("audit", "copies") => Some((Place::Copies, Deed::Look(Asked::Audit))),
+        ("audit", "shelf") => Some((Place::Shelf, Deed::Look(Asked::Audit))),
+        ("look", "copies") => Some((Place::Copies, Deed::Look(Asked::Look))),
+        ("look", "shelf") => Some((Place::Shelf, Deed::Look(Asked::Look))),
+        ("would-reply", "copies") => Some((Place::Copies, Deed::Look(Asked::WouldReply))),
+        ("would-reply", "shelf") => Some((Place::Shelf, Deed::Look(Asked::WouldReply))),
+        ("behind", "copies") => Some((Place::Copies, Deed::Look(Asked::Behind))),
+        ("behind", "shelf") => Some((Place::Shelf, Deed::Look(Asked::Behind))),
         ("close", "copies") => Some((Place::Copies, Deed::Close)),
         ("close", "shelf") => Some((Place::Shelf, Deed::Close)),
         ("session", "copies") => Some((Place::Copies, Deed::Session)),

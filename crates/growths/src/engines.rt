@@ -7,9 +7,10 @@ ghost use Rattle.casa_engine.specs.Ledgers.{IsBlankOf};
 
 use crate::answers::{Seen, call, made};
 use crate::counting::Counting;
+use crate::looks::{Asked, Shown, looked};
 use crate::sessions::try_session;
 use casa_commit::{Desk, DeskFault};
-use casa_engine::{Audit, Blank, DeskPass, Engine, EngineDesk, EngineName, blank};
+use casa_engine::{Blank, DeskPass, Engine, EngineDesk, EngineName, blank};
 use casa_flight::{Call, Reply};
 use casa_history::{History, Holds, Settled, Torn};
 use casa_shelf::{Seals, Shelf, Shelving};
@@ -32,8 +33,8 @@ pub enum Deed<'a> {
     Call(&'a str),
     /// So many desks are open, and another one is opened.
     Open(u32),
-    /// The lists are audited.
-    Audit,
+    /// The engine is asked, with no call.
+    Look(Asked),
     /// The engine is closed.
     Close,
     /// A desk answers a session.
@@ -114,30 +115,12 @@ fn opened<K: Store, L: EngineName, R: Wait, I: Read>(
     }
 }
 
-/// Audits the lists between two bytes of the input, and once more where that is refused memory; whether it was.
-fn audited<K: Store, L: EngineName, R: Threads + Wait + Sync, I: Read>(
-    rt: &R,
-    engine: &Engine<K, L, Counting<'_>>,
-    reader: &mut I,
-) -> Result<(Audit, bool), Fault> {
-    read_mark(reader)?;
-    let first = engine.audit(rt);
-    read_mark(reader)?;
-    match first {
-        Ok(audit) => Ok((audit, false)),
-        Err(_) => match engine.audit(rt) {
-            Ok(audit) => Ok((audit, true)),
-            Err(_) => Err(Fault::FailedAgain),
-        },
-    }
-}
-
-/// Adds an audit to what a desk was told.
-fn told_audit(mut seen: Seen, audit: (Audit, bool)) -> Result<Seen, Fault> {
-    match writeln!(seen.told, "{:?}", audit.0) {
+/// Adds what an engine showed to what a desk was told.
+fn told_look(mut seen: Seen, (shown, refused): (Shown, bool)) -> Result<Seen, Fault> {
+    match writeln!(seen.told, "{shown:?}") {
         Ok(()) => Ok(Seen {
             told: seen.told,
-            refused: audit.1,
+            refused,
         }),
         Err(_) => Err(Fault::NoSetUp),
     }
@@ -194,10 +177,9 @@ fn at_engine<K: Store, L: EngineName, R: Threads + Wait + Sync, I: Read>(
 ) -> Result<Seen, Fault> {
     match plan.deed {
         Deed::Open(desks) => opened(rt, alloc, engine, passes, reader, desks),
-        Deed::Audit => {
+        Deed::Look(asked) => {
             let seen = at_desk(rt, alloc, engine, passes, reader, plan)?;
-            let audit = audited(rt, engine, reader)?;
-            told_audit(seen, audit)
+            told_look(seen, looked(rt, alloc, engine, reader, asked)?)
         }
         _ => at_desk(rt, alloc, engine, passes, reader, plan),
     }

@@ -6,6 +6,7 @@ mod counting;
 mod desks;
 mod engines;
 mod late;
+mod looks;
 mod sessions;
 
 use growths_of_values::{Ending, Fault, Trial};
