@@ -9,4 +9,5 @@ pub mod Runs
 pub mod Endings
 pub mod PlayedCalls
 pub mod Shown
+pub mod Filed
 pub mod Alone

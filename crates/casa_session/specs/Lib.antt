@@ -6,4 +6,5 @@ pub mod LineReader
 pub mod Transcript
 pub mod Replies
 pub mod Played
+pub mod Filed
 pub mod Alone

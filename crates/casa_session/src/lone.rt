@@ -1,23 +1,26 @@
 //! A desk that is alone on a board.
 
-ghost use Rattle.std.specs.Prelude.{◌≡◌, ◌≢◌, ◌∷◌, [], ◌++◌, Err, IfOk, OnErr};
+ghost use Rattle.std.specs.Prelude.{◌≡◌, ◌≢◌, ◌∷◌, [], ◌++◌, Err, IfOk, OnErr, option_map};
+ghost use Rattle.std.specs.Map.{keys_of};
 ghost use Rattle.std.specs.Option.{option_copied};
 ghost use Rattle.casa_flight.specs.Listing.{list_of};
-ghost use Rattle.casa_flight.specs.State.{catalogue, row_of};
+ghost use Rattle.casa_flight.specs.State.{catalogue, empty, row_of};
 ghost use Rattle.casa_session.specs.Alone.{lone_sides};
-ghost use Rattle.casa_session.specs.Played.{receipts_played, state_after_calls};
+ghost use Rattle.casa_session.specs.Filed.{filed_by};
+ghost use Rattle.casa_session.specs.Played.{receipts_played, sequential_history, state_after_calls};
 ghost use Rattle.casa_session.specs.Transcript.{Ends};
 
 use crate::fault::SessionFault;
 use crate::session::run;
 use casa_commit::{CallFault, Desk, Room};
 use casa_flight::{Call, Key, RegId, Regulation, Reply, Row};
-use casa_history::Receipt;
+use casa_history::{Receipt, SharedEntry};
 use casa_list::SlotList;
 use casa_plan::Recalling;
 use casa_time::Moment;
 use casa_view::{Board, Copies};
 use std::alloc::{AllocError, Global};
+use std::collections::BTreeSet;
 use std::io::{Read, Write};
 use std::marker::Model;
 
@@ -122,11 +125,45 @@ impl Lone {
         self.room.world().row(key)
     }
 
+    /// The keys of the flights after the calls. `AllocError` where there is no memory for them.
+    pub fn keys(&self, alloc: Global) -> Result<BTreeSet<Key>, AllocError>
+        ensures { IfOk result (λ keys. keys.keys ≡ keys_of (state_after_calls self.now).rows) }
+    {
+        let mut keys = BTreeSet::new(alloc);
+        for entry in self.entries() {
+            if let Some(key) = self.filed_by(&entry.call) {
+                keys.insert(key)?;
+            }
+        }
+        Ok(keys)
+    }
+
+    /// The key under which a call files a flight; none where it files none, or no flight with that key is there after all
+    /// calls.
+    fn filed_by(&self, call: &Call) -> Option<Key>
+        ensures { result ≡ option_map (λ flight. flight.0)
+            (filed_by (state_after_calls self.now) call.now) }
+    {
+        let Call::File(plan) = call else {
+            return None;
+        };
+        let key = plan.key();
+        self.row(&key)?;
+        Some(key)
+    }
+
     /// The list of the regulation with this identifier after the calls; none where it is not open.
     pub fn list(&self, id: &RegId) -> Option<&SlotList>
         ensures { option_copied result ≡ list_of (state_after_calls self.now) id.now }
     {
         self.room.world().list(id)
+    }
+
+    /// The entries of the history of the calls: each call with the reply that it got, the first first.
+    pub fn entries(&self) -> &[SharedEntry<Call, Reply>]
+        ensures { result.now ≡ sequential_history empty self.now }
+    {
+        self.room.history().entries()
     }
 
     /// The receipt of the call; where memory is refused, nothing was answered.
