@@ -1,320 +1,496 @@
 /// The page, as page/index.html has it; page/embed writes this file.
 pub const PAGE: &str = r##"<!doctype html>
+<!-- The page of casa: no library, nothing from elsewhere. What tests may read of it (ids, classes, data-) stands in page/README.md. -->
 <html lang="en">
 <meta charset="utf-8">
 <meta name="viewport" content="width=device-width,initial-scale=1">
+<meta name="color-scheme" content="light dark">
 <title>casa</title>
 <style>
-:root{
-  --ink:#16212c; --soft:#4a5866; --faint:#6b7885; --line:#dde3e9; --hair:#edf1f4; --back:#f4f6f8; --card:#fff;
-  --issued:#174f8f; --pre:#8dbbe8; --preline:#3f80c0; --forced:#b9c1c9; --over:#c23b00; --pick:#b45f00; --pickback:#fff3df; --ok:#1b7a45;
-}
-*{box-sizing:border-box}
-html,body{height:100%}
-body{margin:0;background:var(--back);color:var(--ink);font:13px/1.4 Inter,"Segoe UI",system-ui,-apple-system,"Helvetica Neue",Arial,sans-serif;
-  font-variant-numeric:tabular-nums;display:grid;grid-template-rows:52px 1fr;height:100vh;overflow:hidden}
+:root{--ink:#16212c;--soft:#43515e;--faint:#5e6c79;--line:#d3dbe2;--hair:#e8edf1;--back:#f3f5f8;--card:#fff;--hover:#f6f8fa;
+ --issued:#174f8f;--on:#fff;--pre:#d3e5f7;--edge:#2f72b5;--plan:#d9e0e7;--grey:#8494a2;--forced:#6f7c88;--over:#bb3a00;
+ --pick:#a65500;--pickback:#fff1da;--me:#ffc66b;--chosen:#e8f1fb;--ok:#1b7a45}
+@media screen and (prefers-color-scheme:dark){:root{--ink:#e7edf3;--soft:#b9c5d0;--faint:#94a3b1;--line:#33414e;--hair:#27323c;--back:#0f151b;--card:#182129;--hover:#1f2a34;
+ --issued:#6aa9f2;--on:#0c1a29;--pre:#1d3b5a;--edge:#7db6f5;--plan:#3a4753;--grey:#7f8d9a;--forced:#93a1ae;--over:#ff8653;
+ --pick:#ffb85c;--pickback:#3a2d16;--me:#c07a17;--chosen:#1c3048;--ok:#4cc38a}}
+*{box-sizing:border-box;margin:0}
+body{background:var(--back);color:var(--ink);font:13px/1.4 Inter,"Segoe UI",system-ui,-apple-system,"Helvetica Neue",Arial,sans-serif;font-variant-numeric:tabular-nums;display:grid;grid-template-rows:auto minmax(0,1fr);height:100vh;overflow:hidden}
 button,input,select{font:inherit;color:inherit}
-h2{font-size:11px;letter-spacing:.06em;text-transform:uppercase;color:var(--faint);font-weight:600;margin:0}
-.mono{font-family:"DejaVu Sans Mono",ui-monospace,Menlo,Consolas,monospace;font-size:11px}
-.num{text-align:right}
-header{display:flex;align-items:center;gap:22px;padding:0 18px;background:var(--card);border-bottom:1px solid var(--line)}
-.brand{font-weight:700;font-size:17px;letter-spacing:-.01em}
-.clock{font-size:22px;font-weight:600;letter-spacing:-.01em}
-.clock small{font-size:12px;color:var(--faint);font-weight:500;margin-left:6px}
-.fig{display:flex;flex-direction:column;line-height:1.2}
-.fig b{font-size:15px;font-weight:600}
-.fig>span{font-size:11px;color:var(--faint)}
-.grow{flex:1}
-.find{width:230px;padding:7px 10px;border:1px solid var(--line);border-radius:7px;background:var(--back)}
-.find:focus,button:focus-visible,.reg:focus-visible,tr:focus-visible{outline:2px solid var(--preline);outline-offset:1px}
-.live{display:flex;align-items:center;gap:7px;font-size:12px;color:var(--soft)}
-.dot{width:8px;height:8px;border-radius:50%;background:var(--ok)}
-.dot.off{background:var(--over)} .dot.rec{background:var(--faint)}
+ol,ul{list-style:none;padding:0}
+h2{font-size:11px;letter-spacing:.06em;text-transform:uppercase;color:var(--faint);font-weight:600}
+[hidden]{display:none!important}
+.mono{font:11px/1.4 "DejaVu Sans Mono",ui-monospace,Menlo,Consolas,monospace;white-space:pre-wrap}
+.unseen{position:absolute;width:1px;height:1px;overflow:hidden;clip-path:inset(50%);white-space:nowrap}
+.hint{color:var(--faint);font-size:12px} .head .hint{white-space:nowrap} .pad{padding:0 14px 10px} .grow{flex:1} .num{text-align:right}
+:focus-visible{outline:2px solid var(--edge);outline-offset:1px}
+.reg:focus-visible,tr:focus-visible,.msg:focus-visible,.seg :focus-visible{outline-offset:-2px}
+header{display:flex;align-items:center;flex-wrap:wrap;gap:4px 22px;padding:5px 18px;min-height:52px;background:var(--card);border-bottom:1px solid var(--line)}
+.brand{font-size:17px}
+.clock{font-size:22px;font-weight:600;white-space:nowrap} .clock small{font-size:12px;color:var(--faint);font-weight:500;margin-left:6px}
+.fig{display:flex;flex-direction:column;line-height:1.2;white-space:nowrap} .fig b{font-size:15px;font-weight:600} .fig>span{font-size:11px;color:var(--faint)}
+.find{width:210px;padding:6px 10px;border:1px solid var(--line);border-radius:7px;background:var(--back)}
+.live{display:flex;align-items:center;gap:7px;font-size:12px;color:var(--soft);max-width:250px;line-height:1.25}
+.dot{width:9px;height:9px;flex:none;border-radius:50%;background:var(--ok)}
+.dot.off{border-radius:0;background:var(--over);transform:rotate(45deg)} .dot.rec{background:none;border:2px solid var(--faint)}
 main{display:grid;grid-template-columns:304px minmax(0,1fr) 330px;gap:12px;padding:12px;min-height:0}
-.card{background:var(--card);border:1px solid var(--line);border-radius:10px;min-height:0;min-width:0}
-.col{display:flex;flex-direction:column;gap:12px;min-height:0;min-width:0}
-.head{display:flex;align-items:center;justify-content:space-between;gap:14px;padding:11px 14px 8px}
-.head h2,.seg button,.btn,.legend span{white-space:nowrap}
-.scroll{overflow:auto;min-height:0}
+.away main{opacity:.5;filter:grayscale(1)}
+.card{background:var(--card);border:1px solid var(--line);border-radius:10px;min-width:0;flex:none}
+.col{display:flex;flex-direction:column;gap:12px;min-width:0;overflow-y:auto}
+.tall{display:flex;flex-direction:column;flex:1;min-height:150px;overflow:hidden}
+.head{display:flex;align-items:center;justify-content:space-between;gap:6px 10px;padding:10px 14px 6px}
+.head h2,.btn,.legend span{white-space:nowrap}
+.scroll{overflow:auto;min-height:0;flex:1}
+/* How a flight or a slot stands: each has a colour and a shape. */
+.s-issued{background:var(--issued)}
+.s-pre{background:var(--pre);box-shadow:inset 0 0 0 1.5px var(--edge)}
+.s-forced{background:repeating-linear-gradient(45deg,transparent 0 2px,var(--forced) 2px 3px);box-shadow:inset 0 0 0 1px var(--forced)}
+.s-over{background:repeating-linear-gradient(-45deg,var(--over) 0 3.5px,var(--card) 3.5px 4.3px)}
+.s-free{border:1px dashed var(--grey)}
+.s-plan{background:var(--plan);box-shadow:inset 0 0 0 .7px var(--grey)}
+.kind{display:inline-flex;align-items:center;gap:6px} .kind i{width:10px;height:10px;border-radius:2px;flex:none}
+.kind .s-over{background:var(--over);border-radius:0;clip-path:polygon(50% 0,100% 100%,0 100%)}
+.bad{color:var(--over)} .bad::before{content:"▲ ";font-size:.75em;vertical-align:1px}
 /* regulations */
-.reg{display:grid;grid-template-columns:1fr auto;gap:1px 10px;padding:4.5px 14px 5px 12px;border-left:3px solid transparent;cursor:pointer;border-top:1px solid var(--hair)}
-.reg:hover{background:#fafbfc}
-.reg.on{background:#eef4fb;border-left-color:var(--issued)}
-.reg .id{font-weight:600}
-.reg .loc{color:var(--faint);font-size:12px;margin-left:7px}
-.reg .delay{font-weight:600;text-align:right;line-height:1.35}
-.reg .delay small{font-weight:500;color:var(--faint)}
-.reg .when{font-size:11px;color:var(--faint);text-align:right;white-space:nowrap}
-.strip{display:flex;gap:1.5px;height:14px;align-items:flex-end;align-self:end;margin-bottom:2px}
-.strip i{flex:1;max-width:12px;min-height:1px}
+.reg{display:grid;grid-template-columns:minmax(0,1fr) auto;gap:1px 10px;padding:4.5px 14px 5px 12px;border-left:3px solid transparent;cursor:pointer;border-top:1px solid var(--hair);content-visibility:auto;contain-intrinsic-height:46px}
+.reg:hover,tbody tr:hover,.msg:hover,.offer:hover,.btn:hover{background:var(--hover)}
+.reg.on{background:var(--chosen);border-left-color:var(--issued)}
+.reg>div{white-space:nowrap;overflow:hidden;text-overflow:ellipsis}
+.reg .id,.delay,.reg .bad{font-weight:600} .reg .loc,.reg .bad{font-size:12px;margin-left:7px} .reg .loc,.reg small,.when{color:var(--faint)}
+.delay,.when{text-align:right} .reg small{font-weight:500} .when{font-size:11px}
+.strip{width:auto;max-width:100%;height:14px;align-self:end;margin-bottom:2px}
+.use{display:flex;gap:1px;height:9px;align-self:center} .use i{min-width:0;border-radius:1px}
 /* the regulation */
-.title{display:flex;align-items:baseline;gap:10px;padding:12px 16px 0}
-.title b{font-size:18px;letter-spacing:-.01em}
-.title span{color:var(--soft)}
-.facts{display:flex;gap:24px;padding:8px 16px 10px;border-bottom:1px solid var(--hair)}
-.facts .fig b{font-size:16px}
-.bad{color:var(--over)}
+.title{display:flex;align-items:center;flex-wrap:wrap;gap:4px 10px;padding:10px 14px 0 16px} .title div{display:flex;align-items:baseline;gap:10px;flex:1 1 320px;white-space:nowrap} .title b{font-size:18px} .title span{color:var(--soft)}
+.rates{overflow:hidden;text-overflow:ellipsis}
+.facts{display:flex;flex-wrap:wrap;gap:4px 24px;padding:8px 16px 10px;border-bottom:1px solid var(--hair)} .facts b{font-size:16px!important}
 .seg{display:inline-flex;flex:none;border:1px solid var(--line);border-radius:7px;overflow:hidden}
-.seg button{border:0;background:none;padding:3px 10px;font-size:12px;cursor:pointer;color:var(--soft)}
-.seg button.on{background:var(--issued);color:#fff}
-.btn{border:1px solid var(--line);background:var(--card);border-radius:7px;padding:5px 11px;font-size:12px;cursor:pointer}
-.btn:hover{border-color:#b6c2cd;background:#fafbfc}
-.btn:disabled{color:#a5afb9;cursor:default;background:var(--back)}
-.btn.go{background:var(--issued);border-color:var(--issued);color:#fff}
-.legend{display:flex;gap:14px;font-size:11px;color:var(--soft);flex-wrap:wrap}
-.legend i{display:inline-block;width:11px;height:10px;margin-right:4px;border-radius:2px;vertical-align:-1px}
+.seg button{border:0;background:none;padding:3px 10px;font-size:12px;cursor:pointer;color:var(--soft);white-space:nowrap}
+.btn{border:1px solid var(--line);background:var(--card);border-radius:7px;padding:4px 10px;font-size:12px;cursor:pointer}
+.btn:disabled{opacity:.5;cursor:default}
+.btn.go,.seg .on{background:var(--issued);color:var(--on);font-weight:600}
+.legend{display:flex;gap:1px 8px;font-size:11px;color:var(--soft);flex-wrap:wrap}
+.legend i{display:inline-block;width:11px;height:10px;margin-right:3px;border-radius:2px;vertical-align:-1px} .legend .kind i{margin:0} .legend .cap{height:2px;background:var(--ink);vertical-align:3px}
 svg{display:block;width:100%;height:auto}
-svg text{font:11px Inter,"Segoe UI",system-ui,sans-serif;fill:var(--faint);font-variant-numeric:tabular-nums}
-svg text.v{fill:var(--ink);paint-order:stroke;stroke:#fff;stroke-width:3px;stroke-linejoin:round;font-size:10.5px} svg path[data-key]{cursor:pointer}
-svg path[data-key]:hover{stroke:#b45f00;stroke-width:2.4;opacity:1}
-svg text.strong{fill:var(--ink);font-weight:600}
+svg text{font-size:11px;fill:var(--faint)} svg .v{fill:var(--ink);paint-order:stroke;stroke:var(--card);stroke-width:3px;stroke-linejoin:round} svg .strong{fill:var(--ink);font-weight:600} svg .t-now{fill:var(--pick)}
+.f-grid{stroke:var(--hair)} .f-hour{stroke:var(--line)} .f-later{fill:var(--back)} .f-now{stroke:var(--pick);stroke-dasharray:3 3}
+.f-plan{fill:var(--plan);stroke:var(--grey);stroke-width:.7} .f-over{fill:var(--over)} .f-hatch{fill:url(#hatch)} .f-issued{fill:var(--issued)} .f-pre{fill:var(--pre);stroke:var(--edge)}
+.f-forced{fill:url(#forced);stroke:var(--forced);stroke-width:.7} .f-free{fill:none;stroke:var(--line)} .f-me{fill:var(--me);stroke:var(--pick);stroke-width:1.6}
+.f-cap,.f-new{fill:none;stroke:var(--ink);stroke-width:1.8} .f-new{stroke:var(--pick);stroke-width:2;stroke-dasharray:5 3}
+.l{fill:none;cursor:pointer} .l-issued{stroke:var(--issued);opacity:.65} .l-pre{stroke:var(--edge);stroke-dasharray:6 2} .l-over{stroke:var(--over);stroke-width:1.5} .l-forced{stroke:var(--forced);stroke-width:.8;stroke-dasharray:1.5 2.5}
+.l-me,.l[data-key]:hover{stroke:var(--pick);stroke-width:2.6;opacity:1;stroke-dasharray:none} .c-me{fill:var(--pick)}
+.p-hatch{stroke:var(--card);opacity:.6} .p-forced{stroke:var(--forced);stroke-width:1.4} .p-back{fill:var(--card)}
 /* list */
-table{border-collapse:collapse;width:100%}
-th{position:sticky;top:0;background:var(--card);text-align:left;font-size:11px;color:var(--faint);font-weight:500;padding:5px 10px;border-bottom:1px solid var(--line);z-index:1}
-td{padding:2.5px 10px;border-bottom:1px solid var(--hair);white-space:nowrap}
-th.num,td.num{text-align:right}
-tbody tr{cursor:pointer}
-tbody tr:hover{background:#fafbfc}
-tr.pick{background:var(--pickback)!important}
-tr.free td{color:#94a0ab}
-tr.out td{color:var(--soft);background:#fafbfc}
-.kind{display:inline-flex;align-items:center;gap:6px}
-.kind i{width:10px;height:10px;border-radius:2px;flex:none}
-.k-issued i{background:var(--issued)} .k-pre i{background:#e3effa;border:1.5px solid var(--preline)}
-.k-forced i{background:repeating-linear-gradient(45deg,#fff 0 2px,#8d99a5 2px 3px);border:1px solid #8d99a5} .k-over i{background:var(--over)} .k-free i{border:1px dashed #b6c2cd}
-.bar{display:inline-block;height:7px;border-radius:2px;background:var(--pre);vertical-align:1px;margin-right:7px}
+#list{container-type:inline-size}
+table{border-collapse:collapse;width:100%;--bar:110px}
+th{position:sticky;top:0;background:var(--card);text-align:left;font-size:11px;color:var(--faint);font-weight:500;height:26px;padding:0 9px;box-shadow:inset 0 -1px var(--line);z-index:1}
+td{height:25px;padding:0 9px;border-bottom:1px solid var(--hair);white-space:nowrap} td b,.msg b,.times b{font-weight:600} .gap{padding:0;border:0} th.num{text-align:right}
+tbody tr{cursor:pointer} tr.pick{background:var(--pickback)!important;box-shadow:inset 3px 0 var(--pick)} .free td,.out td{color:var(--soft)}
+.bar{display:inline-block;height:8px;border-radius:2px;vertical-align:-.5px;margin-right:7px}
+@container (max-width:760px){table{--bar:58px} th,td{padding:0 7px}}
+@container (max-width:680px){.c-win{display:none}}
+@container (max-width:540px){table{--bar:24px} th,td{padding:0 4px}}
 /* flight */
-.flight{padding:12px 16px 4px}
-.flight .key{font-size:20px;font-weight:700;letter-spacing:-.01em}
+.flight{padding:12px 16px 4px} .key{font-size:20px;font-weight:700}
 .tag{display:inline-block;border-radius:5px;padding:1px 7px;font-size:11px;font-weight:600;margin-left:8px;vertical-align:3px}
-.tag.issued{background:var(--issued);color:#fff} .tag.pre{background:#e3effa;color:#1d5590;box-shadow:inset 0 0 0 1px #b5d2ee} .tag.none{background:var(--hair);color:var(--soft)}
-.times{display:grid;grid-template-columns:repeat(4,1fr);gap:4px;margin:9px 0 2px}
-.times div{border-left:2px solid var(--hair);padding-left:8px}
-.times span{display:block;font-size:11px;color:var(--faint)}
-.times b{font-size:15px;font-weight:600}
-.why{padding:8px 16px 10px;border-top:1px solid var(--hair)}
-.why p{margin:5px 0 7px}
-.offer{display:grid;grid-template-columns:86px 1fr 54px;gap:8px;align-items:center;font-size:12px;padding:1.5px 0}
-.offer .track{height:8px;background:var(--hair);border-radius:3px;overflow:hidden}
-.offer .track i{display:block;height:100%;background:var(--forced)}
-.offer.on{font-weight:600} .offer.on .track i{background:var(--issued)}
-.queue{display:flex;flex-wrap:wrap;gap:2px;margin-top:5px}
-.queue i{width:11px;height:15px;border-radius:2px;cursor:pointer}
-.queue i.issued{background:var(--issued)} .queue i.pre{background:#e3effa;box-shadow:inset 0 0 0 1.5px var(--preline)} .queue i.free{box-shadow:inset 0 0 0 1px #b6c2cd}
-.queue i.me{background:#ffc66b;box-shadow:inset 0 0 0 2px var(--pick)}
-.acts{display:flex;gap:6px;flex-wrap:wrap;padding:0 16px 8px}
-.line{margin:0 16px 12px;padding:7px 9px;border-radius:7px;background:#f6f8fa;border:1px solid var(--hair);color:var(--soft);overflow-wrap:anywhere}
-.line b{color:var(--ink);font-weight:600}
-.msg{display:grid;grid-template-columns:36px 32px 80px 44px minmax(0,1fr);gap:8px;align-items:baseline;padding:3.5px 14px;white-space:nowrap;border-top:1px solid var(--hair);font-size:12px;cursor:pointer}
-.msg:hover{background:#fafbfc}
-.msg .hint{text-align:right;overflow:hidden;text-overflow:ellipsis}
-.msg .t{color:var(--faint)} .msg .SAM{color:var(--issued);font-weight:600} .msg .SRM{color:var(--pick);font-weight:600} .msg .SLC{color:var(--soft);font-weight:600}
-.hint{color:var(--faint);font-size:12px}
+.tag.issued{background:var(--issued);color:var(--on)} .tag.pre{background:var(--pre);box-shadow:inset 0 0 0 1px var(--edge)} .tag.none{border:1px dashed var(--grey)}
+.times{display:grid;grid-template-columns:repeat(4,1fr);gap:4px;margin:9px 0 2px} .times div{border-left:2px solid var(--hair);padding-left:8px;white-space:nowrap}
+.times span{display:block;font-size:11px;color:var(--faint)} .times b{font-size:15px} .late{color:var(--pick)}
+.way{margin:7px 0 8px} .way b{color:var(--ink)}
+.why{padding:8px 16px 10px;border-top:1px solid var(--hair)} .why h2{margin-bottom:5px} .why p{margin:4px 0}
+.offer{display:grid;grid-template-columns:92px minmax(0,1fr) 62px;gap:6px;font-size:12px;padding:1.5px 0;cursor:pointer;border:0;background:none;width:100%;text-align:left} .offer.on{font-weight:600}
+.queue{display:flex;flex-wrap:wrap;gap:2px;margin-top:5px} .queue i{width:11px;height:15px;border-radius:2px;cursor:pointer} .queue .me{background:var(--me);box-shadow:inset 0 0 0 2px var(--pick)}
+.acts{display:flex;gap:5px;flex-wrap:wrap} .acts .btn{padding:4px 7px}
+/* a command */
+#desk{border-color:var(--edge);box-shadow:0 0 0 1px var(--edge)} #form,#reply{padding:0 14px 10px} #desk .head{padding:10px 0 6px}
+.line{margin:3px 0 8px;padding:6px 9px;border-radius:7px;background:var(--back);border:1px solid var(--hair);color:var(--soft);overflow-wrap:anywhere}
+#fields p{margin-bottom:7px} #fields label{display:grid;grid-template-columns:86px minmax(0,1fr);align-items:center;gap:8px;margin-bottom:5px}
+#fields input,#fields select{border:1px solid var(--line);border-radius:6px;background:var(--back);padding:3px 7px;width:100%;min-width:0} #fields input{text-transform:uppercase}
+#fields [readonly]{border-color:transparent;background:none} #fields [aria-invalid]{border-color:var(--over);box-shadow:inset 4px 0 var(--over)}
+.period{display:grid;grid-template-columns:1fr 1fr 1fr 26px 26px;gap:4px;margin-bottom:4px;font-size:12px} .period .btn{padding:2px 0} .period span{white-space:nowrap;color:var(--faint)}
+#wrong{color:var(--over);margin:2px 0 6px}
+#reply-words{margin:2px 0 6px;font-weight:600} .no::before{content:"✕ ";color:var(--over)} .yes::before{content:"✓ ";color:var(--ok)} #reply-msgs{margin-bottom:6px;font-size:12px}
+/* messages */
+.msg{display:grid;grid-template-columns:36px 32px 84px 40px minmax(0,1fr);gap:7px;align-items:baseline;padding:3.5px 14px;white-space:nowrap;border-top:1px solid var(--hair);font-size:12px;cursor:pointer}
+.msg .hint{text-align:right} .msg *,.offer *,.title div,#form-title,td:last-child{overflow:hidden;text-overflow:ellipsis} td:last-child{max-width:170px} .t{color:var(--faint)} .SAM,.SRM,.SLC{font-weight:600} .SAM{color:var(--issued)} .SRM{color:var(--pick)}
+.quiet{border:0;background:none;font-size:12px;padding:0;field-sizing:content} option{background:var(--card);color:var(--ink)}
+@media (max-width:1180px){body{display:block;height:auto;overflow:auto} main{grid-template-columns:264px minmax(0,1fr);align-items:start} .col{overflow:visible}
+ #c-flight{grid-column:1/3;display:grid;grid-template-columns:1fr 1fr;align-items:start} #regs,#list,#msgs{max-height:560px}}
+@media (max-width:680px){main,#c-flight{display:flex;flex-direction:column;align-items:stretch}}
+@media print{body,main,.col,.tall,.scroll{display:block;height:auto;overflow:visible;max-height:none!important;padding:0} .card{border:0;margin-bottom:14px} .away main{opacity:1;filter:none}
+ #search,#desk,.btn,.seg,.acts,select,.dot{display:none} #regs,#msgs{columns:2} .reg,.fig,svg,tr,.msg,.why{break-inside:avoid} th{position:static} #list{container-type:normal}
+ *{-webkit-print-color-adjust:exact;print-color-adjust:exact}}
 </style>
+<body>
+<svg id="shapes" width="0" height="0" style="position:absolute;width:0" aria-hidden="true"><defs>
+  <pattern id="hatch" width="4" height="4" patternUnits="userSpaceOnUse" patternTransform="rotate(45)"><path class="p-hatch" d="M0 0V4"/></pattern>
+  <pattern id="forced" width="4" height="4" patternUnits="userSpaceOnUse" patternTransform="rotate(45)"><rect class="p-back" width="4" height="4"/><path class="p-forced" d="M0 0V4"/></pattern>
+</defs></svg>
 <header>
-  <span class="brand">casa</span>
+  <h1 class="brand">casa</h1>
   <span class="clock" id="clock"></span>
   <div class="fig"><b id="f-delay"></b><span>delay of all flights</span></div>
   <div class="fig"><b id="f-gov"></b><span>governed, issued</span></div>
   <div class="fig"><b id="f-mean"></b><span>mean, longest</span></div>
   <div class="fig"><b id="f-over"></b><span>without a slot</span></div>
   <span class="grow"></span>
-  <input class="find" id="find" placeholder="Find a flight, as KLM1234" list="keys" autocomplete="off" spellcheck="false" aria-label="Find a flight">
-  <datalist id="keys"></datalist>
+  <form id="search" role="search"><input class="find" id="find" placeholder="Find a flight, as KLM1234  ( / )" list="keys" autocomplete="off" spellcheck="false" aria-label="Find a flight or a regulation" aria-keyshortcuts="/"><datalist id="keys"></datalist></form>
   <span class="live"><i class="dot" id="dot"></i><span id="live"></span></span>
+  <span class="unseen" id="said" role="status"></span>
 </header>
 <main>
-  <section class="card col" style="gap:0" aria-label="Regulations">
-    <div class="head"><h2>Regulations</h2><span class="hint" id="r-count"></span></div>
-    <div class="scroll" id="regs"></div>
+  <section class="col" id="c-regs" aria-label="Regulations">
+    <div class="card tall"><div class="head"><h2>Regulations</h2><span class="hint"><span id="r-count"></span> <select class="quiet" id="r-sort" aria-label="Order of the regulations"><option value="delay">by delay</option><option value="over">by no slot left</option><option value="governed">by flights</option><option value="">by name</option></select></span></div>
+    <div class="pad" id="r-acts" hidden><button class="btn" data-act="open">Open a regulation…</button></div>
+    <ul class="scroll" id="regs" role="listbox" aria-label="Regulations"></ul></div>
   </section>
-  <section class="col" aria-label="The regulation">
+  <section class="col" id="c-reg" aria-label="The regulation">
     <div class="card" id="one"></div>
     <div class="card" id="slope"></div>
-    <div class="card col" style="flex:1;gap:0"><div class="head"><h2>Slot list</h2><div class="legend" id="l-legend"></div></div><div class="scroll" id="list"></div></div>
+    <div class="card tall"><div class="head"><h2>Slot list</h2><div class="legend" id="l-legend"></div></div><div class="scroll" id="list"></div></div>
   </section>
-  <section class="col" aria-label="The flight">
+  <section class="col" id="c-flight" aria-label="The flight">
+    <div class="card" id="desk" hidden>
+      <form id="form" novalidate hidden>
+        <div class="head"><h2 id="form-title"></h2><button type="button" class="btn" data-act="back">Back (Esc)</button></div>
+        <div id="fields"></div>
+        <div id="wrong" role="alert"></div>
+        <div id="sending"><p class="hint">This line is sent, as any desk would:</p><pre class="line mono" id="line"></pre></div>
+        <button class="btn go" id="send">Send</button>
+      </form>
+      <div id="reply" hidden>
+        <div class="head"><h2>Reply</h2><button class="btn" data-act="back">Done (Esc)</button></div>
+        <p id="reply-words"></p><ul id="reply-msgs"></ul>
+        <p class="hint">The line that was sent:</p><pre class="line mono" id="reply-sent"></pre>
+        <p class="hint">The reply, as it came:</p><pre class="line mono" id="reply-line"></pre>
+      </div>
+    </div>
     <div class="card" id="flight"></div>
-    <div class="card col" style="flex:1;gap:0"><div class="head"><h2>Messages</h2><span class="hint" id="m-count"></span></div><div class="scroll" id="msgs"></div></div>
+    <div class="card tall"><div class="head"><h2>Messages</h2><span class="hint"><span id="m-count">new take-offs</span> <select class="quiet" id="m-show" aria-label="Which messages are shown"><option value="">of all</option><option value="reg">of the regulation</option><option value="key">of the flight</option></select></span></div>
+    <ol class="scroll" id="msgs"></ol></div>
   </section>
 </main>
 <script>
 "use strict";
-const $=id=>document.getElementById(id), esc=s=>String(s).replace(/[&<>"]/g,c=>"&#"+c.charCodeAt(0)+";");
-const hm=t=>t==null?"–":String(Math.floor(t/3600)%24).padStart(2,"0")+":"+String(Math.floor(t/60)%60).padStart(2,"0");
-const hms=t=>hm(t)+":"+String(t%60).padStart(2,"0");
-const mins=s=>s<60?(s?"<1":"0"):String(Math.round(s/60)), big=n=>n.toLocaleString("en").replace(/,/g,"\u2009");
-/* What is known: the state as casa tells it, and what is picked. */
-let S={day:"",clock:0,n:0,regs:[],lists:{},flights:{},plans:{},reasons:{},messages:[]}, reg=null, key=null, step=20;
-/* Slots begin at from + floor(3600 j / rate). */
-function slotsOf(periods){const out=[];for(const p of periods){if(!p.rate)continue;const b=[];for(let j=0;;j++){const t=p.from+Math.floor(j*3600/p.rate);if(t>=p.to)break;b.push(t)}
-  b.forEach((t,i)=>out.push([t,i+1<b.length?b[i+1]:p.to]))}return out}
-const cost=rows=>{let d=0,g=0,i=0,f=0,o=0,m=0;for(const[k,e,c,kind,slot]of rows){if(kind==="forced"){f++;continue}g++;d+=c-e;m=Math.max(m,c-e);if(kind==="issued")i++;if(slot==null)o++}return{d,g,i,f,o,m}};
-/* What casa tells of a regulation, where it does; else the same of its list. */
-const costOf=r=>r.governed==null?cost(S.lists[r.reg]):{d:r.delay,g:r.governed,i:r.issued,f:r.forced,o:r.over,m:r.longest};
+const $=id=>document.getElementById(id);
+/* An element, as h("b.bad",{title:"x"},"text"): what comes from data stands in it as text, and is never read as HTML. */
+function put(node,classes,parts){if(classes.length)node.setAttribute("class",classes.join(" "));
+ for(const p of parts.flat(9)){if(p==null||p===false)continue;
+  if(typeof p!=="object"||p instanceof Node)node.append(p);else for(const k in p)if(p[k]!=null&&p[k]!==false)node.setAttribute(k,p[k])}
+ return node}
+const h=(name,...parts)=>{const[tag,...classes]=name.split(".");return put(document.createElement(tag),classes,parts)};
+const v=(name,...parts)=>{const[tag,...classes]=name.split(".");return put(document.createElementNS($("shapes").namespaceURI,tag),classes,parts)};
+/* Puts these in the place of what stands there; what had the focus has it again. */
+function fill(id,...parts){const box=$(id),on=document.activeElement,d=box.contains(on)&&on.dataset,
+  name=d&&["act","step","key","reg","slot"].find(k=>d[k]);
+ box.replaceChildren();put(box,[],parts);
+ const again=name&&box.querySelector(`[data-${name}="${d[name]}"]`);if(again)again.focus({preventScroll:true})}
+const two=n=>String(n).padStart(2,"0"), hm=t=>t==null?"–":two(Math.floor(t/3600)%24)+":"+two(Math.floor(t/60)%60), hms=t=>hm(t)+":"+two(t%60);
+const mins=s=>s<60?(s?"<1":"0"):String(Math.round(s/60)), big=n=>n.toLocaleString("en").replace(/,/g,"\u2009"), minutes=s=>big(Math.round(s/60))+" min";
+const several=(n,one)=>n+" "+one+(n===1?"":"s");
+/* What is known: the state as casa tells it, lists, flights, messages; and what is picked. A row is [key, eto, cto, kind, slot]. */
+const nothing=()=>({day:"",clock:0,n:0,regs:[],lists:{},flights:{},plans:{},reasons:{},messages:[],fresh:{}});
+let S=nothing(), reg=null, key=null, step=20, live=false, preview=null;
+const regOf=id=>S.regs.find(r=>r.reg===id), rowsOf=id=>S.lists[id]||[], rowOf=(id,k)=>rowsOf(id).find(q=>q[0]===k);
 const span=r=>[r.periods[0].from,r.periods[r.periods.length-1].to];
-function steps(r,rows,size){const[a,b]=span(r),out=[];for(let t=a;t<b;t+=size)out.push({a:t,b:Math.min(t+size,b),p:{pre:0,issued:0,forced:0},c:{pre:0,issued:0,forced:0},slots:0});
-  out.push({a:b,b:b+size,p:{pre:0,issued:0,forced:0},c:{pre:0,issued:0,forced:0},slots:0,after:true});
-  const at=t=>out[t>=b?out.length-1:Math.floor((t-a)/size)];
-  for(const[k,e,c,kind]of rows){at(e).p[kind]++;at(c).c[kind]++}
-  for(const[t]of slotsOf(r.periods))at(t).slots++;return out}
+/* Slots begin at from + floor(3600 j / rate). */
+function slotsOf(periods){const out=[];
+ for(const p of periods){const b=[];for(let j=0,t=p.from;p.rate&&t<p.to;t=p.from+Math.floor(++j*3600/p.rate))b.push(t);b.forEach((t,i)=>out.push([t,i+1<b.length?b[i+1]:p.to]))}
+ return out}
+/* The steps of a regulation, and what comes behind its end: planned and calculated flights, and slots. */
+function steps(r,rows,size){const[a,b]=span(r),out=[],none=()=>({pre:0,issued:0,forced:0});
+ for(let t=a;t<b;t+=size)out.push({a:t,b:Math.min(t+size,b),p:none(),c:none(),slots:0});
+ out.push({a:b,b,p:none(),c:none(),slots:0,after:true});
+ const at=t=>out[t>=b?out.length-1:Math.floor((t-a)/size)];
+ for(const[,e,c,kind]of rows){at(e).p[kind]++;at(c).c[kind]++}
+ for(const[t]of slotsOf(r.periods))at(t).slots++;
+ return out}
 const sum=o=>o.pre+o.issued+o.forced;
-function drawTop(){let d=0,g=0,i=0,o=0,m=0;for(const r of S.regs){const c=costOf(r);d+=c.d;g+=c.g;i+=c.i;o+=c.o;m=Math.max(m,c.m)}
-  $("clock").innerHTML=hm(S.clock)+"<small>UTC&ensp;"+S.day+"</small>";$("f-delay").textContent=big(Math.round(d/60))+" min";$("f-gov").textContent=big(g)+", "+big(i);
-  $("f-mean").textContent=(g?(d/g/60).toFixed(1):"0")+", "+Math.round(m/60)+" min";$("f-over").innerHTML=o?'<span class="bad" style="font-size:15px">'+o+"</span>":"0"}
-function drawRegs(){const all=S.regs.map(r=>({r,c:costOf(r)})).sort((x,y)=>y.c.d-x.c.d);
-  $("r-count").textContent=all.length+" open, by delay";
-  $("regs").innerHTML=all.map(({r,c})=>{const[a,b]=span(r);const st=steps(r,S.lists[r.reg],1200).slice(0,-1),top=Math.max(1,...st.map(s=>sum(s.p)));
-    return`<div class="reg${r.reg===reg?" on":""}" tabindex="0" data-reg="${r.reg}"><div><span class="id">${r.reg}</span><span class="loc">${r.loc}</span></div><div class="delay">${big(Math.round(c.d/60))} <small>min</small></div>`+
-    `<div class="strip" title="planned flights by 20 minutes; above capacity in red">${st.map(s=>{const p=sum(s.p),o=Math.max(0,p-s.slots);return`<i style="height:${Math.round(100*p/top)}%;background:linear-gradient(#c23b00 ${p?100*o/p:0}%,#c3d3e2 ${p?100*o/p:0}%)"></i>`}).join("")}</div><div class="when">${hm(a)}–${hm(b)}&ensp;${c.g} fl.</div></div>`}).join("")}
-function drawOne(){const r=S.regs.find(x=>x.reg===reg);if(!r){$("one").innerHTML="";return}
-  const rows=S.lists[reg],c=costOf(r),[a,b]=span(r),st=steps(r,rows,step*60);
-  const rates=r.periods.map(p=>p.rate).join(" · ");
-  const W=Math.max(560,$('one').clientWidth-2),H=196,L=34,R=8,T=12,B=34,n=st.length,w=(W-L-R)/n,top=Math.max(4,...st.map(s=>Math.max(sum(s.p),sum(s.c),s.slots)))*1.08;
-  const y=v=>T+(H-T-B)*(1-v/top);let g="";
-  const tick=top>60?20:top>30?10:top>12?5:2;for(let v=0;v<=top;v+=tick)g+=`<line x1="${L}" x2="${W-R}" y1="${y(v)}" y2="${y(v)}" stroke="#edf1f4"/><text x="${L-6}" y="${y(v)+4}" text-anchor="end">${v}</text>`;
-  let cap="",tip="";
-  st.forEach((s,i)=>{const x=L+i*w,pad=w*.1,bw=(w-2*pad)/2-1;let p=sum(s.p),over=s.after?0:Math.max(0,p-s.slots),in_=p-over;
-    if(s.after)g+=`<rect x="${x+1}" y="${T}" width="${w-1}" height="${H-T-B}" fill="#f8fafb"/>`;
-    if(p)g+=`<rect x="${x+pad}" y="${y(in_)}" width="${bw}" height="${y(0)-y(in_)}" fill="#d5dde5"/>`;
-    if(over)g+=`<rect x="${x+pad}" y="${y(p)}" width="${bw}" height="${y(in_)-y(p)}" fill="#c23b00"/><rect x="${x+pad}" y="${y(p)}" width="${bw}" height="${y(in_)-y(p)}" fill="url(#hatch)"/>`;
-    let v=0;for(const[k,f,s2]of[["issued","#174f8f",""],["pre","#8dbbe8",""],["forced","url(#forced)","stroke=\"#8d99a5\" stroke-width=\".7\""]]){const h=s.c[k];if(h){g+=`<rect x="${x+pad+bw+2}" y="${y(v+h)}" width="${bw}" height="${y(v)-y(v+h)}" fill="${f}" ${s2}/>`;v+=h}}
-    if(p)tip+=`<text class="v" x="${x+pad+bw/2}" y="${y(p)-4}" text-anchor="middle">${p}</text>`;
-    if(v)tip+=`<text class="v" x="${x+pad+bw*1.5+2}" y="${y(v)-4}" text-anchor="middle">${v}</text>`;
-    if(!s.after)cap+=(i?"L":"M")+x+" "+y(s.slots)+"L"+(x+w)+" "+y(s.slots);
-    const every=w<34?3:w<44?2:1;
-    if(s.after)g+=`<text x="${x+w/2}" y="${H-B+15}" text-anchor="middle">later</text>`;else if(i%every===0)g+=`<text x="${x}" y="${H-B+15}" text-anchor="middle">${hm(s.a)}</text>`});
-  g+=`<path d="${cap}" fill="none" stroke="#16212c" stroke-width="1.8"/>`+tip;
-  if(S.clock>a&&S.clock<b){const x=L+(S.clock-a)/(step*60)*w;g+=`<line x1="${x}" x2="${x}" y1="${T}" y2="${H-B}" stroke="#b45f00" stroke-dasharray="3 3"/><text x="${x+4}" y="${T+9}" fill="#b45f00">now</text>`}
-  const pad2=x=>x;
-  $("one").innerHTML=`<div class="title"><b>${reg}</b><span>${r.loc}</span><span>${hm(a)}–${hm(b)}</span><span>${rates} flights an hour</span><span class="grow"></span><button class="btn" data-act="rates">New rates…</button><button class="btn" data-act="close">Close…</button></div>
-  <div class="facts"><div class="fig"><b>${big(Math.round(c.d/60))} min</b><span>delay</span></div><div class="fig"><b>${c.g?(c.d/c.g/60).toFixed(1):0} min</b><span>mean</span></div><div class="fig"><b>${Math.round(c.m/60)} min</b><span>longest</span></div>
-  <div class="fig"><b>${c.g}</b><span>governed</span></div><div class="fig"><b>${c.i}</b><span>issued</span></div><div class="fig"><b>${c.f}</b><span>forced</span></div><div class="fig"><b class="${c.o?"bad":""}">${c.o}</b><span>without a slot</span></div><div class="fig"><b>${slotsOf(r.periods).length}</b><span>slots</span></div></div>
-  <div class="head" style="padding-bottom:2px"><h2>Demand and capacity</h2><div class="legend" style="flex-wrap:nowrap;gap:9px"><span><i style="background:#d5dde5"></i>planned</span><span><i style="background:#c23b00"></i>above</span><span><i style="background:#174f8f"></i>issued</span><span><i style="background:#8dbbe8"></i>pre-allocated</span><span><i style="background:repeating-linear-gradient(45deg,#fff 0 2px,#8d99a5 2px 3px);border:1px solid #8d99a5"></i>forced</span><span><i style="height:2px;background:#16212c;vertical-align:3px"></i>capacity</span></div><div class="seg"><button data-step="20" class="${step===20?"on":""}">20 min</button><button data-step="60" class="${step===60?"on":""}">60 min</button></div></div>
-  <svg viewBox="0 0 ${W} ${H}" role="img" aria-label="Planned and calculated flights by ${step} minutes beside the slots"><defs><pattern id="hatch" width="4" height="4" patternUnits="userSpaceOnUse" patternTransform="rotate(45)"><line x1="0" y1="0" x2="0" y2="4" stroke="#fff" stroke-width="1" opacity=".55"/></pattern><pattern id="forced" width="4" height="4" patternUnits="userSpaceOnUse" patternTransform="rotate(45)"><rect width="4" height="4" fill="#fff"/><line x1="0" y1="0" x2="0" y2="4" stroke="#8d99a5" stroke-width="1.4"/></pattern></defs>${g}</svg>`}
-function drawSlope(){const r=S.regs.find(x=>x.reg===reg);if(!r){$("slope").innerHTML="";return}
-  const rows=S.lists[reg],[a,b]=span(r),sl=slotsOf(r.periods),W=Math.max(560,$('slope').clientWidth-2),H=132,L=34,R=8+(W-42)/(steps(r,rows,step*60).length),y0=22,y1=92;
-  const x=t=>L+(Math.min(t,b+600)-a)/(b-a)*(W-L-R),by={};for(const q of rows)if(q[4]!=null)(by[q[4]]=by[q[4]]||[]).push(q);
-  let g="";for(let t=Math.ceil(a/1200)*1200;t<=b;t+=1200)g+=`<line x1="${x(t)}" x2="${x(t)}" y1="${y0-6}" y2="${y1+20}" stroke="${t%3600?"#f1f4f6":"#dde3e9"}"/>`+(t%3600?"":`<text x="${x(t)}" y="${y1+34}" text-anchor="middle">${hm(t)}</text>`);
-  const line=(q,st)=>`<path data-key="${q[0]}" d="M${x(q[1])} ${y0}L${x(q[2])} ${y1}" ${st}><title>${q[0]} ${hm(q[1])} → ${hm(q[2])}, ${mins(q[2]-q[1])} min</title></path>`;
-  for(const q of rows)if(q[3]==="forced"&&q[0]!==key)g+=line(q,'stroke="#b3bcc5" stroke-width=".8" stroke-dasharray="2 2" fill="none"');
-  for(const q of rows)if(q[3]!=="forced"&&q[0]!==key)g+=line(q,q[4]==null?'stroke="#c23b00" stroke-width="1.2" fill="none"':q[3]==="issued"?'stroke="#174f8f" stroke-width="1" opacity=".62" fill="none"':'stroke="#5b9bd8" stroke-width="1" fill="none"');
-  for(let i=0;i<sl.length;i++){const w=Math.max(1.2,x(sl[i][1])-x(sl[i][0])-1),q=by[i]&&by[i][0];g+=`<rect x="${x(sl[i][0])}" y="${y1}" width="${w}" height="13" rx="1.5" ${!q?'fill="#fff" stroke="#c5ced6" stroke-width=".8"':q[3]==="issued"?'fill="#174f8f"':'fill="#d8e8f8" stroke="#3f80c0" stroke-width=".9"'} data-slot="${i}"><title>${hms(sl[i][0])} ${q?q[0]:"free"}</title></rect>`}
-  const me=rows.find(q=>q[0]===key);if(me){g+=line(me,'stroke="#b45f00" stroke-width="2.6" fill="none"')+`<circle cx="${x(me[1])}" cy="${y0}" r="3.4" fill="#b45f00"/>`;if(me[4]!=null){const s=sl[me[4]];g+=`<rect x="${x(s[0])-1}" y="${y1-1}" width="${Math.max(3,x(s[1])-x(s[0])+1)}" height="15" rx="2" fill="#ffc66b" stroke="#b45f00" stroke-width="1.6"/>`}
-    g+=`<text class="strong" x="${Math.min(Math.max(x(me[1]),L+52),W-76)}" y="${y0-9}" text-anchor="middle">${key} ${hm(me[1])} → ${hm(me[2])}</text>`}
-  g+=`<text x="${L-6}" y="${y0+4}" text-anchor="end">ETO</text><text x="${L-6}" y="${y1+10}" text-anchor="end">CTO</text>`;
-  $("slope").innerHTML=`<div class="head" style="padding-bottom:0"><h2>From planned to calculated</h2><span class="hint">a line for each flight: the more it leans, the longer it waits</span></div><svg viewBox="0 0 ${W} ${H}" role="img" aria-label="Each flight from its planned time to its slot">${g}</svg>`}
+const bySlot=rows=>{const by={};for(const q of rows)if(q[4]!=null)(by[q[4]]=by[q[4]]||[]).push(q);return by};
 const kindOf=q=>q[3]!=="forced"&&q[4]==null?"over":q[3];
 const word={issued:"issued",pre:"pre-allocated",forced:"forced",over:"no slot left",free:"free"};
-function drawList(){const r=S.regs.find(x=>x.reg===reg);if(!r){$("list").innerHTML="";return}
-  const rows=S.lists[reg],sl=slotsOf(r.periods),by={};for(const q of rows)if(q[4]!=null)(by[q[4]]=by[q[4]]||[]).push(q);
-  const all=[];sl.forEach((s,i)=>{for(const q of by[i]||[null])all.push([s[0],i,s,q])});
-  for(const q of rows)if(q[4]==null)all.push([q[2],-1,null,q]);
-  all.sort((p,q)=>p[0]-q[0]||p[1]-q[1]);const m=Math.max(60,...rows.map(q=>q[2]-q[1]));
-  $("l-legend").innerHTML=["issued","pre","forced","over","free"].map(k=>`<span class="kind k-${k}"><i></i>${word[k]}</span>`).join("");
-  $("list").innerHTML=`<table><thead><tr><th class="num" style="width:48px">Slot</th><th style="width:130px">Window</th><th>Flight</th><th class="num">ETO</th><th class="num">CTO</th><th style="width:190px">Delay</th><th>Stands</th></tr></thead><tbody>`+
-  all.map(([t,i,s,q])=>{if(!q)return`<tr class="free"><td class="num">${i}</td><td>${hms(s[0])}–${hms(s[1]).slice(3)}</td><td>–</td><td></td><td></td><td></td><td><span class="kind k-free"><i></i>free</span></td></tr>`;
-    const k=kindOf(q),d=q[2]-q[1];return`<tr tabindex="0" data-key="${q[0]}" class="${q[0]===key?"pick":""}${i<0?" out":""}"><td class="num">${i<0?"":i}</td><td>${s?hms(s[0])+"–"+hms(s[1]).slice(3):""}</td><td><b style="font-weight:600">${q[0]}</b></td><td class="num">${hms(q[1])}</td><td class="num">${hms(q[2])}</td><td><span class="bar" style="width:${Math.round(110*d/m)}px;${k==="forced"?"background:#cfd6dc":k==="over"?"background:#c23b00":k==="issued"?"background:#174f8f":""}"></span>${d?mins(d)+" min":"0"}</td><td><span class="kind k-${k}"><i></i>${word[k]}${k==="forced"?" by "+(S.flights[q[0]]&&S.flights[q[0]].reg||"none"):""}</span></td></tr>`}).join("")+"</tbody></table>";
-  const p=$("list").querySelector(".pick");if(p)$("list").scrollTop=p.offsetTop-$("list").clientHeight/2}
-let asked=null;
+const kind=(k,more)=>h("span.kind",h("i.s-"+k),word[k]+(more||""));
+function drawTop(){const total=k=>S.regs.reduce((n,r)=>n+r[k],0),d=total("delay"),g=total("governed"),i=total("issued"),o=total("over"),m=Math.max(0,...S.regs.map(r=>r.longest)),
+  figure=(id,value,text)=>{$(id).textContent=text;$(id).dataset.value=value};
+ fill("clock",hm(S.clock),h("small","UTC\u2002"+S.day));$("clock").dataset.value=S.clock;
+ figure("f-delay",d,minutes(d));figure("f-gov",g+" "+i,big(g)+", "+big(i));figure("f-mean",Math.floor(d/(g||1))+" "+m,(g?(d/g/60).toFixed(1):"0")+", "+Math.round(m/60)+" min");
+ figure("f-over",o,o);$("f-over").className=o?"bad":"";
+ document.title=["casa",S.day,hm(S.clock),live?"live":"a kept record"].filter(Boolean).join(" ")}
+/* Regulations: each with its demand by 20 minutes where its list stands in the page, and else with the use of its slots. */
+function strip(r){const st=steps(r,rowsOf(r.reg),1200).slice(0,-1),w=Math.min(13,150/st.length),top=14/Math.max(1,...st.map(s=>sum(s.p))),
+  bars=(of)=>st.map((s,i)=>{const[a,b]=of(s,sum(s.p));return b>a?`M${i*w} ${14-a*top}v${(a-b)*top}h${w-1.5}v${(b-a)*top}z`:""}).join(""),over=bars((s,p)=>[s.slots,p]);
+ return v("svg.strip",{viewBox:`0 0 ${w*st.length} 14`,width:w*st.length,preserveAspectRatio:"none"},v("title","planned flights by 20 minutes; hatched above capacity"),v("path.f-plan",{d:bars((s,p)=>[0,Math.min(p,s.slots)])}),v("path.f-over",{d:over}),v("path.f-hatch",{d:over}))}
+function use(r){const parts=[["issued",r.issued],["pre",r.governed-r.issued],["free",Math.max(0,r.slots-r.governed+r.over)]].filter(p=>p[1]);
+ return h("div.use",{title:`${r.slots} slots; ${parts.map(p=>p[1]+" "+word[p[0]]).join(", ")}`},parts.map(([k,n])=>h("i.s-"+k,{style:`flex:${n} 0 0`})))}
+function drawRegs(){const by=$("r-sort").value,all=[...S.regs].sort((x,y)=>by?y[by]-x[by]:0);
+ $("r-count").textContent=all.length+" open";
+ fill("regs",all.map(r=>{const data={};for(const k of["reg","delay","governed","issued","over","forced","longest"])data["data-"+k]=r[k];
+  return h("li.reg",{role:"option",tabindex:-1,...data},h("div",h("span.id",r.reg),h("span.loc",r.loc),r.over>0&&h("span.bad",{title:"flights without a slot"},r.over)),
+   h("div.delay",big(Math.round(r.delay/60))+" ",h("small","min")),live?use(r):strip(r),h("div.when",span(r).map(hm).join("–")+"\u2002"+r.governed+" fl."))}));markReg()}
+function markReg(){const all=[...$("regs").children],shown=all.find(x=>x.dataset.reg===reg);
+ for(const x of all){x.classList.toggle("on",x===shown);x.setAttribute("aria-selected",x===shown);x.tabIndex=x===(shown||all[0])?0:-1}}
+/* The one that is shown: its figures, and its demand beside its capacity. */
+function drawOne(){const r=regOf(reg);if(!r)return fill("one",h("p.hint.pad","No regulation is open."));
+ const g=r.governed,slots=slotsOf(r.periods).length,rates=r.periods.map(p=>p.rate).join(" · ")+" flights an hour",
+  fig=(name,value,text,label)=>h("div.fig",h("b",{"data-fig":name,"data-value":value,class:name==="over"&&value?"bad":null},text),h("span",label||name)),
+  button=(act,text)=>h("button.btn",{"data-act":act},text);
+ fill("one",h("div.title",h("div",h("b",reg),h("span",r.loc),h("span",span(r).map(hm).join("–")),h("span.rates",{title:rates},rates)),live&&h("p.acts",button("rates","New rates…"),button("swap","Exchange…"),button("close","Close…"))),
+  h("div.facts",fig("delay",r.delay,minutes(r.delay)),fig("mean",Math.floor(r.delay/(g||1)),(g?(r.delay/g/60).toFixed(1):0)+" min"),fig("longest",r.longest,Math.round(r.longest/60)+" min"),
+   fig("governed",g,g),fig("issued",r.issued,r.issued),fig("forced",r.forced,r.forced),fig("over",r.over,r.over,"without a slot"),fig("slots",slots,slots)),
+  h("div.head",h("h2","Demand and capacity"),h("div.legend",[["s-plan","planned"],["s-over","above"],["s-issued","issued"],["s-pre","pre-allocated"],["s-forced","forced"],["cap","capacity"]].map(([k,t])=>h("span",h("i."+k),t))),
+   h("div.seg",{role:"group","aria-label":"Steps"},[20,60].map(m=>h("button"+(step===m?".on":""),{"data-step":m,"aria-pressed":String(step===m)},m+" min")))),
+  S.lists[reg]?demand(r,Math.max(420,$("one").clientWidth-2)):h("p.hint.pad","…"))}
+function demand(r,W){const st=steps(r,rowsOf(reg),step*60),to=preview&&preview.reg===reg?steps(preview,[],step*60):[],[a,b]=span(r),n=st.length,
+  H=Math.max(180,Math.min(250,innerHeight*.215)),L=34,T=14,B=26,w=(W-L-8)/n,pad=w*.1,bw=Math.max(1,w/2-pad-1),every=Math.ceil(46/w),
+  top=Math.max(4,...st.map(s=>Math.max(sum(s.p),sum(s.c),s.slots)),...to.map(s=>s.slots))*1.08,y=u=>T+(H-T-B)*(1-u/top),tick=[1,2,5,10,20,50,100,200,500,1000,2000].find(t=>top/t<=6)||5e3,
+  svg=v("svg",{viewBox:`0 0 ${W} ${H}`,role:"list","aria-label":`Planned and calculated flights beside slots by ${step} minutes`}),tips=[],
+  text=(x,y,t,cls,anchor)=>v("text"+(cls||""),{x,y,"text-anchor":anchor||"middle"},t),
+  bar=(cls,x,from,to)=>v("rect."+cls,{x,y:y(to),width:bw,height:y(from)-y(to)}),
+  line=(list,cls)=>v("path."+cls,{d:list.filter(s=>!s.after).slice(0,n-1).map((s,i)=>(i?"L":"M")+(L+i*w)+" "+y(s.slots)+"h"+w).join("")});
+ for(let u=0;u<=top;u+=tick)svg.append(v("path.f-grid",{d:`M${L} ${y(u)}H${W-8}`}),text(L-6,y(u)+4,u,"","end"));
+ st.forEach((s,i)=>{const x=L+i*w,p=sum(s.p),c=sum(s.c),over=s.after?0:Math.max(0,p-s.slots),
+   told=`${s.after?"later":hm(s.a)+"–"+hm(s.b)}: ${p} planned, ${s.slots} slots, ${c} calculated (${s.c.issued} issued, ${s.c.pre} pre-allocated, ${s.c.forced} forced)`,
+   tip=(n,x)=>n&&w>=26&&tips.push(text(x,y(n)-4,n,".v"));
+  let u=0;
+  svg.append(v("g.step",{role:"listitem","aria-label":told,"data-from":s.a,"data-planned":p,"data-slots":s.slots,"data-calculated":c},v("title",told),v("rect"+(s.after?".f-later":""),{x,y:T,width:w,height:H-T-B,fill:"transparent"}),
+   p>over&&bar("f-plan",x+pad,0,p-over),over>0&&[bar("f-over",x+pad,p-over,p),bar("f-hatch",x+pad,p-over,p)],
+   ["issued","pre","forced"].map(k=>s.c[k]>0&&bar("f-"+k,x+pad+bw+2,u,u+=s.c[k]))));
+  tip(p,x+pad+bw/2);tip(c,x+pad+bw*1.5+2);
+  if(s.after)svg.append(text(Math.min(x+w/2,W-16),H-B+15,"later"));else if(i%every===0&&(n-1-i)*w>40)svg.append(text(x,H-B+15,hm(s.a)))});
+ const now=L+(S.clock-a)/(step*60)*w;
+ put(svg,[],[line(st,"f-cap"),to.length>0&&line(to,"f-new"),tips,S.clock>a&&S.clock<b&&[v("path.f-now",{d:`M${now} ${T}V${H-B}`}),text(now+4,T+4,"now",".t-now","start")]]);
+ return svg}
+/* A line for each flight, from its planned time to its calculated one; where there are very many, a path for each kind. */
+const FEW=700;
+function drawSlope(){const r=S.lists[reg]&&regOf(reg);if(!r)return fill("slope");
+ const rows=rowsOf(reg),[a,b]=span(r),sl=slotsOf(r.periods),by=bySlot(rows),me=rowOf(reg,key),W=Math.max(420,$("slope").clientWidth-2),H=126,L=34,y0=22,y1=88,R=8+(W-42)/steps(r,[],step*60).length,
+  x=t=>L+(Math.min(t,b+600)-a)/(b-a)*(W-L-R),svg=v("svg",{viewBox:`0 0 ${W} ${H}`,role:"img","aria-label":"Each flight from its planned time over to its slot"}),
+  way=q=>`M${x(q[1])} ${y0}L${x(q[2])} ${y1}`,wide=s=>Math.max(1.2,x(s[1])-x(s[0])-1),slot=s=>`M${x(s[0])} ${y1}h${wide(s)}v13h-${wide(s)}z`,
+  line=(q,k)=>v("path.l.l-"+k,{"data-key":q[0],d:way(q)},v("title",`${q[0]} ${hm(q[1])} → ${hm(q[2])}, ${mins(q[2]-q[1])} min`)),
+  text=(x,y,t,more)=>v("text",{x,y,"text-anchor":"middle",...more},t),held=i=>by[i]?by[i].some(q=>q[3]==="issued")?"issued":"pre":"free",hour=b-a>36000?7200:3600,ev=b-a>28800?3600:1200;
+ for(let t=Math.ceil(a/ev)*ev;t<=b;t+=ev)put(svg,[],[v(t%hour?"path.f-grid":"path.f-hour",{d:`M${x(t)} ${y0-6}V${y1+20}`}),t%hour===0&&text(x(t),y1+33,hm(t))]);
+ for(const k of["forced","pre","issued","over"]){const some=rows.filter(q=>kindOf(q)===k&&q!==me);put(svg,[],rows.length>FEW?[v("path.l.l-"+k,{d:some.map(way).join("")})]:some.map(q=>line(q,k)))}
+ if(sl.length>FEW)for(const k of["issued","pre","free"])svg.append(v("path.f-"+k,{d:sl.filter((s,i)=>held(i)===k).map(slot).join("")}));
+ else svg.append(...sl.map((s,i)=>v("path.f-"+held(i),{d:slot(s)},v("title",hms(s[0])+" "+(by[i]?by[i].map(q=>q[0]).join(", "):"free")))));
+ if(me)put(svg,[],[line(me,"me"),v("circle.c-me",{cx:x(me[1]),cy:y0,r:3.4}),me[4]!=null&&sl[me[4]]&&v("path.f-me",{d:slot(sl[me[4]])}),text(Math.min(Math.max(x(me[1]),L+58),W-76),y0-9,`${key} ${hm(me[1])} → ${hm(me[2])}`,{class:"strong"})]);
+ svg.append(text(L-18,y0+4,"ETO"),text(L-18,y1+10,"CTO"));
+ fill("slope",h("div.head",h("h2","From planned to calculated"),h("span.hint","the more a line leans, the longer the flight waits")),svg)}
+/* The list, with the slots that are free. Of a long one only the rows on the screen are drawn. */
+const ROW=25, LONG=1000;
+let L={all:[]}, cur=0, whole=false;
+function drawList(){const r=S.lists[reg]&&regOf(reg),rows=rowsOf(reg),by=bySlot(rows),all=[],now=reg+" "+key;
+ if(!$("l-legend").firstChild)fill("l-legend",["issued","pre","forced","over","free"].map(k=>kind(k)));
+ if(r)slotsOf(r.periods).forEach((s,i)=>{for(const q of by[i]||[null])all.push([s[0],i,s,q])});
+ for(const q of rows)if(q[4]==null)all.push([q[2],-1,null,q]);
+ all.sort((p,q)=>p[0]-q[0]||p[1]-q[1]);
+ L={all,most:rows.reduce((m,q)=>Math.max(m,q[2]-q[1]),60)};
+ const mine=all.findIndex(p=>p[3]&&p[3][0]===key),n=all.length;
+ cur=within(mine<0?cur:mine,n);drawRows(true);
+ if(n&&drawList.seen!==now){if(mine>=0)toRow(mine,true);else if(drawList.of!==reg)$("list").scrollTop=0;drawList.seen=now;drawList.of=reg}}
+function drawRows(anew){const box=$("list"),n=L.all.length;let from=0,to=n;
+ if(n>LONG&&!whole){const some=Math.ceil(box.clientHeight/ROW)+40;from=within(Math.floor(box.scrollTop/ROW)-20,n-some+1);to=from+some}
+ if(!anew&&L.from===from&&L.to===to)return;
+ L.from=from;L.to=to;
+ const gap=k=>k>0&&h("tr",{"aria-hidden":"true"},h("td.gap",{colspan:7,style:`height:${k*ROW}px`})),th=name=>{const[tag,...cls]=name.split(".");return h("th",{scope:"col",class:cls.join(" ")||null},tag)};
+ fill("list",n>0&&h("table",{role:"grid","aria-label":"Slot list of "+reg,"aria-rowcount":n+1},h("thead",h("tr",["Slot.num","Window.c-win","Flight","ETO.num","CTO.num","Delay","Stands"].map(th))),
+  h("tbody",gap(from),L.all.slice(from,to).map((p,i)=>row(p,from+i)),gap(n-to))))}
+function row([,i,s,q],at){const k=q?kindOf(q):"free",d=q&&q[2]-q[1],f=q&&S.flights[q[0]],mine=q&&q[0]===key,is={"data-i":at,"aria-rowindex":at+2,tabindex:at===cur?0:-1,"data-slot":i<0?"":i,"data-kind":q?q[3]:k,
+   class:[mine&&"pick",i<0&&"out",!q&&"free"].filter(Boolean).join(" ")},
+  cells=[h("td.num",i<0?"":i),h("td.c-win",s?hms(s[0])+"–"+hms(s[1]).slice(3):"")];
+ if(!q)return h("tr",is,cells,h("td","–"),h("td"),h("td"),h("td"),h("td",kind(k)));
+ return h("tr",is,{"data-key":q[0],"data-eto":q[1],"data-cto":q[2],"aria-selected":String(mine)},cells,h("td",h("b",q[0])),h("td.num",hms(q[1])),h("td.num",hms(q[2])),
+  h("td",h("span.bar.s-"+k,{style:`width:calc(var(--bar)*${(d/L.most).toFixed(3)})`}),d?mins(d)+" min":"0"),h("td",kind(k,k==="forced"&&f&&f.etot!=null?" by "+(f.reg||"none"):"")))}
+/* Goes to a row: it is seen, and has the focus. */
+function toRow(i,quiet){cur=i;const box=$("list"),at=i*ROW,room=box.clientHeight-ROW-26;
+ if(at<box.scrollTop||at>box.scrollTop+room)box.scrollTop=quiet?at-room/2:at<box.scrollTop?at:at-room;
+ drawRows(!quiet);
+ if(!quiet)box.querySelector(`[data-i="${i}"]`).focus({preventScroll:true})}
 /* By which rule a flight is governed, or not. */
-const rules={GreatestDelay:"it offers the greatest delay",SmallestId:"it offers the greatest delay, and others as much; its identifier is the smallest",
-  SinceEntry:"since the flight entered; if it entered now, another one would",GovernedGone:"since the flight entered; it is gone now",
-  Exempt:"the flight is exempt",Gone:"the flight is gone",Outside:"the flight is subject to no open regulation"};
-function drawFlight(){const f=S.flights[key];if(!f){$("flight").innerHTML='<div class="head"><h2>Flight</h2></div><p class="hint" style="padding:0 14px 8px">Click a flight, or find one by its key.</p>';return}
-  const state=f.issued?"issued":f.reg?"pre":"none",tag=f.issued?"issued":f.reg?"pre-allocated":f.exempt?"exempt":"free";
-  let offers=[];for(const r of S.regs){const q=S.lists[r.reg].find(q=>q[0]===key);if(q)offers.push([r.reg,q])}
-  offers.sort((p,q)=>(q[0]===f.reg)-(p[0]===f.reg)||p[1][1]-q[1][1]);const m=Math.max(60,f.delay);
-  let why="",queue="";
-  if(f.reg){const r=S.regs.find(x=>x.reg===f.reg),sl=slotsOf(r.periods),rows=S.lists[f.reg],q=rows.find(q=>q[0]===key),by={};for(const p of rows)if(p[4]!=null)by[p[4]]=p;
-    let w=sl.findIndex(s=>s[1]>q[1]);const last=q[4]==null?sl.length-1:q[4];const held=[];for(let i=w;i>=0&&i<=last;i++)held.push([i,by[i]]);
-    const iss=held.filter(h=>h[1]&&h[1][3]==="issued"&&h[1][0]!==key).length,pr=held.filter(h=>h[1]&&h[1][3]==="pre"&&h[1][0]!==key).length,fr=held.filter(h=>!h[1]).length;
-    why=q[2]===q[1]?`<p><b>${f.reg}</b> governs, and it does not wait.</p>`:`<p>It waits <b>${mins(f.delay)} min</b> by <b>${f.reg}</b>: of the ${held.length-1} slots before its own ${iss} are issued${pr?", "+pr+" pre-allocated to flights planned earlier":""}${fr?`, and <b>${fr} free</b>: a revise may get it an earlier one`:""}.</p>`;
-    queue=held.length>1?`<div class="queue" title="slots from the one it asks for to its own">${held.slice(-54).map(([i,p])=>`<i class="${p?(p[0]===key?"me":p[3]):"free"}" ${p?`data-key="${p[0]}"`:""} title="${hms(sl[i][0])} ${p?p[0]+", planned "+hms(p[1]):"free"}"></i>`).join("")}</div><div class="hint" style="margin-top:4px">${hm(sl[w]?sl[w][0]:0)} it asks for this slot&ensp;→&ensp;${q[4]==null?"none left":hm(sl[q[4]][0])+" its own"}</div>`:""}
-  const told=S.reasons[key];
-  if(!f.reg)why=`<p>Nothing governs: ${told?rules[told.rule]:f.exempt?"the flight is exempt":"no open regulation delays it"}.</p>`;
-  else if(told)why+=`<p class="hint">${f.reg} governs: ${rules[told.rule]}.</p>`;
-  const offered=told?told.offers.map(o=>[o.reg,hms(o.cto),mins(o.delay)+" min"]):offers.map(([r,q])=>[r,hms(q[1])+" → "+hms(q[2]),r===f.reg?"governs":"forced"]);
-  const via=(S.plans[key]||[]).map(([l,e])=>{const on=offers.some(o=>{const r=S.regs.find(x=>x.reg===o[0]);return r.loc===l});return`<span style="${on?"font-weight:600;color:var(--ink)":""}">${l} ${hm(e)}</span>`}).join(" › ");
-  $("flight").innerHTML=`<div class="flight"><span class="key">${key}</span><span class="tag ${state}">${tag}</span>
-   <div class="times"><div><span>EOBT</span><b>${hm(f.eobt)}</b></div><div><span>ETOT</span><b>${hm(f.etot)}</b></div><div><span>CTOT</span><b style="color:${f.delay?"var(--pick)":"inherit"}">${hm(f.ctot)}</b></div><div><span>delay</span><b>${mins(f.delay)} min</b></div></div>
-   <div class="hint" style="margin:7px 0 8px;line-height:1.55">${via}</div></div>
-   <div class="why"><h2>Why it waits</h2>${why}${queue}</div>
-   ${offered.length?`<div class="why"><h2 style="margin-bottom:5px">${told?"What each regulation would offer it now":"Regulations on its way"}</h2>${offered.map(([r,time,last])=>`<div class="offer${r===f.reg?" on":""}" data-reg="${r}" style="cursor:pointer"><span>${r}</span><span class="num">${time}</span><span class="num">${last}</span></div>`).join("")}</div>`:""}
-   <div class="why" style="padding-bottom:8px"><h2>What to do</h2></div>
-   <div class="acts"><button class="btn" data-act="revise">Revise</button><button class="btn" data-act="swap" ${f.issued?"":"disabled"}>Swap with…</button><button class="btn" data-act="exempt" ${f.exempt?"disabled":""}>Exempt</button></div>
-   <div class="line mono" id="line">${asked?esc(asked):`<b>{"cmd":"revise","key":"${key}"}</b><br>is the line that <i>Revise</i> sends, as any desk would`}</div>`}
-function drawMsgs(){const m=S.messages.slice(-120).reverse();$("m-count").textContent="flight and its new take-off";
-  $("msgs").innerHTML=m.map(x=>`<div class="msg" data-key="${x.key}"><span class="t">${hm(x.at)}</span><span class="${x.kind}">${x.kind}</span><b style="font-weight:600">${x.key}</b><span>${x.ctot==null?"–":hm(x.ctot)}</span><span class="hint">${x.reg||""}</span></div>`).join("")}
-function draw(){drawTop();drawRegs();drawOne();drawSlope();drawList();drawFlight();drawMsgs();
-  $("keys").innerHTML=Object.keys(S.flights).sort().slice(0,4000).map(k=>`<option value="${k}">`).join("")}
-document.addEventListener("click",e=>{const t=e.target.closest("[data-key],[data-reg],[data-step],[data-act]");if(!t)return;
-  if(t.dataset.step){step=+t.dataset.step;drawOne();drawSlope()}
-  else if(t.dataset.act)act(t.dataset.act);
-  else if(t.dataset.key)pick(t.dataset.key);
-  else if(t.dataset.reg){reg=t.dataset.reg;draw()}});
-document.addEventListener("keydown",e=>{if(e.key==="Enter"&&document.activeElement.dataset&&(document.activeElement.dataset.reg||document.activeElement.dataset.key))document.activeElement.click()});
-$("find").addEventListener("change",e=>{const k=e.target.value.trim().toUpperCase();if(S.flights[k])pick(k)});
-function pick(k){key=k;asked=null;const f=S.flights[k];if(f&&f.reg&&!S.lists[reg].some(q=>q[0]===k))reg=f.reg;draw()}
-function act(a){const c=a==="revise"||a==="exempt"?{cmd:a,key}:a==="swap"?{cmd:"swap",key,other:prompt("Swap with which issued flight of the regulation?")||""}:a==="close"?{cmd:"close",reg}:null;
-  if(a==="rates"){const r=S.regs.find(x=>x.reg===reg),t=prompt("Rates, a period each: FROM-TO@RATE",r.periods.map(p=>hm(p.from)+"-"+hm(p.to)+"@"+p.rate).join(" "));if(!t)return;
-    const sec=h=>{const[x,y]=h.split(":");return x*3600+y*60};return send({cmd:"rates",reg,periods:t.trim().split(/\s+/).map(p=>{const[q,n]=p.split("@"),[f,to]=q.split("-");return{from:sec(f),to:sec(to),rate:+n}})})}
-  if(c)send(c)}
-/* A session that was kept: its command lines and their reply lines, as files that are dropped on the page. */
-function kept(lines,replies){const S={day:"",clock:0,n:0,regs:[],lists:{},flights:{},plans:{},reasons:{},messages:[]},open={};
-  lines.forEach((l,i)=>{let c,a;try{c=JSON.parse(l);a=JSON.parse(replies[i])}catch(e){return}if(!a.n)return;S.n=a.n;if(a.refused)return;
-    if(c.cmd==="tick")S.clock=c.at;if(c.cmd==="close"){delete open[c.reg];delete S.lists[c.reg]}
-    if(c.cmd==="open")open[c.reg]={reg:c.reg,loc:c.loc,periods:c.periods};if(c.cmd==="rates")open[c.reg].periods=c.periods;
-    if(c.cmd==="file"||c.cmd==="amend")S.plans[c.key]=c.via.map(v=>[v.loc,v.eto]);if(c.cmd==="cancel")delete S.flights[c.key];
-    if(a.list)S.lists[c.reg]=a.list.rows.map(x=>[x.key,x.eto,x.cto,x.kind,x.slot]);if(a.flight)S.flights[a.flight.key]=a.flight;
-    for(const m of a.msgs||[])S.messages.push({at:S.clock,...m})});
-  S.regs=Object.values(open).filter(r=>S.lists[r.reg]);const at=new Set(Object.values(S.lists).flat().map(q=>q[0]));for(const k in S.flights)if(!at.has(k))delete S.flights[k];S.messages=S.messages.slice(-400);return S}
-addEventListener("resize",()=>{drawOne();drawSlope()});
-document.addEventListener("dragover",e=>e.preventDefault());
-document.addEventListener("drop",async e=>{e.preventDefault();let lines=null,replies=null;for(const f of e.dataTransfer.files){const t=(await f.text()).split("\n").filter(Boolean);if(t[0]&&t[0].includes('"cmd"'))lines=t;else replies=t}
-  if(!lines||!replies||lines.length!==replies.length){$("live").textContent="drop the command lines and their replies, two files";return}
-  S=kept(lines,replies);reg=S.regs.length?S.regs[0].reg:null;key=null;$("dot").className="dot rec";$("live").textContent="a kept session";draw()});
-async function send(c){const line=JSON.stringify(c);asked=line;if(window.ask){asked=line+"  →  "+await window.ask(line);await window.look()}draw()}
-</script>
-<script>
+const rules={GreatestDelay:"it offers the greatest delay, as the most penalising one",SmallestId:"it offers the greatest delay, and others as much; its identifier is the smallest",
+ SinceEntry:"since the flight entered; if it entered now, another one would",GovernedGone:"since the flight entered; it is gone now",
+ Exempt:"the flight is exempt",Gone:"the flight is gone",Outside:"the flight is subject to no open regulation"};
+/* The slots from the one that a flight asks for to its own, each as [begin, key, kind, eto]. */
+function held(f){const told=S.reasons[f.key],q=rowOf(f.reg,f.key),out=[];
+ if(told)return told.holdings.map(x=>[x.begin,x.key,x.kind,x.eto]);
+ if(!q)return out;
+ const sl=slotsOf(regOf(f.reg).periods),by=bySlot(rowsOf(f.reg)),last=q[4]==null?sl.length-1:q[4];
+ for(let i=sl.findIndex(s=>s[1]>q[1]);i>=0&&i<=last;i++)for(const p of by[i]||[[]])out.push([sl[i][0],p[0],p[3],p[1]]);
+ return out}
+function why(f){const told=S.reasons[f.key];
+ if(!f.reg)return h("p",`Nothing governs: ${told?rules[told.rule]:f.exempt?rules.Exempt:"no open regulation delays it"}.`);
+ const slots=held(f),own=slots.find(s=>s[1]===f.key),before=slots.filter(s=>s!==own),count=k=>before.filter(s=>s[2]==k).length,pre=count("pre"),free=count(null);
+ return[f.delay?h("p","It waits ",h("b",mins(f.delay)+" min")," by ",h("b",f.reg),`: of the ${several(before.length,"slot")} ${own?"before its own":"up to the end"} ${count("issued")} issued`,pre>0&&`, ${pre} pre-allocated to flights planned earlier`,
+   free>0&&[", ",h("b",free+" free"),": a revise may get it an earlier one"],own?".":"; none is left for it."):h("p",h("b",f.reg)," governs, and it does not wait."),
+  slots.length>1&&[h("div.queue",{role:"img","aria-label":"The slots from the one it asks for to its own"},slots.slice(-54).map(([t,k,kd,eto])=>h("i",{class:k===f.key?"me":k?"s-"+kd:"s-free","data-key":k===f.key?null:k,title:hms(t)+" "+(k?k+", planned "+hms(eto):"free")}))),
+   h("p.hint",`${hm(slots[0][0])} the slot it asks for → ${own?hm(own[0])+" its own":"none left"}`)],
+  told&&h("p.hint",`${f.reg} governs: ${rules[told.rule]}.`)]}
+function drawFlight(){const f=S.flights[key],told=S.reasons[key],rows=[];
+ if(!f||f.etot==null)return fill("flight",h("div.head",h("h2","Flight")),h("p.hint.pad",!key?"Pick a flight, or find one by its key.":f?key+" …":`No flight is filed under ${key}.`));
+ for(const r of S.regs){const q=rowOf(r.reg,key);if(q)rows.push([r.reg,q])}
+ rows.sort((p,q)=>(q[0]===f.reg)-(p[0]===f.reg)||p[1][1]-q[1][1]);
+ const offers=told?told.offers.map(o=>[o.reg,"CTO "+hms(o.cto),mins(o.delay)+" min",o.delay]):rows.map(([r,q])=>[r,hms(q[1])+" → "+hms(q[2]),r===f.reg?"governs":"forced",q[2]-q[1]]),
+  at=offers.map(o=>(regOf(o[0])||{}).loc),time=(name,value,text)=>h("div",h("span",name),h("b",{"data-fig":name,"data-value":value,class:name==="CTOT"&&f.delay?"late":null},text||hm(value)));
+ fill("flight",h("div.flight",{"data-flight":key},h("h2.unseen","Flight"),h("span.key",key),h("span.tag."+(f.issued?"issued":f.reg?"pre":"none"),f.issued?"issued":f.reg?"pre-allocated":f.exempt?"exempt":"not governed"),
+   h("div.times",time("EOBT",f.eobt),time("ETOT",f.etot),time("CTOT",f.ctot),time("delay",f.delay,mins(f.delay)+" min")),
+   h("p.hint.way",(S.plans[key]||[]).map(([l,e],i)=>[i?" › ":"",h(at.includes(l)?"b":"span",l+" "+hm(e))]))),
+  h("div.why",h("h2",f.delay?"Why it waits":"How it stands"),why(f)),
+  offers.length>0&&h("div.why",h("h2",told?"What each regulation would offer it now":"Regulations on its way"),offers.map(([r,t,last,d])=>h("button.offer"+(r===f.reg?".on":""),{"data-reg":r,"data-value":d},h("span",r),h("span.num",t),h("span.num",last)))),
+  h("div.why",h("h2","What to do"),live?h("div.acts",[["revise","Revise…"],["swap","Exchange…",!f.issued],["exempt","Exempt…",f.exempt],["cancel","Cancel…"]].map(([a,t,off])=>h("button.btn",{"data-act":a,"data-reg":a==="swap"?f.reg:null,disabled:off?"":null},t))):
+   h("p.hint",{id:"kept"},"This is a kept record: it shows how things stood, and nothing can be sent from it.")))}
+let many=120;
+function drawMsgs(){const by=$("m-show").value,all=S.messages.filter(x=>!by||(by==="reg"?x.reg===reg:x.key===key)).reverse();
+ fill("msgs",all.slice(0,many).map((x,i)=>h("li.msg",{tabindex:i?-1:0,"data-key":x.key,"data-at":x.at,"data-kind":x.kind,"data-ctot":x.ctot,title:"caused by desk "+x.desk},h("span.t",hm(x.at)),h("span."+x.kind,x.kind),h("b",x.key),h("span",hm(x.ctot)),h("span.hint",x.reg||""))),
+  all.length>many&&h("li.pad",h("button.btn",{"data-act":"more"},"Older ones")),!all.length&&h("li.hint.pad","None."))}
+function drawReg(){drawOne();drawSlope();drawList()}
+function draw(){drawTop();drawRegs();drawReg();drawFlight();drawMsgs();$("r-acts").hidden=!live}
+/* What is picked. */
+function chooseReg(r){if(!regOf(r))return;reg=r;markReg();drawReg();if($("m-show").value)drawMsgs();if(live)ask()}
+function pick(k){key=k;const f=S.flights[k];if(f&&regOf(f.reg)&&!rowOf(reg,k)){reg=f.reg;markReg()}
+ drawReg();drawFlight();if($("m-show").value)drawMsgs();if(live)ask(k)}
+function find(text){const k=text.trim().toUpperCase();if(!k)return;$("find").value="";if(regOf(k)&&!S.flights[k])chooseReg(k);else pick(k)}
+const on=(id,event,what)=>(typeof id==="string"?$(id):id).addEventListener(event,what), within=(i,n)=>Math.max(0,Math.min(n-1,i));
+on(document,"click",e=>{const t=e.target.closest("[data-key],[data-reg],[data-step],[data-act]"),d=t&&t.dataset;if(!t)return;
+ if(d.step){step=+d.step;drawOne();drawSlope()}else if(d.act)act(d.act,d.reg);else if(d.key)pick(d.key);else chooseReg(d.reg)});
+on("search","submit",e=>{e.preventDefault();find($("find").value)});
+on("find","change",e=>{const k=e.target.value.trim().toUpperCase();if(S.flights[k]||regOf(k))find(k)});
+on("find","input",e=>{const t=e.target.value.trim().toUpperCase(),near=[];if(t)for(const k of[...S.regs.map(r=>r.reg),...Object.keys(S.flights)])if(k.startsWith(t)&&near.push(k)>19)break;
+ fill("keys",near.map(k=>h("option",{value:k})))});
+on("r-sort","change",drawRegs);on("m-show","change",()=>{many=120;drawMsgs()});on("list","scroll",()=>drawRows());
+const MOVES={ArrowDown:1,ArrowUp:-1,PageDown:10,PageUp:-10,Home:-1e9,End:1e9};
+for(const id of["regs","msgs"])on(id,"keydown",e=>{const d=MOVES[e.key],all=[...$(id).querySelectorAll("[tabindex]")],i=all.indexOf(e.target);if(!d||i<0)return;
+ e.preventDefault();const to=all[within(i+d,all.length)];e.target.tabIndex=-1;to.tabIndex=0;to.focus()});
+on("list","keydown",e=>{const d=MOVES[e.key],tr=e.target.closest("[data-i]");if(d&&tr){e.preventDefault();toRow(within(+tr.dataset.i+d,L.all.length))}});
+on(document,"keydown",e=>{const t=document.activeElement;
+ if((e.key==="Enter"||e.key===" ")&&t.matches("li[data-reg],li[data-key],tr[data-key]")){e.preventDefault();t.click()}
+ else if(e.key==="/"&&!t.matches("input,select")&&!e.ctrlKey){e.preventDefault();$("find").focus()}
+ else if(e.key==="Escape"){if(t===$("find")){t.value="";t.blur()}else if(!$("desk").hidden)back()}});
+let later;on(window,"resize",()=>{clearTimeout(later);later=setTimeout(drawReg,80)});
+on(window,"beforeprint",()=>{whole=true;drawRows(true)});on(window,"afterprint",()=>{whole=false;drawRows(true)});
+/* Commands. A form shows the line that its button sends; then the reply stands in its place. */
+let form=null;
+const clock=t=>two(Math.floor(t/3600))+hm(t).slice(2)+(t%60?":"+two(t%60):"");
+const seconds=text=>{const m=/^(\d{1,2}):?([0-5]\d)(?::([0-5]\d))?$/.exec(text.trim());return m?m[1]*3600+m[2]*60+ +(m[3]||0):NaN};
+const shift=d=>d?mins(Math.abs(d))+" min "+(d<0?"earlier":"later"):"at the same time";
+const does={open:["Open","Flights over the location in this time that nothing governs get a slot there."],
+ rates:["Give new rates","Issued times stay; all others are placed anew. The end may come later, and that is for good. The dashed line shows the new capacity."],
+ close:["Close","Its flights lose their slots and look for one in the other regulations on their way. Operators get an SRM or an SLC."],
+ swap:["Exchange","Each of the two gets the other's time over, and nobody else moves."],
+ revise:["Revise","It looks for a slot anew. An issued flight keeps its own where it gets no earlier one."],
+ exempt:["Exempt","No regulation delays it any more. Where it was issued, its operator gets an SLC."],
+ cancel:["Cancel","Its plan is removed, and its slot is free. No message goes out."]};
+const field=n=>$("form").elements[n];
+async function act(a,of){if(a==="more"){many+=120;return drawMsgs()}
+ if(a==="back")return back();
+ const r=of||reg;form={act:a,key,reg:r,rows:[],from:document.activeElement};
+ if(a==="rates")form.rows=regOf(r).periods.map(p=>[clock(p.from),clock(p.to),p.rate]);
+ if(a==="open"){const t=Math.ceil(S.clock/3600)*3600+7200;form.rows=[[clock(t),clock(t+7200),30]]}
+ if(a==="swap"&&!S.lists[r])try{takeList(await get("/list?"+r))}catch(e){}
+ $("form-title").textContent=does[a][0]+({open:" a regulation",rates:" to "+r,close:" "+r,swap:" in "+r}[a]||" "+key);
+ $("send").textContent=does[a][0];drawFields();$("desk").hidden=$("form").hidden=false;$("reply").hidden=true;$("c-flight").scrollTop=0;check();
+ ($("fields").querySelector("input:not([readonly]),select")||$("send")).focus()}
+function drawFields(){const f=form,fixed=f.act==="rates",input=(name,value,label,more)=>h("input",{name,value,"aria-label":label,autocomplete:"off",spellcheck:"false"},more),
+  label=(text,node)=>h("label",text,node),small=(text,label,act,i,off)=>h("button.btn",{type:"button","aria-label":label,"data-row":act,"data-at":i,disabled:off?"":null},text);
+ fill("fields",h("p.hint",does[f.act][1]),f.act==="open"&&[label("Regulation",input("reg","","Regulation")),label("Location",input("loc","","Location"))],
+  f.rows.length>0&&[h("div.period",["from","to","flights an hour"].map(t=>h("span",t))),f.rows.map((p,i)=>h("div.period",{role:"group","aria-label":"period "+(i+1)},
+   input("from"+i,p[0],"from",i||fixed?{readonly:"",tabindex:-1}:{}),input("to"+i,p[1],"to"),input("rate"+i,p[2],"flights an hour",{inputmode:"numeric"}),small("+","divide this period","add",i,f.rows.length>23),small("−","remove this period","drop",i,f.rows.length<2)))],
+  f.act==="swap"&&[label("Flight",h("select",{name:"key"},issuedIn(f.reg).map(q=>h("option",{value:q[0],selected:q[0]===f.key?"":null},q[0]+", "+hm(q[2]))))),label("with",h("select",{name:"other"})),h("p.hint",{id:"exchange"})]);
+ if(f.act==="swap")partners()}
+const issuedIn=id=>rowsOf(id).filter(q=>q[3]==="issued");
+/* The flights with which one can be exchanged: neither would come before its own time. */
+function partners(){const all=issuedIn(form.reg),one=all.find(q=>q[0]===field("key").value);
+ field("other").replaceChildren(...all.filter(q=>one&&q!==one&&q[2]>=one[1]&&one[2]>=q[1]).map(q=>h("option",{value:q[0]},`${q[0]}, ${hm(q[2])}: ${shift(q[2]-one[2])}`)))}
+/* Looks at what stands in the form: shows the line, or what is wrong. */
+function check(){const f=form,wrong=[],bad=(n,text)=>wrong.push([n,text]),c={cmd:f.act},time="A time is HH:MM, up to 47:59 on the second day.",text=n=>field(n).value.trim().toUpperCase(),
+  name=(n,label)=>{const t=text(n);if(!/^[A-Z0-9]{1,10}$/.test(t))bad(n,t&&label+" has 1 to 10 characters of A to Z and 0 to 9.");return t};
+ if(f.act==="open"){c.reg=name("reg","A regulation");c.loc=name("loc","A location");if(regOf(c.reg))bad("reg",c.reg+" is open already.")}
+ else if(f.act==="rates"||f.act==="close")c.reg=f.reg;
+ else c.key=f.key;
+ if(f.act==="swap"){c.key=field("key").value;c.other=field("other").value;const[a,b]=[c.key,c.other].map(k=>rowOf(f.reg,k)),one=(p,q)=>`${p[0]} ${hm(p[2])} → ${hm(q[2])}, ${shift(q[2]-p[2])}`;
+  $("exchange").textContent=a&&b?one(a,b)+"; "+one(b,a)+".":"";if(!a||!b)bad("other","No other issued flight can take its time and give its own.")}
+ if(f.rows.length){let from=seconds(text("from0"));if(!(from<172800))bad("from0",time);
+  c.periods=f.rows.map((p,i)=>{const to=seconds(text("to"+i)),rate=text("rate"+i),was=from;if(i)field("from"+i).value=field("to"+(i-1)).value;
+   if(!(to<172800))bad("to"+i,time);else if(to<=from)bad("to"+i,"A period ends after it begins.");
+   if(!/^\d{1,3}$/.test(rate)||+rate>600)bad("rate"+i,"A rate is a whole number from 0 to 600 flights an hour.");
+   from=to;return{from:was,to,rate:+rate}});
+  const last="to"+(f.rows.length-1),[a,b]=span(c),r=f.act==="rates"&&regOf(f.reg);if(b-a>86400)bad(last,"A regulation lasts 24 hours at most.");
+  if(r&&b<span(r)[1])bad(last,"It can't end before "+clock(span(r)[1])+", as it does now.")}
+ for(const e of $("form").elements)e.removeAttribute("aria-invalid");
+ for(const[n,t]of wrong)if(t)field(n).setAttribute("aria-invalid","true");
+ const texts=[...new Set(wrong.map(w=>w[1]))].filter(Boolean).join(" ");if($("wrong").textContent!==texts)$("wrong").textContent=texts;
+ f.line=wrong.length?"":JSON.stringify(c);$("line").textContent=f.line||"–";$("send").disabled=!f.line||!!lost||f.busy;
+ show(f.act==="rates"&&f.line?{reg:f.reg,periods:c.periods}:null)}
+/* Shows in the picture what capacity these periods give. */
+function show(periods){const was=JSON.stringify(preview);preview=periods;if(JSON.stringify(preview)!==was)drawOne()}
+function back(){const t=form&&form.from;$("desk").hidden=true;form=null;show(null);
+ const again=t&&(t.isConnected?t:t.dataset.act&&[...document.querySelectorAll(`[data-act="${t.dataset.act}"]`)].pop());if(again)again.focus()}
+on("fields","input",e=>{if(e.target.name==="key")partners();check()});
+on("fields","click",e=>{const t=e.target.closest("[data-row]");if(!t)return;const i=+t.dataset.at,rows=form.rows=form.rows.map((p,j)=>["from","to","rate"].map(n=>field(n+j).value)),p=rows[i],open=form.act==="open"&&["reg","loc"].map(n=>[n,field(n).value]);
+ if(t.dataset.row==="drop"){rows.splice(i,1);if(rows[i])rows[i][0]=p[0]}
+ else{const a=seconds(p[0]),b=seconds(p[1]),mid=b-a>600?clock(Math.round((a+b)/600)*300):"";rows.splice(i,1,[p[0],mid,p[2]],[mid,p[1],p[2]])}
+ drawFields();for(const[n,t]of open||[])field(n).value=t;check();field("to"+Math.min(i,rows.length-1)).focus()});
+on("form","submit",e=>{e.preventDefault();if(form&&!$("send").disabled)send()});
+const refusals={Duplicate:"a flight is filed under this key",NoFlight:"no such flight is filed",Late:"the off-block time is before the clock",AlreadyExempt:"the flight is exempt already",
+ DuplicateRegulation:"a regulation is open under this identifier",NoRegulation:"no regulation is open under this identifier",TooManyRegulations:"256 regulations are open",
+ SpanChanged:"the periods begin at another time than the regulation, or end before it",BackInTime:"the time is before the clock",NotIssued:"one of the two has no issued slot",
+ OtherRegulation:"different regulations govern the two",TooEarly:"one of the two would be over the location before its own estimated time, or take off before the clock"};
+/* A reply in words; "was" is the flight as it stood before. */
+function inWords(t,was){const f=t.flight;
+ if(t.fault)return`The line is no call (${[t.fault,t.field].filter(Boolean).join(" ")}): nothing was changed.`;
+ if(t.refused)return`Refused: ${refusals[t.refused]||"for a reason of its own"} (${t.code} ${t.refused}, call ${t.n}). Nothing was changed.`;
+ return f?`${f.key} takes off at ${hm(f.ctot)}, ${was&&was.ctot!=null&&was.ctot!==f.ctot?shift(f.ctot-was.ctot):"as before"}; ${f.reg?`${f.delay?mins(f.delay)+" min of delay":"no delay"} by ${f.reg}`:f.exempt?"it is exempt":"nothing governs it"} (call ${t.n}).`:`Done, as call ${t.n}.`}
+async function send(){const f=form,was=S.flights[f.key],unknown="Whether the call stands is not known: look before you send it again.";let text="",words,t={};f.busy=true;check();
+ try{const r=await fetch("/lines",{method:"POST",body:f.line+"\n",signal:AbortSignal.timeout(20000)});text=(await r.text()).trim();
+  if(r.ok){t=JSON.parse(text);words=inWords(t,was)}else words=r.status===503?"The server had no memory for the reply (503). "+unknown:`The server did not take the line (${r.status}): nothing was changed.`}
+ catch(e){words="No reply came. "+unknown}
+ const done=t.done||t.flight,msgs=t.msgs||[];f.busy=false;
+ say(words);$("reply-words").textContent=words;$("reply-words").className=done?"yes":"no";$("reply-sent").textContent=f.line;$("reply-line").textContent=text||"–";
+ fill("reply-msgs",msgs.slice(0,12).map(m=>h("li",h("span."+m.kind,m.kind)," ",h("b",m.key),m.ctot==null?": no slot needed":": take-off "+hm(m.ctot))),msgs.length>12&&h("li",`and ${msgs.length-12} more messages`));
+ $("desk").hidden=$("reply").hidden=false;
+ if(form===f&&!done)check();else if(form===f||!form){$("form").hidden=true;form={from:f.from};show(null);$("reply").querySelector("button").focus()}
+ try{await busy}catch(e){}
+ look().catch(()=>{})}
 /* What casa tells: the state, a list, a flight, and what came of calls. Each is taken as it is told. */
 let at=null;
 const takeState=t=>{S.n=t.n;S.clock=t.clock;S.regs=t.regs};
-const takeList=t=>{S.lists[t.list.reg]=t.list.rows.map(x=>[x.key,x.eto,x.cto,x.kind,x.slot])};
+const takeList=t=>{S.lists[t.list.reg]=t.list.rows.map(x=>[x.key,x.eto,x.cto,x.kind,x.slot]);S.fresh[t.list.reg]=t.n};
 const takeFlight=t=>{const k=t.flight.key;S.flights[k]=t.flight;S.plans[k]=t.plan.via.map(c=>[c.loc,c.eto]);if(t.offers)S.reasons[k]=t};
-const takeNews=t=>{for(const x of t.news){if(x.at!=null)at=x.at;for(const m of x.msgs)S.messages.push({at,desk:x.desk,...m})}S.messages=S.messages.slice(-400)};
-/* The flights of all lists, with the delay that each has in its governing one. */
-function flightsOfLists(){const f={};
-  for(const x of S.regs)for(const[k,e,c,kind]of S.lists[x.reg]||(S.lists[x.reg]=[]))if(kind!=="forced"){const o=S.flights[k];f[k]={...(o&&o.etot?o:{}),key:k,delay:c-e,issued:kind==="issued",reg:x.reg,exempt:false};if(f[k].etot)f[k].ctot=f[k].etot+c-e}
-  for(const x of S.regs)for(const[k]of S.lists[x.reg])f[k]=f[k]||S.flights[k]||{key:k,delay:0,issued:false,reg:null};
-  S.flights=f}
-const costliest=()=>S.regs.length?[...S.regs].sort((a,b)=>costOf(b).d-costOf(a).d)[0].reg:null;
-const longestWait=()=>reg&&([...S.lists[reg]].sort((a,b)=>(b[2]-b[1])-(a[2]-a[1]))[0]||[null])[0];
-const want=new URLSearchParams(location.search);
-if(want.get("step"))step=+want.get("step");
-/* What stands at the end of the page is drawn as it is; where nothing does, the page asks the casa that served it, once a second. */
-addEventListener("DOMContentLoaded",()=>{
-if(typeof RECORDED!=="undefined"){S.day=RECORDED.day;takeState(RECORDED.state);for(const list of RECORDED.lists)takeList({list});takeNews(RECORDED.since);flightsOfLists();(RECORDED.flights||[]).forEach(takeFlight);
-  $("dot").className="dot rec";$("live").textContent="as after call "+S.n;reg=want.get("reg")||costliest();key=want.get("key")||longestWait();draw()}
-else{
-  const get=async path=>{const r=await fetch(path);if(!r.ok)throw new Error(r.status);return r.json()};
-  window.ask=line=>fetch("/lines",{method:"POST",body:line+"\n"}).then(r=>r.text()).then(t=>t.trim());
-  /* What came of the calls of all desks, in the order of the calls. */
-  let seen=null;
-  const hear=async n=>{if(seen==null)seen=Math.max(0,n-20000);while(seen<n){const t=await get("/since?"+seen);takeNews(t);if(t.n===seen)break;seen=t.n}};
-  /* Each second the state, which has the totals of all, and the list of the one that is shown; of the others a few in turn. */
-  const fresh={};
-  const detail=async()=>{const k=key;try{takeFlight(await get("/flight?"+k));if(k===key)drawFlight()}catch(e){}};
-  window.look=async()=>{try{const t=await get("/state");if(t.n===S.n&&t.regs.every(r=>fresh[r.reg]===t.n)){$("live").textContent="live, call "+t.n;return}
-      await hear(t.n);takeState(t);
-      if(!S.regs.some(r=>r.reg===reg))reg=costliest();
-      const due=S.regs.map(r=>r.reg).filter(x=>fresh[x]!==t.n).sort((a,b)=>(b===reg)-(a===reg)||(fresh[a]||0)-(fresh[b]||0)).slice(0,16);
-      for(const l of await Promise.all(due.map(x=>get("/list?"+x)))){takeList(l);fresh[l.list.reg]=l.n}
-      flightsOfLists();if(!S.flights[key])key=longestWait();
-      $("dot").className="dot";$("live").textContent="live, call "+t.n;draw();if(key)await detail()}
-    catch(e){$("dot").className="dot off";$("live").textContent="no answer: "+e.message}};
-  const picked=pick;window.pick=pick=k=>{picked(k);if(S.flights[k])detail()};
-  if(want.get("reg"))reg=want.get("reg");
-  (async()=>{for(;;){await look();await new Promise(r=>setTimeout(r,1000))}})()}});
+const takeNews=t=>{for(const x of t.news){if(x.at!=null)at=x.at;for(const m of x.msgs)S.messages.push({at,desk:x.desk,...m})}S.messages=S.messages.slice(-5000)};
+const most=(all,of)=>all.reduce((a,b)=>a&&of(a)>=of(b)?a:b,null);
+const firstReg=()=>{if(!regOf(reg))reg=(most(S.regs,r=>r.delay)||{}).reg||null}, firstFlight=()=>{if(!key)key=(most(rowsOf(reg),q=>q[2]-q[1])||[null])[0]};
+const say=text=>{$("said").textContent=text};
+/* A live page asks for the state once a second; where that is another, for what came of the calls of all desks, for the list
+   that is shown and for the flight that is picked; for nothing else. */
+let busy=null, seen=null, lost=null, wait=1000, drawn=false;
+async function get(path){const r=await fetch(path,{signal:AbortSignal.timeout(15000)});if(r.status===404)return null;if(!r.ok)throw new Error(r.status);return r.json()}
+async function hear(n){const had=S.messages.length,heard=seen!=null;if(!heard)seen=Math.max(0,n-20000);
+ while(seen<n){const t=await get("/since?"+seen);if(!t||t.n<=seen)break;takeNews(t);seen=t.n}
+ const m=heard?S.messages.slice(had):[];if(m.length)say(`${several(m.length,"message")}: ${m.slice(0,3).map(x=>x.kind+" "+x.key).join(", ")}`)}
+async function complete(){const r=reg,k=key,of="flight "+k,[list,flight]=await Promise.all([regOf(r)&&!(S.fresh[r]>=S.n)&&get("/list?"+r),k&&!(S.fresh[of]>=S.n)&&get("/flight?"+k)]);
+ if(list){takeList(list);for(const[k]of rowsOf(r))S.flights[k]=S.flights[k]||{key:k}}
+ if(flight){takeFlight(flight);S.fresh[of]=flight.n}else if(flight===null&&k)delete S.flights[k]}
+async function ask(k){try{await complete();const f=S.flights[key];if(k&&k===key&&f&&regOf(f.reg)&&!rowOf(reg,k)){reg=f.reg;await complete()}
+ draw();tell()}catch(e){}}
+const look=()=>busy||(busy=see().finally(()=>{busy=null}));
+async function see(){const t=await get("/state");
+ if(t.n<S.n){S={...nothing(),day:S.day};seen=at=null;drawn=false;say("The server began anew.")}
+ if(t.n===S.n&&drawn&&!lost)return;
+ await hear(t.n);
+ for(const id in S.lists)if(id!==reg&&!(form&&form.reg===id))delete S.lists[id];
+ S.flights=S.flights[key]?{[key]:S.flights[key]}:{};if(lost)S.fresh={};
+ takeState(t);firstReg();await complete();if(!key){firstFlight();await complete()}
+ drawn=true;draw()}
+function tell(){document.body.classList.toggle("away",!!lost);$("dot").className="dot"+(lost?" off":"");$("live").dataset.n=S.n;
+ $("live").textContent=lost?`no answer for ${Math.round((Date.now()-lost)/1000)} s, tried again each ${wait/1000} s; call ${S.n}`:"live, call "+S.n;
+ if(form&&form.act)check();
+ const q=String(new URLSearchParams(Object.entries({...asked,reg,key}).filter(p=>p[1])));if(q!==location.search.slice(1))history.replaceState(null,"","?"+q)}
+async function watch(){for(;;){
+ try{await look();if(lost)say("The server answers again.");lost=null;wait=1000}
+ catch(e){if(lost)wait=Math.min(5000,wait*2);else{lost=Date.now();say("The server does not answer.")}}
+ tell();await new Promise(r=>setTimeout(r,wait))}}
+const asked=Object.fromEntries(new URLSearchParams(location.search));
+/* What stands at the end of the page is drawn as it is; where nothing does, the page asks the casa that served it. */
+on(window,"DOMContentLoaded",()=>{if(asked.step==="60")step=60;reg=asked.reg||null;key=asked.key||null;S.day=asked.day||"";
+ if(typeof RECORDED==="undefined"){live=true;watch();return}
+ S.day=RECORDED.day;takeState(RECORDED.state);for(const list of RECORDED.lists)takeList({list,n:S.n});takeNews(RECORDED.since);(RECORDED.flights||[]).forEach(takeFlight);
+ firstReg();firstFlight();$("dot").className="dot rec";$("live").textContent="a kept record, as after call "+S.n;$("live").dataset.n=S.n;draw()});
 </script>
 "##;
