@@ -1,10 +1,10 @@
 //! Casa allocates departure slots: `casa run` answers command lines; `casa report` prints a regulation's list after them,
-//! `casa load` its demand and capacity, `casa summary` what all regulations cost, and `casa why` why a flight waits; and
-//! `casa serve` answers the desks that connect. With a journal `casa run` and `casa serve` go on where they ended, and
-//! `casa journal check` says what one has.
+//! `casa load` its demand and capacity, `casa summary` what all regulations cost, `casa why` why a flight waits, and
+//! `casa page` makes a page of the day; and `casa serve` answers the desks that connect. With a journal `casa run` and
+//! `casa serve` go on where they ended, and `casa journal check` says what one has.
 #![tactic(auto)]
 
-use casa_app::{Input, ProgramFault, load, outcome, report, summary, why};
+use casa_app::{Input, ProgramFault, load, outcome, page, report, summary, why};
 use casa_cli::{Task, TaskFault, task};
 use casa_service::{
     ServiceFault, Timing, check_journal, run_journaled, serve_desks, stand_in, stay_desks,
@@ -111,6 +111,7 @@ fn carry_out<
             strict,
         } => load(alloc, reg, *day, *step, *strict, input, writer, errors),
         Task::Summary { day, strict } => summary(alloc, *day, *strict, input, writer, errors),
+        Task::Page { day, strict } => page(alloc, *day, *strict, input, writer, errors),
         Task::Why { key, day, strict } => why(alloc, key, *day, *strict, input, writer, errors),
         Task::Serve {
             port,

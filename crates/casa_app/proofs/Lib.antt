@@ -9,3 +9,4 @@ pub mod ListTimes
 pub mod LastReply
 pub mod Printed
 pub mod AllListed
+pub mod Paged

@@ -9,4 +9,5 @@ pub mod Listed
 pub mod Reports
 pub mod Summaries
 pub mod Whys
+pub mod Pages
 pub mod Loads

@@ -1,6 +1,7 @@
 //! What all open regulations cost.
 
-ghost use Rattle.std.specs.Prelude.{◌≡◌, IfErr, IfOk};
+ghost use Rattle.std.specs.Prelude.{◌≡◌, IfErr, IfOk, OnOk};
+ghost use Rattle.casa_session.specs.Played.{state_after_calls};
 ghost use Rattle.casa_app.specs.Inputs.{is_marked};
 ghost use Rattle.casa_app.specs.Printed.{PrintEnds};
 ghost use Rattle.casa_app.specs.Remarked.{Says};
@@ -52,9 +53,10 @@ impl Question for SummaryOf {
     }
 }
 
-/// The lists of all open regulations as the desk shows them, in the order of the regulations.
-fn ask_all_lists(alloc: Global, lone: &mut Lone) -> Result<Vec<ListReply>, ProgramFault>
+/// The lists of all open regulations as the desk shows them, in the order of the regulations, which changes nothing.
+pub(crate) fn ask_all_lists(alloc: Global, lone: &mut Lone) -> Result<Vec<ListReply>, ProgramFault>
     ensures told { IfOk result (λ lists. lists.items ≡ lists_after lone.old) }
+    ensures stays { OnOk result (state_after_calls lone.new ≡ state_after_calls lone.old) }
     ensures no_memory { IfErr result (λ fault. fault ≡ ProgramFault.NoMemory) }
 {
     let regulations = Vec::from_slice(alloc, lone.catalogue())?;

@@ -1,11 +1,7 @@
 //! Why a flight waits.
 
-ghost use Rattle.std.specs.Prelude.{◌≡◌, ◌≤◌, ◌⊎◌, [], IfErr, IfOk, None, Some};
-ghost use Rattle.std.specs.Option.{option_copied, option_map_or};
-ghost use Rattle.casa_time.specs.Moment.{last_moment};
-ghost use Rattle.casa_flight.specs.Listing.{delay_of, governing_list};
-ghost use Rattle.casa_flight.specs.Entry.{offer, offers, situation};
-ghost use Rattle.casa_inquiry.specs.Why.{holdings, why};
+ghost use Rattle.std.specs.Prelude.{◌≡◌, ◌⊎◌, IfErr, IfOk, None, Some};
+ghost use Rattle.casa_inquiry.specs.Why.{why};
 ghost use Rattle.casa_session.specs.Played.{state_after_calls};
 ghost use Rattle.casa_app.specs.Inputs.{is_marked};
 ghost use Rattle.casa_app.specs.Printed.{PrintEnds};
@@ -15,11 +11,12 @@ ghost use Rattle.casa_app.specs.Whys.{reasons_after, why_after};
 use crate::fault::ProgramFault;
 use crate::input::Input;
 use crate::printing::{Question, print};
-use casa_flight::{FlightReply, Key, Offer, Plan, Regulation, Row, SharedSlice};
-use casa_inquiry::{Holding, Reasons, delay_in, holdings, offer, rule_of};
+use casa_flight::{Key, RegId, Regulation, Row};
+use casa_inquiry::{Reasons, Shown, explain};
 use casa_list::SlotList;
 use casa_report::why_text;
 use casa_session::Lone;
+use casa_time::Moment;
 use jiff::civil::Date;
 use std::alloc::{AllocError, Global};
 use std::io::{Read, Write};
@@ -58,13 +55,13 @@ impl Question for WhyOf {
     ghost text_after = { λ question. why_after question.key question.day };
 
     fn text(&self, alloc: Global, lone: &mut Lone) -> Result<Vec<u8>, ProgramFault> {
-        let reasons = explain(alloc, lone, &self.key)?;
+        let reasons = reasons(alloc, lone, &self.key)?;
         Ok(why_text(alloc, self.day, &reasons)?)
     }
 }
 
 /// Why a flight stands as it does after the desk's calls; `NoFlight` where there is none with this key.
-fn explain(alloc: Global, lone: &Lone, key: &Key) -> Result<Reasons, ProgramFault>
+fn reasons(alloc: Global, lone: &Lone, key: &Key) -> Result<Reasons, ProgramFault>
     ensures told { IfOk result (λ reasons. reasons_after lone.now key.now ≡ Some reasons) }
     ensures untold { IfErr result (λ fault. (fault ≡ ProgramFault.NoMemory)
         ⊎ ((fault ≡ ProgramFault.NoFlight) × (reasons_after lone.now key.now ≡ None))) }
@@ -72,88 +69,34 @@ fn explain(alloc: Global, lone: &Lone, key: &Key) -> Result<Reasons, ProgramFaul
     let Some(row) = lone.row(key) else {
         return Err(ProgramFault::NoFlight);
     };
-    Ok(reasons(alloc, lone, *key, row)?)
+    Ok(reasons_of(alloc, lone, *key, row)?)
 }
 
 /// Why a flight that stands so after the desk's calls does.
-fn reasons(alloc: Global, lone: &Lone, key: Key, row: &Row) -> Result<Reasons, AllocError>
+fn reasons_of(alloc: Global, lone: &Lone, key: Key, row: &Row) -> Result<Reasons, AllocError>
     ensures { IfOk result (λ reasons. reasons ≡ why (state_after_calls lone.now) key row.now) }
 {
-    let offers = offers(alloc, lone, key, &row.plan)?;
-    let rule = rule_of(lone.clock(), row, offers.as_slice());
-    let offers = SharedSlice::from_vec(offers)?;
-    let holdings = holdings_of(alloc, lone, &key, row)?;
-    Ok(Reasons {
-        flight: FlightReply::of(key, row, delay(lone, &key, row)),
-        rule,
-        offers,
-        holdings,
-    })
+    explain(alloc, &AfterCalls { lone }, key, row)
 }
 
-/// The list of the regulation that governs a flight; `None` where nothing does.
-fn governing_list<'a>(lone: &'a Lone, row: &Row) -> Option<&'a SlotList>
-    ensures { option_copied result ≡ governing_list (state_after_calls lone.now) row.now }
-{
-    match &row.governing {
-        Some(id) => lone.list(id),
-        None => None,
+/// What a desk that is alone shows of the state after its calls.
+#[derive(Drop)]
+struct AfterCalls<'a> {
+    lone: &'a Lone,
+}
+
+impl<'a> Shown for AfterCalls<'a> {
+    ghost shows = { λ after m. m ≡ state_after_calls after.lone.now };
+
+    fn clock(&self) -> Moment {
+        self.lone.clock()
     }
-}
 
-/// The delay of a flight in its governing list, in seconds.
-fn delay(lone: &Lone, key: &Key, row: &Row) -> u32
-    ensures value { result ≡ delay_of (state_after_calls lone.now) key.now row.now }
-    ensures in_range { result ≤ last_moment }
-{
-    match governing_list(lone, row) {
-        Some(list) => delay_in(list, key),
-        None => 0,
+    fn catalogue(&self) -> &[Regulation] {
+        self.lone.catalogue()
     }
-}
 
-/// Who holds the slots of the governing list for which a flight waits.
-fn holdings_of(
-    alloc: Global,
-    lone: &Lone,
-    key: &Key,
-    row: &Row,
-) -> Result<SharedSlice<Holding>, AllocError>
-    ensures { IfOk result (λ all. all ≡
-        option_map_or (holdings key.now) (governing_list (state_after_calls lone.now) row.now) []) }
-{
-    match governing_list(lone, row) {
-        Some(list) => holdings(alloc, list, key),
-        None => SharedSlice::from_vec(Vec::new(alloc)),
-    }
-}
-
-/// What each open regulation to which a flight is subject would offer it, in the order of their identifiers.
-fn offers(alloc: Global, lone: &Lone, key: Key, plan: &Plan) -> Result<Vec<Offer>, AllocError>
-    ensures { IfOk result (λ all. all.items
-        ≡ offers (situation (state_after_calls lone.now)) key plan.now) }
-{
-    let mut all = Vec::new(alloc);
-    for regulation in lone.catalogue() {
-        if let Some(offer) = offer_of(lone, regulation, key, plan)? {
-            all.push(offer)?;
-        }
-    }
-    Ok(all)
-}
-
-/// What a regulation would offer a flight; `None` where that is not subject to it.
-fn offer_of(
-    lone: &Lone,
-    regulation: &Regulation,
-    key: Key,
-    plan: &Plan,
-) -> Result<Option<Offer>, AllocError>
-    ensures { IfOk result (λ made. made
-        ≡ offer (situation (state_after_calls lone.now)) key plan.now regulation.now) }
-{
-    match lone.list(&regulation.id) {
-        Some(list) => offer(regulation, list, key, plan),
-        None => Ok(None),
+    fn list(&self, id: &RegId) -> Option<&SlotList> {
+        self.lone.list(id)
     }
 }

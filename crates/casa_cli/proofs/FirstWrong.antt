@@ -7,8 +7,8 @@ use Rattle.std.proofs.lemmas.Bool.Decides.{nat_tests}
 use Rattle.jiff_fmt.specs.Temporal.{DateParts}
 use Rattle.clap.specs.Words.{Row, fault_of, first_of, subcommand_of}
 use Rattle.casa_filing.specs.Text.{Text}
-use Rattle.casa_cli.specs.Words.{Clash, Request, WrongValue, needs, no_port, clashing, run, report, load, summary, why, serve, stay, check_journal, wrong_reg, wrong_key, wrong_day, wrong_action, whole_app, request_of, named_request, serve_at, stay_at, or_wrong, ◌>>=◌, number_of, day_in, day_of, named_in, step_of, turns_of, connections_of, seats_of, socket_of, every_of, is_given, is_strict, journal_of, word_of, checked_day, clock_for, clash_of}
-use Rattle.casa_cli.specs.Checks.{AreRead, AreServed, first_wrong, run_checks, run_request, report_checks, report_request, load_request, summary_checks, summary_request, why_checks, why_request, serve_checks, serve_request, stay_checks, stay_request, journal_checks, journal_request, unless_wrong}
+use Rattle.casa_cli.specs.Words.{Clash, Request, WrongValue, needs, no_port, clashing, run, report, load, summary, why, page, serve, stay, check_journal, wrong_reg, wrong_key, wrong_day, wrong_action, whole_app, request_of, named_request, serve_at, stay_at, or_wrong, ◌>>=◌, number_of, day_in, day_of, named_in, step_of, turns_of, connections_of, seats_of, socket_of, every_of, is_given, is_strict, journal_of, word_of, checked_day, clock_for, clash_of}
+use Rattle.casa_cli.specs.Checks.{AreRead, AreServed, first_wrong, run_checks, run_request, report_checks, report_request, load_request, summary_checks, summary_request, page_request, why_checks, why_request, serve_checks, serve_request, stay_checks, stay_request, journal_checks, journal_request, unless_wrong}
 use Rattle.casa_cli.proofs.Served.{journal_checked}
 
 pub nothing_asked : (words : List Text) → (fault_of whole_app words ≡ [] → ⊥) → request_of words ≡ None
@@ -87,6 +87,11 @@ pub summary_asked : (words : List Text) (rows : List Row) → AreRead words (cod
     → request_of words ≡ unless_wrong (first_wrong (summary_checks rows)) (summary_request rows)
 summary_asked words rows read =
     asked_of words (codes "summary") rows read ∙ day_alone (day_in rows) (λ day. summary day (is_strict rows))
+
+pub page_asked : (words : List Text) (rows : List Row) → AreRead words (codes "page") rows
+    → request_of words ≡ unless_wrong (first_wrong (summary_checks rows)) (page_request rows)
+page_asked words rows read =
+    asked_of words (codes "page") rows read ∙ day_alone (day_in rows) (λ day. page day (is_strict rows))
 
 -- what `serve` asks for, by a clash and by whether it stays
 abbrev by_clash : List Row → Option Clash → Bool → Option (Result Request WrongValue)

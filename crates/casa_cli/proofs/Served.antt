@@ -57,7 +57,7 @@ number_in_rows q low high rows parser passed = go (find (λ r. bytes_eq r.id q.i
 -- ---- the options of `serve`
 
 abbrev serve_shape : Shape
-serve_shape = unwrap_or (slice_get (built whole_app).subs 5) (new_shape [])
+serve_shape = unwrap_or (slice_get (built whole_app).subs 6) (new_shape [])
 
 abbrev rule_at : Shape → ℕ → Rule
 rule_at s k = unwrap_or (slice_get s.rules k) (new_rule [])
@@ -115,7 +115,7 @@ stepped words e =
 -- ---- the words of `journal`
 
 abbrev journal_shape : Shape
-journal_shape = unwrap_or (slice_get (built whole_app).subs 6) (new_shape [])
+journal_shape = unwrap_or (slice_get (built whole_app).subs 7) (new_shape [])
 
 -- a word that was given has a value
 word_there : (q : Rule) (rows : List Row) → ArePassed q rows → is_given q.id rows ≡ true → is_some (first_of q.id rows) ≡ true
@@ -212,7 +212,7 @@ pub serve_checked : (words : List Text) (name : Text) (rows : List Row) → faul
     → subcommand_of whole_app words ≡ Some (name, rows) → bytes_eq name (codes "serve") ≡ true → AreChecked rows
 serve_checked =
     subcommand_shown (codes "serve") serve_shape AreChecked served
-    (other, (other, (other, (other, (other, (λ e. refl, (other, (other, tt))))))))
+    (other, (other, (other, (other, (other, (other, (λ e. refl, (other, (other, tt)))))))))
   where
     other : {A : Type 0} → false ≡ true → A
     other e = absurd (true≢false (sym e))
@@ -221,7 +221,7 @@ pub load_checked : (words : List Text) (name : Text) (rows : List Row) → fault
     → subcommand_of whole_app words ≡ Some (name, rows) → bytes_eq name (codes "load") ≡ true → IsStepped rows
 load_checked =
     subcommand_shown (codes "load") load_shape IsStepped stepped
-    (other, (other, (λ e. refl, (other, (other, (other, (other, (other, tt))))))))
+    (other, (other, (λ e. refl, (other, (other, (other, (other, (other, (other, tt)))))))))
   where
     other : {A : Type 0} → false ≡ true → A
     other e = absurd (true≢false (sym e))
@@ -230,7 +230,7 @@ pub journal_checked : (words : List Text) (name : Text) (rows : List Row) → fa
     → subcommand_of whole_app words ≡ Some (name, rows) → bytes_eq name (codes "journal") ≡ true → AreThere rows
 journal_checked =
     subcommand_shown (codes "journal") journal_shape AreThere there
-    (other, (other, (other, (other, (other, (other, (λ e. refl, (other, tt))))))))
+    (other, (other, (other, (other, (other, (other, (other, (λ e. refl, (other, tt)))))))))
   where
     other : {A : Type 0} → false ≡ true → A
     other e = absurd (true≢false (sym e))

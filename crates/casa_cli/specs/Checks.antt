@@ -3,7 +3,7 @@ use Rattle.std.specs.Prelude.{◌≡◌, Bool, false, not, ◌&&◌, ◌==◌, i
 use Rattle.std.specs.Option.{option_map_or}
 use Rattle.clap.specs.Words.{Row, fault_of, first_of, subcommand_of}
 use Rattle.casa_filing.specs.Text.{Text}
-use Rattle.casa_cli.specs.Words.{Request, WrongValue, needs, no_port, clashing, run, report, load, summary, why, serve, stay, check_journal, wrong_reg, wrong_key, wrong_day, wrong_action, whole_app, clash_of, connections_of, day_in, day_of, every_of, is_given, is_strict, journal_of, named_in, number_of, seats_of, socket_of, step_of, turns_of, word_of}
+use Rattle.casa_cli.specs.Words.{Request, WrongValue, needs, no_port, clashing, run, report, load, summary, why, page, serve, stay, check_journal, wrong_reg, wrong_key, wrong_day, wrong_action, whole_app, clash_of, connections_of, day_in, day_of, every_of, is_given, is_strict, journal_of, named_in, number_of, seats_of, socket_of, step_of, turns_of, word_of}
 
 -- clap finds no fault in the words, and they are this subcommand with these options
 abbrev pub AreRead : List Text → Text → List Row → Type 0
@@ -33,7 +33,7 @@ run_checks rows = (
 abbrev pub report_checks : List Row → List Check
 report_checks rows = (is_none (named_in (codes "reg") rows), wrong_reg) ∷ (is_none (day_in rows), wrong_day) ∷ []
 
--- of `summary`: what stands after `--day` is no day
+-- of `summary` and `page`: what stands after `--day` is no day
 abbrev pub summary_checks : List Row → List Check
 summary_checks rows = (is_none (day_in rows), wrong_day) ∷ []
 
@@ -92,6 +92,11 @@ why_request rows = do
   key ← named_in (codes "key") rows
   day ← day_in rows
   Some (why key day (is_strict rows))
+
+abbrev pub page_request : List Row → Option Request
+page_request rows = do
+  day ← day_in rows
+  Some (page day (is_strict rows))
 
 abbrev pub serve_request : List Row → Option Request
 serve_request rows = do

@@ -8,13 +8,13 @@ use Rattle.clap.specs.declared.error.kind.ErrorKind.TheVariants.{ArgumentConflic
 use Rattle.clap.specs.declared.parser.matches.ArgMatches.{ArgMatches}
 use Rattle.jiff_fmt.specs.Temporal.{date_parts}
 use Rattle.casa_filing.specs.Text.{Text}
-use Rattle.casa_cli.specs.Words.{Clash, Request, Service, WrongValue, needs, excludes, no_port, no_address, too_many_seats, clashing, run, report, load, summary, why, serve, stay, check_journal, wrong_reg, wrong_key, wrong_day, wrong_action, whole_app, request_of}
+use Rattle.casa_cli.specs.Words.{Clash, Request, Service, WrongValue, needs, excludes, no_port, no_address, too_many_seats, clashing, run, report, load, summary, why, page, serve, stay, check_journal, wrong_reg, wrong_key, wrong_day, wrong_action, whole_app, request_of}
 use Rattle.casa_cli.specs.declared.clashes.Clash.{Clash as FoundClash}
 use Rattle.casa_cli.specs.declared.clashes.Clash.TheVariants.{Needs, Excludes, NoPort, NoAddress, TooManySeats}
 use Rattle.casa_cli.specs.declared.tasks.Journal.{Journal}
 use Rattle.casa_cli.specs.declared.tasks.Service.{Service as TaskService}
 use Rattle.casa_cli.specs.declared.tasks.Task.{Task}
-use Rattle.casa_cli.specs.declared.tasks.Task.TheVariants.{Run, Report, Load, Summary, Why, Serve, Stay, CheckJournal}
+use Rattle.casa_cli.specs.declared.tasks.Task.TheVariants.{Run, Report, Load, Summary, Page, Why, Serve, Stay, CheckJournal}
 use Rattle.casa_cli.specs.declared.tasks.TaskFault.{TaskFault}
 use Rattle.casa_cli.specs.declared.tasks.TaskFault.TheVariants.{Words, BadReg, BadKey, BadDay}
 
@@ -41,6 +41,7 @@ request (Report reg day strict) = report reg (date_parts day) strict
 request (Load reg day step strict) = load reg (date_parts day) step strict
 request (Summary day strict) = summary (date_parts day) strict
 request (Why key day strict) = why key (date_parts day) strict
+request (Page day strict) = page (date_parts day) strict
 request (Serve port connections turns day kept) =
     serve port connections turns (option_map date_parts day) (journal kept)
 request (Stay task) = stay (service task)

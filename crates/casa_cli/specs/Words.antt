@@ -33,8 +33,8 @@ abbrev pub number_between : ℕ → ℕ → Rule → Rule
 number_between low high rule = record rule { parser = Some (Signed (pos low) (pos high)) }
 
 -- `run` may take `--journal` and `--force`; `report` takes `--reg` and `--day`, `load` the same, and it may take
--- `--step`; `summary` takes `--day`, and `why` takes `--key` and `--day`; these four may take `--strict`; `serve` may
--- take each of its options; `journal` takes an action and a file
+-- `--step`; `summary` and `page` take `--day`, and `why` takes `--key` and `--day`; these five may take `--strict`; `serve`
+-- may take each of its options; `journal` takes an action and a file
 
 -- a subcommand that may keep a journal
 abbrev pub maybe_journal : App → App
@@ -64,6 +64,9 @@ summary_app = maybe_strict (taking_day (new_app (codes "summary")))
 
 abbrev pub why_app : App
 why_app = maybe_strict (taking_day (with_rule (new_app (codes "why")) (needed (option_rule (codes "key")))))
+
+abbrev pub page_app : App
+page_app = maybe_strict (taking_day (new_app (codes "page")))
 
 -- `serve` with what a server that ends may take
 abbrev pub serve_without_clock : App
@@ -119,9 +122,9 @@ casa_alone =
 abbrev pub casa_of_lists : App
 casa_of_lists = with_subcommand (with_subcommand (with_subcommand casa_alone run_app.top) report_app.top) load_app.top
 
--- and what is asked of all regulations, and of a flight
+-- and what is asked of all regulations, of a flight, and of all of the day
 abbrev pub casa_of_inquiries : App
-casa_of_inquiries = with_subcommand (with_subcommand casa_of_lists summary_app.top) why_app.top
+casa_of_inquiries = with_subcommand (with_subcommand (with_subcommand casa_of_lists summary_app.top) why_app.top) page_app.top
 
 abbrev pub whole_app : App
 whole_app = with_subcommand (with_subcommand casa_of_inquiries serve_app.top) journal_app.top
@@ -148,6 +151,7 @@ pub data Request : Type 0 where
   load : Text → DateParts → (step : ℕ) → (strict : Bool) → Request
   summary : DateParts → (strict : Bool) → Request
   why : Text → DateParts → (strict : Bool) → Request
+  page : DateParts → (strict : Bool) → Request
   serve : (port connections turns : ℕ) → (day : Option DateParts) → (journal : Option (Text × Bool)) → Request
   stay : Service → Request
   check_journal : (path : Text) → Request
@@ -252,6 +256,11 @@ why_of rows = do
   key ← or_wrong wrong_key (named_in (codes "key") rows)
   day ← or_wrong wrong_day (day_in rows)
   Ok (why key day (is_strict rows))
+
+abbrev pub page_of : List Row → Result Request WrongValue
+page_of rows = do
+  day ← or_wrong wrong_day (day_in rows)
+  Ok (page day (is_strict rows))
 
 abbrev pub connections_of : List Row → ℕ
 connections_of rows = unwrap_or (number_of (codes "connections") rows) 1
@@ -372,6 +381,7 @@ named_request (name, rows) =
     else if bytes_eq name (codes "load") then load_of rows
     else if bytes_eq name (codes "summary") then summary_of rows
     else if bytes_eq name (codes "why") then why_of rows
+    else if bytes_eq name (codes "page") then page_of rows
     else report_of rows
 
 -- what the words ask for, where clap finds no fault in them and they name a subcommand

@@ -3,7 +3,7 @@
 ghost use Rattle.std.specs.Prelude.{◌≡◌, ℕ, false, codes, IfOk};
 ghost use Rattle.clap.specs.Words.{app_of, new_app, rule_of};
 ghost use Rattle.clap.specs.declared.builder.command.Command.TheViews.{out-Command as fields_of};
-ghost use Rattle.casa_cli.specs.Words.{casa_alone, casa_of_inquiries, casa_of_lists, flag_rule, journal_app, load_app, needed, number_between, option_rule, report_app, run_app, serve_app, serve_ending, serve_keeping, serve_listening, serve_noting, serve_without_clock, summary_app, whole_app, why_app, word_rule};
+ghost use Rattle.casa_cli.specs.Words.{casa_alone, casa_of_inquiries, casa_of_lists, flag_rule, journal_app, load_app, needed, number_between, option_rule, page_app, report_app, run_app, serve_app, serve_ending, serve_keeping, serve_listening, serve_noting, serve_without_clock, summary_app, whole_app, why_app, word_rule};
 
 use crate::help;
 use clap::{Arg, ArgAction, Command, value_parser};
@@ -19,14 +19,15 @@ pub fn casa_command<'a>(alloc: Global) -> Result<Command<'a>, AllocError>
         .subcommand(journal_command(alloc)?)
 }
 
-/// `casa` with these, and with the subcommands that ask for all regulations or for a flight.
+/// `casa` with these, and with the subcommands that ask for all regulations, for a flight or for all of the day.
 fn casa_of_inquiries<'a>(alloc: Global) -> Result<Command<'a>, AllocError>
     ensures app { IfOk result (λ command. app_of command ≡ casa_of_inquiries) }
     ensures local { IfOk result (λ command. (fields_of command).has_globals ≡ false) }
 {
     casa_of_lists(alloc)?
         .subcommand(summary_command(alloc)?)?
-        .subcommand(why_command(alloc)?)
+        .subcommand(why_command(alloc)?)?
+        .subcommand(page_command(alloc)?)
 }
 
 /// `casa` with the subcommands that answer each line or ask for one regulation.
@@ -111,6 +112,17 @@ fn why_command<'a>(alloc: Global) -> Result<Command<'a>, AllocError>
     subcommand(alloc, "why", help::WHY_ABOUT, help::WHY_AFTER_HELP)
         .arg(key)?
         .arg(day_option(alloc))?
+        .arg(strict_flag(alloc))
+}
+
+/// `casa page` with its options.
+fn page_command<'a>(alloc: Global) -> Result<Command<'a>, AllocError>
+    ensures app { IfOk result (λ command. app_of command ≡ page_app) }
+    ensures local { IfOk result (λ command. (fields_of command).has_globals ≡ false) }
+{
+    let day = value_option(alloc, "day", "YYYY-MM-DD", help::PAGE_DAY_HELP).required(true);
+    subcommand(alloc, "page", help::PAGE_ABOUT, help::PAGE_AFTER_HELP)
+        .arg(day)?
         .arg(strict_flag(alloc))
 }
 

@@ -15,6 +15,7 @@ Examples:
   casa load --reg R1 --day 2025-06-01 < examples/first.jsonl
   casa summary --day 2025-06-01 < examples/first.jsonl
   casa why --key A --day 2025-06-01 < examples/first.jsonl
+  casa page --day 2025-06-01 < examples/first.jsonl > day.html
   casa serve --port 4750 --connections 8
   casa serve --port 4750 --stay
   casa serve --port 4750 --stay --journal day.journal
@@ -84,6 +85,21 @@ Example:
 
 The command lines come on standard input, as those of `casa run`, and their replies are not printed;
 docs/COMMANDS.md describes them and what is printed.";
+
+/// What `page` does.
+pub const PAGE_ABOUT: &str =
+    "Makes a page of the day for a browser, as it stands after the command lines";
+
+/// What stands below the options of `page`.
+pub const PAGE_AFTER_HELP: &str = "\
+Example:
+  casa page --day 2025-06-01 < examples/first.jsonl > day.html
+
+The command lines come on standard input, as those of `casa run`, and their replies are not printed. The page
+is one file of HTML, which needs no network; docs/COMMANDS.md describes the record of the day that it has.";
+
+/// What stands after `--day` of `page`.
+pub const PAGE_DAY_HELP: &str = "The day, for the page: as 2025-06-01";
 
 /// What stands after `--key`.
 pub const KEY_HELP: &str = "The flight: 1 to 10 characters of A to Z and 0 to 9";

@@ -37,6 +37,13 @@ pub enum Task<'a> {
         /// Whether `--strict` was given.
         strict: bool,
     },
+    /// `casa page`: a page of the day.
+    Page {
+        /// The day.
+        day: Date,
+        /// Whether `--strict` was given.
+        strict: bool,
+    },
     /// `casa why`: why a flight waits, under a heading with the day.
     Why {
         /// The flight.

@@ -2,7 +2,7 @@ ghost use Rattle.std.specs.Prelude.{◌≡◌, IfErr, IfOk, map};
 ghost use Rattle.clap.specs.Words.{HasKind, fault_of, found_of, rows_of};
 ghost use Rattle.clap.specs.declared.error.Error.{Error};
 ghost use Rattle.casa_cli.specs.Tasks.{AreRefused, Asks, HasRead, IsOutcome, IsStepped};
-ghost use Rattle.casa_cli.specs.Words.{whole_app, load_of, report_of, summary_of, why_of};
+ghost use Rattle.casa_cli.specs.Words.{whole_app, load_of, page_of, report_of, summary_of, why_of};
 
 use crate::commands::casa_command;
 use crate::journals::{journal_task, run_task};
@@ -38,6 +38,8 @@ pub fn task<'a>(alloc: Global, words: &'a [&'a str]) -> Result<Task<'a>, TaskFau
                 summary_task(values)
             } else if name == "why" {
                 why_task(values)
+            } else if name == "page" {
+                page_task(values)
             } else {
                 report_task(values)
             }
@@ -106,4 +108,13 @@ fn why_task<'a>(values: &ArgMatches<'_>) -> Result<Task<'a>, TaskFault>
     let day = day_in(values).ok_or(TaskFault::BadDay)?;
     let strict = is_given(values, "strict");
     Ok(Task::Why { key, day, strict })
+}
+
+/// The task of `casa page` with the values of its options.
+fn page_task<'a>(values: &ArgMatches<'_>) -> Result<Task<'a>, TaskFault>
+    ensures { IsOutcome (page_of (rows_of (found_of values.now))) result }
+{
+    let day = day_in(values).ok_or(TaskFault::BadDay)?;
+    let strict = is_given(values, "strict");
+    Ok(Task::Page { day, strict })
 }

@@ -1,4 +1,4 @@
-use Rattle.casa_cli.proofs.FirstWrong.{nothing_asked, run_asked, report_asked, load_asked, summary_asked, why_asked, clash_asked, serve_asked, stay_asked, journal_asked}
+use Rattle.casa_cli.proofs.FirstWrong.{nothing_asked, run_asked, report_asked, load_asked, summary_asked, why_asked, page_asked, clash_asked, serve_asked, stay_asked, journal_asked}
 use Rattle.casa_cli.proofs.laws.words_have_the_first_wrong_value.Goals as goal
 
 pub returns-clause-unread : goal.returns-clause-unread
@@ -18,6 +18,9 @@ returns-clause-summary c = summary_asked
 
 pub returns-clause-why : goal.returns-clause-why
 returns-clause-why c = why_asked
+
+pub returns-clause-page : goal.returns-clause-page
+returns-clause-page c = page_asked
 
 pub returns-clause-clash : goal.returns-clause-clash
 returns-clause-clash c = clash_asked
