@@ -183,7 +183,7 @@ class Block:
     def __init__(self, source, lines):
         self.source = source
         self.head = lines[:next(number for number, line in enumerate(lines) if re.search(r"\{\}?$", line)) + 1]
-        head, count = " ".join(self.head).replace("->", ""), 1
+        head, count = re.sub(r"\s+", " ", " ".join(self.head).replace("->", "")), 1
         while count:
             head, count = re.subn(r"<[^<>]*>", "", head)
         found = re.search(r"\b(trait|impl) +(?:(?:\w+::)*(\w+) for )?(?:&\S* )?(?:\w+::)*(\w+)", head)
