@@ -1,0 +1,4 @@
+pub mod Tallied
+pub mod Written
+pub mod Chunks
+pub mod Sessions

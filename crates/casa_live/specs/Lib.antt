@@ -1,0 +1,4 @@
+pub mod Metrics
+pub mod Shown
+pub mod Answered
+pub mod Tallies
