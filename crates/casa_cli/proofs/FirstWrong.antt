@@ -7,7 +7,7 @@ use Rattle.std.proofs.lemmas.Bool.Decides.{nat_tests}
 use Rattle.jiff_fmt.specs.Temporal.{DateParts}
 use Rattle.clap.specs.Words.{Row, fault_of, first_of, subcommand_of}
 use Rattle.casa_filing.specs.Text.{Text}
-use Rattle.casa_cli.specs.Words.{Clash, Request, WrongValue, needs, no_port, clashing, run, report, load, summary, why, page, serve, stay, check_journal, wrong_reg, wrong_key, wrong_day, wrong_action, whole_app, request_of, named_request, serve_at, stay_at, or_wrong, ◌>>=◌, number_of, day_in, day_of, named_in, step_of, turns_of, connections_of, seats_of, socket_of, every_of, is_given, is_strict, journal_of, word_of, checked_day, clock_for, clash_of}
+use Rattle.casa_cli.specs.Words.{Clash, Request, WrongValue, needs, no_port, clashing, run, report, load, summary, why, page, serve, stay, check_journal, wrong_reg, wrong_key, wrong_day, wrong_action, whole_app, request_of, named_request, serve_at, stay_at, or_wrong, ◌>>=◌, number_of, day_in, day_of, named_in, step_of, turns_of, connections_of, page_port_of, seats_of, socket_of, every_of, is_given, is_strict, journal_of, word_of, checked_day, clock_for, clash_of}
 use Rattle.casa_cli.specs.Checks.{AreRead, AreServed, first_wrong, run_checks, run_request, report_checks, report_request, load_request, summary_checks, summary_request, page_request, why_checks, why_request, serve_checks, serve_request, stay_checks, stay_request, journal_checks, journal_request, unless_wrong}
 use Rattle.casa_cli.proofs.Served.{journal_checked}
 
@@ -164,6 +164,7 @@ stay_asked words rows served =
     ∙ stayed_at (is_given (codes "clock") rows) (every_of rows) (first_of (codes "day") rows) (λ clock. stay (record {
       port = number_of (codes "port") rows;
       socket = socket_of rows;
+      page = page_port_of rows;
       seats = seats_of rows;
       idle = number_of (codes "idle") rows;
       quiet = is_given (codes "quiet") rows;

@@ -95,9 +95,10 @@ served words e = record {
   port = served_at 0 1 65535 refl (is_valued _ refl refl refl) refl refl refl words e;
   connections = served_at 1 0 4294967295 refl (is_valued _ refl refl refl) refl refl refl words e;
   turns = served_at 3 0 4294967295 refl (is_valued _ refl refl refl) refl refl refl words e;
-  seats = served_at 9 1 1000 refl (is_valued _ refl refl refl) refl refl refl words e;
-  idle = served_at 10 1 86400 refl (is_valued _ refl refl refl) refl refl refl words e;
-  every = served_at 13 1 3600 refl (is_valued _ refl refl refl) refl refl refl words e;
+  page = served_at 9 1 65535 refl (is_valued _ refl refl refl) refl refl refl words e;
+  seats = served_at 11 1 1000 refl (is_valued _ refl refl refl) refl refl refl words e;
+  idle = served_at 12 1 86400 refl (is_valued _ refl refl refl) refl refl refl words e;
+  every = served_at 15 1 3600 refl (is_valued _ refl refl refl) refl refl refl words e;
 }
 
 -- ---- the options of `load`

@@ -12,6 +12,7 @@ use Rattle.casa_cli.specs.Words.{Clash, Request, Service, WrongValue, needs, exc
 use Rattle.casa_cli.specs.declared.clashes.Clash.{Clash as FoundClash}
 use Rattle.casa_cli.specs.declared.clashes.Clash.TheVariants.{Needs, Excludes, NoPort, NoAddress, TooManySeats}
 use Rattle.casa_cli.specs.declared.tasks.Journal.{Journal}
+use Rattle.casa_cli.specs.declared.tasks.PagePort.{PagePort}
 use Rattle.casa_cli.specs.declared.tasks.Service.{Service as TaskService}
 use Rattle.casa_cli.specs.declared.tasks.Task.{Task}
 use Rattle.casa_cli.specs.declared.tasks.Task.TheVariants.{Run, Report, Load, Summary, Page, Why, Serve, Stay, CheckJournal}
@@ -22,11 +23,16 @@ use Rattle.casa_cli.specs.declared.tasks.TaskFault.TheVariants.{Words, BadReg, B
 abbrev pub journal : Option Journal → Option (Text × Bool)
 journal kept = option_map (λ file. (file.path.now, file.force)) kept
 
+-- to believe: where it serves a page, as the words tell it
+abbrev pub page_port : Option PagePort → Option (ℕ × Option Text)
+page_port served = option_map (λ page. (page.port, option_map (λ host. host.now) page.host)) served
+
 -- to believe: what a server that stays is to do, as the words tell it
 abbrev pub service : TaskService → Service
 service task = record {
   port = task.port;
   socket = option_map (λ socket. (socket.path.now, socket.group)) task.socket;
+  page = page_port task.page;
   seats = task.seats;
   idle = task.idle;
   quiet = task.quiet;
@@ -116,6 +122,7 @@ pub record AreChecked (rows : List Row) : Type 0 where
   pub port : IsNumber 1 65535 (codes "port") rows
   pub connections : IsNumber 0 4294967295 (codes "connections") rows
   pub turns : IsNumber 0 4294967295 (codes "turns") rows
+  pub page : IsNumber 1 65535 (codes "page") rows
   pub seats : IsNumber 1 1000 (codes "seats") rows
   pub idle : IsNumber 1 86400 (codes "idle") rows
   pub every : IsNumber 1 3600 (codes "every") rows

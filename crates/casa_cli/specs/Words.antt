@@ -85,7 +85,8 @@ serve_ending =
 abbrev pub serve_noting : App
 serve_noting = maybe_journal serve_ending
 
--- and with what one that stays may take besides: where it listens, how it keeps its desks, how its clock is moved
+-- and with what one that stays may take besides: where it listens, where it serves a page, how it keeps its desks, how its
+-- clock is moved
 abbrev pub serve_listening : App
 serve_listening =
     with_rule (with_rule (with_rule serve_noting
@@ -93,9 +94,15 @@ serve_listening =
     (option_rule (codes "socket")))
     (flag_rule (codes "group"))
 
+abbrev pub serve_paging : App
+serve_paging =
+    with_rule (with_rule serve_listening
+    (number_between 1 65535 (option_rule (codes "page"))))
+    (option_rule (codes "page-host"))
+
 abbrev pub serve_keeping : App
 serve_keeping =
-    with_rule (with_rule (with_rule serve_listening
+    with_rule (with_rule (with_rule serve_paging
     (number_between 1 1000 (option_rule (codes "seats"))))
     (number_between 1 86400 (option_rule (codes "idle"))))
     (flag_rule (codes "quiet"))
@@ -129,11 +136,13 @@ casa_of_inquiries = with_subcommand (with_subcommand (with_subcommand casa_of_li
 abbrev pub whole_app : App
 whole_app = with_subcommand (with_subcommand casa_of_inquiries serve_app.top) journal_app.top
 
--- where a server that stays listens, how it keeps its desks, and how its clock is moved
+-- where a server that stays listens and serves a page, how it keeps its desks, and how its clock is moved
 pub record Service : Type 0 where
   pub port : Option ℕ
   -- the path, and whether its group may connect
   pub socket : Option (Text × Bool)
+  -- the port for browsers, and the further host under which they may ask
+  pub page : Option (ℕ × Option Text)
   -- at each address
   pub seats : ℕ
   -- the seconds until a silent connection is given up, if it is
@@ -277,6 +286,9 @@ every_of rows = unwrap_or (number_of (codes "every") rows) 1
 abbrev pub socket_of : List Row → Option (Text × Bool)
 socket_of rows = option_map (λ path. (path, is_given (codes "group") rows)) (first_of (codes "socket") rows)
 
+abbrev pub page_port_of : List Row → Option (ℕ × Option Text)
+page_port_of rows = option_map (λ port. (port, first_of (codes "page-host") rows)) (number_of (codes "page") rows)
+
 abbrev pub journal_of : List Row → Option (Text × Bool)
 journal_of rows = option_map (λ path. (path, is_given (codes "force") rows)) (first_of (codes "journal") rows)
 
@@ -287,11 +299,11 @@ word_of name rows = unwrap_or (first_of name rows) []
 -- the options that only a server that stays may take
 abbrev pub staying_options : List Text
 staying_options =
-    codes "socket" ∷ codes "group" ∷ codes "seats" ∷ codes "idle" ∷ codes "quiet" ∷
+    codes "socket" ∷ codes "group" ∷ codes "page" ∷ codes "page-host" ∷ codes "seats" ∷ codes "idle" ∷ codes "quiet" ∷
     codes "clock" ∷ codes "every" ∷ []
 
--- it takes no `--connections` and no `--turns`, and needs an address; a group is that of a socket, and seconds are
--- those of a clock; at each of two addresses it has at most 500 seats
+-- it takes no `--connections` and no `--turns`, and needs an address; a group is that of a socket, a further host that
+-- of a page, and seconds are those of a clock; at each of two addresses it has at most 500 seats
 abbrev pub clash_of_staying : List Row → Option Clash
 clash_of_staying rows =
     if is_given (codes "connections") rows then Some (excludes (codes "stay") (codes "connections"))
@@ -299,6 +311,8 @@ clash_of_staying rows =
     else if not (is_given (codes "port") rows) && not (is_given (codes "socket") rows) then Some no_address
     else if is_given (codes "group") rows && not (is_given (codes "socket") rows)
     then Some (needs (codes "group") (codes "socket"))
+    else if is_given (codes "page-host") rows && not (is_given (codes "page") rows)
+    then Some (needs (codes "page-host") (codes "page"))
     else if is_given (codes "every") rows && not (is_given (codes "clock") rows)
     then Some (needs (codes "every") (codes "clock"))
     else if is_given (codes "port") rows && (is_given (codes "socket") rows && nat_lt 500 (seats_of rows))
@@ -351,6 +365,7 @@ stay_at rows = do
   Ok (stay (record {
     port = number_of (codes "port") rows;
     socket = socket_of rows;
+    page = page_port_of rows;
     seats = seats_of rows;
     idle = number_of (codes "idle") rows;
     quiet = is_given (codes "quiet") rows;

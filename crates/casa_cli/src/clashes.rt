@@ -95,6 +95,8 @@ fn shown(option: &str) -> &'static str {
         "stay" => "--stay",
         "socket" => "--socket <PATH>",
         "group" => "--group",
+        "page" => "--page <Q>",
+        "page-host" => "--page-host <NAME:PORT>",
         "seats" => "--seats <S>",
         "idle" => "--idle <SECONDS>",
         "quiet" => "--quiet",

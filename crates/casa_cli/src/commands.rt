@@ -3,7 +3,7 @@
 ghost use Rattle.std.specs.Prelude.{◌≡◌, ℕ, false, codes, IfOk};
 ghost use Rattle.clap.specs.Words.{app_of, new_app, rule_of};
 ghost use Rattle.clap.specs.declared.builder.command.Command.TheViews.{out-Command as fields_of};
-ghost use Rattle.casa_cli.specs.Words.{casa_alone, casa_of_inquiries, casa_of_lists, flag_rule, journal_app, load_app, needed, number_between, option_rule, page_app, report_app, run_app, serve_app, serve_ending, serve_keeping, serve_listening, serve_noting, serve_without_clock, summary_app, whole_app, why_app, word_rule};
+ghost use Rattle.casa_cli.specs.Words.{casa_alone, casa_of_inquiries, casa_of_lists, flag_rule, journal_app, load_app, needed, number_between, option_rule, page_app, report_app, run_app, serve_app, serve_ending, serve_keeping, serve_listening, serve_noting, serve_paging, serve_without_clock, summary_app, whole_app, why_app, word_rule};
 
 use crate::help;
 use clap::{Arg, ArgAction, Command, value_parser};
@@ -143,10 +143,21 @@ fn serve_keeping<'a>(alloc: Global) -> Result<Command<'a>, AllocError>
 {
     let seats = number_option(alloc, "seats", "S", help::SEATS_HELP, 1000);
     let idle = number_option(alloc, "idle", "SECONDS", help::IDLE_HELP, 86400);
-    serve_listening(alloc)?
+    serve_paging(alloc)?
         .arg(seats)?
         .arg(idle)?
         .arg(flag(alloc, "quiet", help::QUIET_HELP))
+}
+
+/// `casa serve` with the options of one that ends, and where one that stays listens and serves a page.
+fn serve_paging<'a>(alloc: Global) -> Result<Command<'a>, AllocError>
+    ensures app { IfOk result (λ command. app_of command ≡ serve_paging) }
+    ensures local { IfOk result (λ command. (fields_of command).has_globals ≡ false) }
+{
+    let host = value_option(alloc, "page-host", "NAME:PORT", help::PAGE_HOST_HELP);
+    serve_listening(alloc)?
+        .arg(port_option(alloc, "page", "Q", help::PAGE_PORT_HELP))?
+        .arg(host)
 }
 
 /// `casa serve` with the options of one that ends, and where one that stays listens.
@@ -188,7 +199,7 @@ fn serve_without_clock<'a>(alloc: Global) -> Result<Command<'a>, AllocError>
     let connections = count_option(alloc, "connections", "N", help::CONNECTIONS_HELP);
     subcommand(alloc, "serve", help::SERVE_ABOUT, help::SERVE_AFTER_HELP)
         .override_usage(help::SERVE_USAGE)
-        .arg(port_option(alloc))?
+        .arg(port_option(alloc, "port", "P", help::PORT_HELP))?
         .arg(connections)
 }
 
@@ -264,6 +275,14 @@ fn number_option<'a>(
     ))
 }
 
+/// An option with a port.
+fn port_option<'a>(alloc: Global, name: &'a str, value: &'a str, text: &'a str) -> Arg<'a>
+    ensures rule { rule_of result ≡ number_between 1 65535 (option_rule name.entry.now) }
+    ensures local { result.global ≡ false }
+{
+    value_option(alloc, name, value, text).value_parser(value_parser!(u16).range(1..))
+}
+
 /// A flag.
 fn flag<'a>(alloc: Global, name: &'a str, text: &'a str) -> Arg<'a>
     ensures rule { rule_of result ≡ flag_rule name.entry.now }
@@ -281,14 +300,6 @@ fn strict_flag<'a>(alloc: Global) -> Arg<'a>
     ensures local { result.global ≡ false }
 {
     flag(alloc, "strict", help::STRICT_HELP)
-}
-
-/// `--port`.
-fn port_option<'a>(alloc: Global) -> Arg<'a>
-    ensures rule { rule_of result ≡ number_between 1 65535 (option_rule (codes "port")) }
-    ensures local { result.global ≡ false }
-{
-    value_option(alloc, "port", "P", help::PORT_HELP).value_parser(value_parser!(u16).range(1..))
 }
 
 /// `--reg`, which must be given.

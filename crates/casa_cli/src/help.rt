@@ -129,6 +129,7 @@ Examples:
   casa serve --port 4750 --connections 8
   casa serve --port 4750 --connections 8 --day 2025-06-01 --turns 86400
   casa serve --port 4750 --stay
+  casa serve --port 4750 --stay --page 4751
   casa serve --socket /run/casa/desk --stay --clock --day 2025-06-01
   casa serve --port 4750 --stay --journal day.journal
 
@@ -167,6 +168,14 @@ pub const SOCKET_HELP: &str = "The path of a socket to listen on, in place of --
 
 /// What stands after `--group`.
 pub const GROUP_HELP: &str = "Let the group of the socket connect too";
+
+/// What stands after `--page`.
+pub const PAGE_PORT_HELP: &str =
+    "Serve a page of the day at http://127.0.0.1:Q/, live, for browsers on this machine: 1 to 65535";
+
+/// What stands after `--page-host`.
+pub const PAGE_HOST_HELP: &str =
+    "A further host, as NAME:PORT, under which browsers may ask for the page, as behind a tunnel";
 
 /// What stands after `--seats`.
 pub const SEATS_HELP: &str =

@@ -12,5 +12,5 @@ mod values;
 mod words;
 
 pub use laws::words_have_the_first_wrong_value;
-pub use tasks::{Journal, Service, Socket, Task, TaskFault, Ticking};
+pub use tasks::{Journal, PagePort, Service, Socket, Task, TaskFault, Ticking};
 pub use words::task;

@@ -2,13 +2,13 @@
 
 ghost use Rattle.std.specs.Prelude.{◌≡◌, codes, find, option_map};
 ghost use Rattle.clap.specs.Words.{found_of, rows_of};
-ghost use Rattle.casa_cli.specs.Tasks.{AreChecked, IsNumber, IsOutcome, clash_found};
-ghost use Rattle.casa_cli.specs.Words.{clash_by_stay, clash_of, clash_of_ending, clash_of_staying, is_given, seats_of, serve_at, serve_of, socket_of, stay_at, staying_options};
+ghost use Rattle.casa_cli.specs.Tasks.{AreChecked, IsNumber, IsOutcome, clash_found, page_port};
+ghost use Rattle.casa_cli.specs.Words.{clash_by_stay, clash_of, clash_of_ending, clash_of_staying, is_given, page_port_of, seats_of, serve_at, serve_of, socket_of, stay_at, staying_options};
 
 use crate::clashes::{Clash, clash_fault};
 use crate::commands::serve_command;
 use crate::journals::{journal_clash, journal_in};
-use crate::tasks::{Service, Socket, Task, TaskFault, Ticking};
+use crate::tasks::{PagePort, Service, Socket, Task, TaskFault, Ticking};
 use crate::values::{checked_day, is_given, number_in, port_in, value_of};
 use clap::ArgMatches;
 use std::alloc::Global;
@@ -33,7 +33,7 @@ fn ending_task<'a>(alloc: Global, values: &ArgMatches<'a>) -> Result<Task<'a>, T
     requires { AreChecked (rows_of (found_of values.now)) }
     ensures { IsOutcome (serve_at (rows_of (found_of values.now))) result }
 {
-    let port = match port_in(values) {
+    let port = match port_in(values, "port") {
         Some(port) => port,
         None => return Err(clash_fault(alloc, serve_command(alloc), Clash::NoPort)),
     };
@@ -66,8 +66,9 @@ fn stay_task<'a>(values: &ArgMatches<'a>) -> Result<Task<'a>, TaskFault>
         None
     };
     Ok(Task::Stay(Service {
-        port: port_in(values),
+        port: port_in(values, "port"),
         socket: socket_in(values),
+        page: page_port_in(values),
         seats: seats_in(values),
         idle: number_in(values, "idle"),
         quiet: is_given(values, "quiet"),
@@ -84,6 +85,16 @@ fn socket_in<'a>(values: &ArgMatches<'a>) -> Option<Socket<'a>>
     let path = value_of(values, "socket")?;
     let group = is_given(values, "group");
     Some(Socket { path, group })
+}
+
+/// Where a page is served.
+fn page_port_in<'a>(values: &ArgMatches<'a>) -> Option<PagePort<'a>>
+    requires { IsNumber 1 65535 (codes "page") (rows_of (found_of values.now)) }
+    ensures { page_port result ≡ page_port_of (rows_of (found_of values.now)) }
+{
+    let port = port_in(values, "page")?;
+    let host = value_of(values, "page-host");
+    Some(PagePort { port, host })
 }
 
 /// The seats at an address.
@@ -134,6 +145,10 @@ fn staying_option(values: &ArgMatches<'_>) -> Option<&'static str>
         Some("socket")
     } else if is_given(values, "group") {
         Some("group")
+    } else if is_given(values, "page") {
+        Some("page")
+    } else if is_given(values, "page-host") {
+        Some("page-host")
     } else if is_given(values, "seats") {
         Some("seats")
     } else if is_given(values, "idle") {
@@ -163,6 +178,8 @@ fn staying_clash(values: &ArgMatches<'_>) -> Option<Clash>
         Some(Clash::NoAddress)
     } else if is_given(values, "group") && !has_socket {
         Some(Clash::Needs("group", "socket"))
+    } else if is_given(values, "page-host") && !is_given(values, "page") {
+        Some(Clash::Needs("page-host", "page"))
     } else if is_given(values, "every") && !is_given(values, "clock") {
         Some(Clash::Needs("every", "clock"))
     } else if has_port && has_socket && seats_in(values) > 500 {

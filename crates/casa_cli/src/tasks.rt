@@ -82,6 +82,8 @@ pub struct Service<'a> {
     pub port: Option<u16>,
     /// The socket to listen on.
     pub socket: Option<Socket<'a>>,
+    /// Where it serves a page of the day, if it does.
+    pub page: Option<PagePort<'a>>,
     /// How many connections it has at a time at each address, 1 to 1,000.
     pub seats: u32,
     /// After how many seconds of silence it gives a connection up, 1 to 86,400; none: never.
@@ -101,6 +103,15 @@ pub struct Socket<'a> {
     pub path: &'a str,
     /// Whether the socket's group may connect too.
     pub group: bool,
+}
+
+/// Where a server that stays serves a page of the day.
+#[derive(Clone, Copy, PartialEq, Eq, Debug)]
+pub struct PagePort<'a> {
+    /// The port to listen on for browsers, 1 to 65,535.
+    pub port: u16,
+    /// A further host under which browsers may ask for it, as it was given.
+    pub host: Option<&'a str>,
 }
 
 /// The file of a day's journal.

@@ -23,12 +23,12 @@ pub fn is_given(values: &ArgMatches<'_>, name: &str) -> bool
     }
 }
 
-/// The number after `--port`, where there is one.
-pub fn port_in(values: &ArgMatches<'_>) -> Option<u16>
-    requires { IsNumber 1 65535 (codes "port") (rows_of (found_of values.now)) }
-    ensures { result ≡ number_of (codes "port") (rows_of (found_of values.now)) }
+/// The port after an option, where there is one.
+pub fn port_in(values: &ArgMatches<'_>, name: &str) -> Option<u16>
+    requires { IsNumber 1 65535 name.now (rows_of (found_of values.now)) }
+    ensures { result ≡ number_of name.now (rows_of (found_of values.now)) }
 {
-    values.get_one("port")
+    values.get_one(name)
 }
 
 /// The number after an option, where there is one.
