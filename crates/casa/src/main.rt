@@ -18,6 +18,7 @@ use std::fs::{File, Files};
 use std::io::{Eprint, Read, Write};
 use std::net::{Net, TcpListener, TcpStream};
 use std::process::ExitCode;
+use std::random::RandomSource;
 use std::sync::Wait;
 use std::thread::Threads;
 use std::time::Clock;
@@ -54,6 +55,7 @@ fn answer<
         + Wait
         + Clock
         + Eprint
+        + RandomSource
         + Sync,
     R: Read + Drop,
     W: Write,
@@ -81,6 +83,7 @@ fn carry_out<
         + Wait
         + Clock
         + Eprint
+        + RandomSource
         + Sync,
     R: Read + Drop,
     W: Write,

@@ -1,14 +1,15 @@
 //! Where connections come in, and what is said of them.
 
 use crate::log::Log;
-use crate::streams::{LineEnd, Listener, Patience, ReplyEnd, ends_of};
+use crate::streams::{Counted, LineEnd, Listener, Patience, ReplyEnd, ends_of};
 use casa_keeper::{Held, Keeper};
+use casa_live::{Gauges, Reading};
 use casa_server::{Connections, Guarded, SeatFault, ServeFault, TimerFault, Watcher};
 use casa_session::SessionFault;
-use std::alloc::Global;
+use std::alloc::{AllocError, Global};
 use std::io::Eprint;
 use std::sync::Arc;
-use std::sync::atomic::{AtomicBool, Ordering};
+use std::sync::atomic::{AtomicBool, AtomicU64, Ordering};
 use std::time::{Clock, Duration};
 use std::{io, thread};
 
@@ -22,6 +23,8 @@ pub(crate) struct Standing {
     pub(crate) is_put_off: AtomicBool,
     /// Whether it ends.
     pub(crate) is_ending: AtomicBool,
+    /// Who is there.
+    pub(crate) traffic: Traffic,
 }
 
 impl Standing {
@@ -30,12 +33,39 @@ impl Standing {
         Standing {
             is_put_off: AtomicBool::new(false),
             is_ending: AtomicBool::new(false),
+            traffic: Traffic {
+                desks: AtomicU64::new(0),
+                connections: AtomicU64::new(0),
+            },
         }
+    }
+
+    /// Ends the server; whether it had not ended before.
+    pub(crate) fn end(&self) -> bool {
+        !self.is_ending.swap(true, Ordering::SeqCst)
     }
 
     /// Whether the server ends.
     pub(crate) fn is_ending(&self) -> bool {
         self.is_ending.load(Ordering::SeqCst)
+    }
+}
+
+/// Who is there.
+#[derive(Drop)]
+pub(crate) struct Traffic {
+    /// How many desks have a connection.
+    desks: AtomicU64,
+    /// How many connections are open, those of browsers too.
+    connections: AtomicU64,
+}
+
+impl Gauges for Traffic {
+    fn read(&self) -> Reading {
+        Reading {
+            desks: self.desks.load(Ordering::SeqCst),
+            connections: self.connections.load(Ordering::SeqCst),
+        }
     }
 }
 
@@ -47,7 +77,7 @@ pub(crate) struct Entrance<'a, R, P> {
     pub(crate) log: &'a Log<'a, R>,
     pub(crate) listener: Arc<Listener>,
     pub(crate) standing: &'a Standing,
-    /// By which seat the lines are answered, for what is said of them.
+    /// Which seat answers, for what is said of it.
     pub(crate) seat: u32,
     /// How long a read or a write waits.
     pub(crate) patience: Patience,
@@ -56,11 +86,26 @@ pub(crate) struct Entrance<'a, R, P> {
 }
 
 /// The two ends of a connection, of which the second waits for its keeper.
-type Ends<'a, P> = (LineEnd<'a>, Held<'a, ReplyEnd<'a>, P>);
+pub(crate) type Ends<'a, P> = (LineEnd<'a>, Held<'a, ReplyEnd<'a>, P>);
+
+impl<'a, R, P> Entrance<'a, R, P> {
+    /// The same entrance, for one seat more. `AllocError` where there are too many.
+    pub(crate) fn again(&self) -> Result<Entrance<'a, R, P>, AllocError> {
+        Ok(Entrance {
+            rt: self.rt,
+            log: self.log,
+            listener: self.listener.clone()?,
+            standing: self.standing,
+            seat: self.seat,
+            patience: self.patience,
+            keeper: self.keeper,
+        })
+    }
+}
 
 impl<'a, R: Eprint + Clock, P> Entrance<'a, R, P> {
     /// Accepts the next connection, for which it waits. `AcceptFailed` where the server ends.
-    fn wait(&self, alloc: Global) -> Result<Ends<'a, P>, ServeFault> {
+    pub(crate) fn wait(&self, alloc: Global) -> Result<Ends<'a, P>, ServeFault> {
         for _ in 0..u64::MAX {
             let accepted = self.accept(alloc);
             if self.standing.is_ending() {
@@ -81,10 +126,8 @@ impl<'a, R: Eprint + Clock, P> Entrance<'a, R, P> {
     fn accept(&self, alloc: Global) -> io::Result<(LineEnd<'a>, ReplyEnd<'a>)> {
         let (stream, peer) = self.listener.accept()?;
         let (patience, is_ending) = (self.patience, &self.standing.is_ending);
-        let ends = ends_of(alloc, stream, self.seat, peer, patience, is_ending)?;
-        self.log
-            .tell(format_args!("seat {}: {peer} has connected", self.seat));
-        Ok(ends)
+        let counted = Counted::new(&self.standing.traffic.connections);
+        ends_of(alloc, stream, self.seat, peer, patience, is_ending, counted)
     }
 
     /// Says that no connection can be accepted, if it was not said yet, and waits.
@@ -134,7 +177,10 @@ impl<'a, R: Eprint + Clock + Sync, P: Keeper<Kept: Send + Sync> + Send + Sync> C
         &mut self,
         alloc: Global,
     ) -> Result<(Guarded<LineEnd<'a>>, Held<'a, ReplyEnd<'a>, P>), ServeFault> {
-        let (reader, writer) = self.0.wait(alloc)?;
+        let (log, standing) = (self.0.log, self.0.standing);
+        let (mut reader, writer) = self.0.wait(alloc)?;
+        reader.desk = Some(Counted::new(&standing.traffic.desks));
+        log.tell(format_args!("seat {}: {} has connected", reader.seat, reader.peer));
         Ok((Guarded::new(reader), writer))
     }
 }

@@ -6,7 +6,6 @@ use crate::streams::Listener;
 use casa_keeper::{Keeper, Unkept};
 use std::io::Eprint;
 use std::sync::Arc;
-use std::sync::atomic::Ordering;
 use std::time::Clock;
 
 /// A keeper of a server, which ends when the file of its journal has failed: nobody may connect any more, and no connection
@@ -35,7 +34,7 @@ impl<'k, 'g, 'r, 'l, 's, R: Eprint + Clock, P: Keeper> Keeper
 impl<'k, 'g, 'r, 'l, 's, R: Eprint + Clock, P> EndingKeeper<'k, 'g, 'r, 'l, 's, R, P> {
     /// Ends the server, and says so once.
     fn end(&self) {
-        if self.standing.is_ending.swap(true, Ordering::SeqCst) {
+        if !self.standing.end() {
             return;
         }
         self.log.warn(

@@ -2,6 +2,8 @@
 //! from one life of the program to the next.
 #![tactic(auto)]
 
+mod addresses;
+mod browsers;
 mod checking;
 mod descriptors;
 mod door;

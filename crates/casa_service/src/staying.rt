@@ -5,13 +5,14 @@ ghost use Rattle.std.specs.Arc.{arc_value};
 ghost use Rattle.casa_front.specs.Openings.{history_name};
 ghost use Rattle.casa_engine.specs.Ledgers.{IsBlankOf};
 
+use crate::addresses::{Addresses, PageAddress};
+use crate::browsers::{PageDoor, seat_browsers};
 use crate::door::{Door, Entrance, Standing};
 use crate::ending::EndingKeeper;
-use crate::fault::{BindFault, ServiceFault, Trouble};
+use crate::fault::{ServiceFault, Trouble};
 use crate::journal::open_journal;
 use crate::log::Log;
-use crate::sockets;
-use crate::streams::{Listener, Patience};
+use crate::streams::Patience;
 use crate::whole_day::WholeDay;
 use casa_cli::{Journal, Service};
 use casa_day::Script;
@@ -27,17 +28,20 @@ use std::alloc::{AllocError, Global};
 use std::fs::{File, Files};
 use std::io::Eprint;
 use std::marker::Brand;
-use std::net::{Ipv4Addr, Net, TcpListener, TcpStream};
+use std::net::{Net, TcpListener, TcpStream};
+use std::random::RandomSource;
 use std::sync::{Arc, Wait};
-use std::thread::Threads;
+use std::thread;
+use std::thread::{Scope, Threads};
 use std::time::Clock;
 
 /// The number of the engine. There is no other from which it would have to be told.
 const ENGINE: u32 = 0;
 
 /// Listens as the service says, and answers the connections that come, by as many desks at a time as each address has seats,
-/// until it is ended. What goes on it says on standard error. With a journal it begins with what that has, and no reply goes
-/// out before its call is in the journal, on the disk.
+/// until it is ended. Where the service has a page, browsers are served that beside the desks, over 64 connections at a time.
+/// What goes on it says on standard error. With a journal it begins with what that has, and nothing is replied or shown before
+/// the calls of which it tells are in the journal, on the disk.
 ///
 /// `BindFailed` where an address can't be had; `NoMemory` where there is none for the board; `Journal` where the journal can't
 /// be had; `SpawnFailed` or `NoMemory` where there is not even one seat. What keeps it from accepting a connection is said, and
@@ -49,84 +53,30 @@ pub fn stay_desks<
         + Wait
         + Clock
         + Eprint
+        + RandomSource
         + Sync,
 >(rt: &R, alloc: Global, service: &Service) -> Result<(), ServiceFault> {
     let log = Log::new(rt, service.quiet);
-    let listeners = listen(rt, alloc, service, &log)?;
+    let addresses = Addresses::listen(rt, alloc, service, &log)?;
     let Ok(shelf) = Arc::new(alloc, boxcar::Vec::new(alloc)?) else {
         return Err(ServiceFault::NoMemory);
     };
-    let sats = stay_on::<Brand, Brand, R>(
-        rt,
-        alloc,
-        &log,
-        listeners.as_slice(),
-        &shelf,
-        blank(),
-        service,
-    )?;
+    let sats = stay_on::<Brand, Brand, R>(rt, alloc, &log, &addresses, &shelf, blank(), service)?;
     tell_sum(&log, sats.as_slice());
     Ok(())
 }
 
-/// Listens at the addresses of a service, and says so.
-fn listen<R: Net<Listener = TcpListener, Stream = TcpStream> + Files + Clock + Eprint>(
-    rt: &R,
-    alloc: Global,
-    service: &Service,
-    log: &Log<R>,
-) -> Result<Vec<Arc<Listener>>, ServiceFault> {
-    let mut listeners = Vec::new(alloc);
-    if let Some(port) = service.port {
-        let listener = match TcpListener::bind(rt, (Ipv4Addr::LOCALHOST, port)) {
-            Ok(listener) => Listener::Tcp(listener),
-            Err(error) => return Err(bind_failed(Some(port), error)),
-        };
-        add_listener(alloc, &mut listeners, listener)?;
-        log.tell(format_args!("listening on 127.0.0.1:{port}"));
-    }
-    if let Some(socket) = &service.socket {
-        let listener = match sockets::listen(rt, alloc, socket) {
-            Ok(listener) => Listener::Unix(listener),
-            Err(error) => return Err(bind_failed(None, error)),
-        };
-        add_listener(alloc, &mut listeners, listener)?;
-        log.tell(format_args!("listening at {}", socket.path));
-    }
-    Ok(listeners)
-}
-
-/// Adds a listener, to be shared.
-fn add_listener(
-    alloc: Global,
-    listeners: &mut Vec<Arc<Listener>>,
-    listener: Listener,
-) -> Result<(), AllocError> {
-    let Ok(shared) = Arc::new(alloc, listener) else {
-        return Err(AllocError);
-    };
-    match listeners.push(shared) {
-        Ok(()) => Ok(()),
-        Err(_) => Err(AllocError),
-    }
-}
-
-/// An address can't be had: this port, or the socket.
-fn bind_failed(port: Option<u16>, error: std::io::Error) -> ServiceFault {
-    ServiceFault::BindFailed(BindFault { port, error })
-}
-
-/// Answers the connections of these listeners on a new engine, whose ledger and history are these, and whose versions have
+/// Answers the connections at these addresses on a new engine, whose ledger and history are these, and whose versions have
 /// their positions on this shelf.
 fn stay_on<
     V: Shelving + Send + Sync,
     L: EngineName + Send + Sync,
-    R: Files<File = File> + Threads + Wait + Clock + Eprint + Sync,
+    R: Files<File = File> + Threads + Wait + Clock + Eprint + RandomSource + Sync,
 >(
     rt: &R,
     alloc: Global,
     log: &Log<R>,
-    listeners: &[Arc<Listener>],
+    addresses: &Addresses,
     shelf: &Arc<Seals>,
     blank: Blank,
     service: &Service,
@@ -139,21 +89,21 @@ fn stay_on<
     let gate = Recalling::new(alloc);
     let engine = Engine::<Shelf<V, R>, L, Recalling>::new(alloc, shelf, blank, ENGINE, gate)?;
     match &service.journal {
-        Some(file) => stay_kept(rt, alloc, log, listeners, &engine, service, file),
-        None => stay_without(rt, alloc, log, listeners, &engine, service),
+        Some(file) => stay_kept(rt, alloc, log, addresses, &engine, service, file),
+        None => stay_without(rt, alloc, log, addresses, &engine, service),
     }
 }
 
-/// Answers the connections of these listeners by the desks of an engine that nobody has asked, and keeps its journal.
+/// Answers the connections at these addresses by the desks of an engine that nobody has asked, and keeps its journal.
 fn stay_kept<
     K: Store<Version: Send + Sync> + Send,
     L: EngineName + Send + Sync,
-    R: Files<File = File> + Threads + Wait + Clock + Eprint + Sync,
+    R: Files<File = File> + Threads + Wait + Clock + Eprint + RandomSource + Sync,
 >(
     rt: &R,
     alloc: Global,
     log: &Log<R>,
-    listeners: &[Arc<Listener>],
+    addresses: &Addresses,
     engine: &Engine<K, L, Recalling>,
     service: &Service,
     file: &Journal,
@@ -163,7 +113,7 @@ fn stay_kept<
         return Err(ServiceFault::NoMemory);
     };
     let journal = open_journal(rt, alloc, log, engine, &mut desk, file, &last)?;
-    let stayed = stay_written(rt, alloc, log, listeners, engine, service, &journal);
+    let stayed = stay_written(rt, alloc, log, addresses, engine, service, &journal);
     // What the clock has done since the last reply.
     match journal.sync_all(rt, engine) {
         Err(Unkept::Failed) => {
@@ -174,37 +124,37 @@ fn stay_kept<
     }
 }
 
-/// Answers the connections of these listeners, while replies wait for this journal of the engine.
+/// Answers the connections at these addresses, while replies wait for this journal of the engine.
 fn stay_written<
     K: Store<Version: Send + Sync> + Send,
     L: EngineName + Send + Sync,
-    R: Threads + Wait + Clock + Eprint + Sync,
+    R: Threads + Wait + Clock + Eprint + RandomSource + Sync,
     S: Script<Call, Reply> + Send + Sync + Drop,
     T: Tape + Send + Sync + Drop,
 >(
     rt: &R,
     alloc: Global,
     log: &Log<R>,
-    listeners: &[Arc<Listener>],
+    addresses: &Addresses,
     engine: &Engine<K, L, Recalling>,
     service: &Service,
     journal: &SharedJournal<S, L, T>,
 ) -> Result<Vec<Sat>, ServiceFault> {
-    stay_noting(rt, alloc, log, listeners, engine, service, engine, journal)
+    stay_noting(rt, alloc, log, addresses, engine, service, engine, journal)
 }
 
-/// Answers the connections of these listeners, while replies wait for this journal of what is asked.
+/// Answers the connections at these addresses, while replies wait for this journal of what is asked.
 fn stay_noting<
     K: Store<Version: Send + Sync> + Send,
     L: EngineName + Send + Sync,
-    R: Threads + Wait + Clock + Eprint + Sync,
+    R: Threads + Wait + Clock + Eprint + RandomSource + Sync,
     E: Send + Sync,
     J: Syncs<E, Synced: Send + Sync> + Send + Sync,
 >(
     rt: &R,
     alloc: Global,
     log: &Log<R>,
-    listeners: &[Arc<Listener>],
+    addresses: &Addresses,
     engine: &Engine<K, L, Recalling>,
     service: &Service,
     asked: &E,
@@ -215,51 +165,78 @@ fn stay_noting<
         journal,
         rt,
     };
-    stay_keeping(rt, alloc, log, listeners, engine, service, &keeper)
+    stay_keeping(rt, alloc, log, addresses, engine, service, &keeper)
 }
 
-/// Answers the connections of these listeners, while replies wait for this keeper; where that fails the server ends.
+/// Answers the connections at these addresses, while replies wait for this keeper; where that fails the server ends.
 fn stay_keeping<
     K: Store<Version: Send + Sync> + Send,
     L: EngineName + Send + Sync,
-    R: Threads + Wait + Clock + Eprint + Sync,
+    R: Threads + Wait + Clock + Eprint + RandomSource + Sync,
     P: Keeper<Kept: Send + Sync> + Send + Sync,
 >(
     rt: &R,
     alloc: Global,
     log: &Log<R>,
-    listeners: &[Arc<Listener>],
+    addresses: &Addresses,
     engine: &Engine<K, L, Recalling>,
     service: &Service,
     keeper: &P,
 ) -> Result<Vec<Sat>, ServiceFault> {
-    let standing = Standing::new();
+    let (standing, listeners) = (Standing::new(), addresses.listeners(alloc)?);
     let keeper = EndingKeeper {
         keeper,
         log,
-        listeners,
+        listeners: listeners.as_slice(),
         standing: &standing,
     };
-    let doors = doors(rt, alloc, log, listeners, &standing, service, &keeper)?;
-    sats_of(stay_by(rt, alloc, log, doors, engine, service, &standing))
+    stay_at(
+        rt, alloc, log, addresses, engine, service, &standing, &keeper,
+    )
 }
 
-/// Answers the connections of these listeners, whose replies wait for nothing.
+/// Answers the connections at these addresses, whose replies wait for nothing.
 fn stay_without<
     K: Store<Version: Send + Sync> + Send,
     L: EngineName + Send + Sync,
-    R: Threads + Wait + Clock + Eprint + Sync,
+    R: Threads + Wait + Clock + Eprint + RandomSource + Sync,
 >(
     rt: &R,
     alloc: Global,
     log: &Log<R>,
-    listeners: &[Arc<Listener>],
+    addresses: &Addresses,
     engine: &Engine<K, L, Recalling>,
     service: &Service,
 ) -> Result<Vec<Sat>, ServiceFault> {
     let standing = Standing::new();
-    let doors = doors(rt, alloc, log, listeners, &standing, service, &NoKeeper)?;
-    sats_of(stay_by(rt, alloc, log, doors, engine, service, &standing))
+    stay_at(
+        rt, alloc, log, addresses, engine, service, &standing, &NoKeeper,
+    )
+}
+
+/// Answers the connections at these addresses, whose replies wait for this keeper: those of desks, and those of browsers beside
+/// them.
+fn stay_at<
+    K: Store<Version: Send + Sync> + Send,
+    L: EngineName + Send + Sync,
+    R: Threads + Wait + Clock + Eprint + RandomSource + Sync,
+    P: Keeper<Kept: Send + Sync> + Send + Sync,
+>(
+    rt: &R,
+    alloc: Global,
+    log: &Log<R>,
+    addresses: &Addresses,
+    engine: &Engine<K, L, Recalling>,
+    service: &Service,
+    standing: &Standing,
+    keeper: &P,
+) -> Result<Vec<Sat>, ServiceFault> {
+    let doors = doors(rt, alloc, log, addresses, standing, service, keeper)?;
+    let Some(page) = &addresses.page else {
+        return sats_of(stay_by(rt, alloc, log, doors, engine, service, standing));
+    };
+    let page = page_door(rt, log, page, standing, keeper)?;
+    sats_of(stay_with_page(rt, alloc, log, doors, &page, engine, service, standing))
 }
 
 /// What the seats have done; the fault where there was not even one.
@@ -272,12 +249,12 @@ fn sats_of(stayed: Stayed) -> Result<Vec<Sat>, ServiceFault> {
     }
 }
 
-/// A door for each seat: for each listener as many as the service has seats, in turn. Replies wait for the keeper.
+/// A door for each seat: for each address as many as the service has seats, in turn. Replies wait for the keeper.
 fn doors<'a, R: Clock + Eprint + Sync, P>(
     rt: &'a R,
     alloc: Global,
     log: &'a Log<'a, R>,
-    listeners: &[Arc<Listener>],
+    addresses: &Addresses,
     standing: &'a Standing,
     service: &Service,
     keeper: &'a P,
@@ -286,7 +263,7 @@ fn doors<'a, R: Clock + Eprint + Sync, P>(
     let mut doors = Vec::new(alloc);
     let mut seat: u32 = 0;
     for _ in 0..service.seats {
-        for listener in listeners {
+        for listener in &addresses.desks {
             seat = seat.saturating_add(1);
             doors.push(Door(Entrance {
                 rt,
@@ -300,6 +277,80 @@ fn doors<'a, R: Clock + Eprint + Sync, P>(
         }
     }
     Ok(doors)
+}
+
+/// The door of browsers. Replies wait for the keeper.
+fn page_door<'a, R, P>(
+    rt: &'a R,
+    log: &'a Log<'a, R>,
+    page: &'a PageAddress,
+    standing: &'a Standing,
+    keeper: &'a P,
+) -> Result<PageDoor<'a, R, P>, AllocError> {
+    Ok(PageDoor {
+        entrance: Entrance {
+            rt,
+            log,
+            listener: page.listener.clone()?,
+            standing,
+            seat: 0,
+            patience: PageDoor::<R, P>::patience(),
+            keeper,
+        },
+        hosts: &page.hosts,
+    })
+}
+
+/// Answers the connections of these doors as `stay_by` does, and meanwhile those of browsers that come to the page's door. Ends
+/// when both have ended.
+fn stay_with_page<
+    K: Store<Version: Send + Sync> + Send,
+    L: EngineName + Send + Sync,
+    R: Threads + Wait + Clock + Eprint + RandomSource + Sync,
+    P: Keeper<Kept: Send + Sync> + Send + Sync,
+>(
+    rt: &R,
+    alloc: Global,
+    log: &Log<R>,
+    doors: Vec<Door<R, P>>,
+    page: &PageDoor<R, P>,
+    engine: &Engine<K, L, Recalling>,
+    service: &Service,
+    standing: &Standing,
+) -> Stayed {
+    thread::scope(
+        thread::scope_env(),
+        rt,
+        move |scope| stay_beside(
+            scope, rt, alloc, log, doors, page, engine, service, standing,
+        ),
+    )
+}
+
+/// The same, with the browsers' threads in this scope.
+fn stay_beside<
+    's,
+    'd,
+    E,
+    K: Store<Version: Send + Sync> + Send,
+    L: EngineName + Send + Sync,
+    R: Threads + Wait + Clock + Eprint + RandomSource + Sync,
+    P: Keeper<Kept: Send + Sync> + Send + Sync,
+>(
+    scope: &'s Scope<'s, E>,
+    rt: &'s R,
+    alloc: Global,
+    log: &Log<R>,
+    doors: Vec<Door<R, P>>,
+    page: &'s PageDoor<'d, R, P>,
+    engine: &'s Engine<K, L, Recalling>,
+    service: &Service,
+    standing: &Standing,
+) -> Stayed {
+    seat_browsers(scope, rt, alloc, engine, page);
+    let stayed = stay_by(rt, alloc, log, doors, engine, service, standing);
+    page.close();
+    stayed
 }
 
 /// Answers the connections of these doors by the desks of this engine, while its clock is moved, if it is to be moved.

@@ -9,7 +9,7 @@ use std::net::{Shutdown, SocketAddr, TcpListener, TcpStream};
 use std::os::fd::OwnedFd;
 use std::os::unix::net::{UnixListener, UnixStream};
 use std::sync::Arc;
-use std::sync::atomic::{AtomicBool, Ordering};
+use std::sync::atomic::{AtomicBool, AtomicU64, Ordering};
 use std::time::Duration;
 use std::{fmt, io};
 
@@ -79,49 +79,101 @@ impl Listener {
 }
 
 impl Stream {
-    /// Lets no read or write wait longer than this, if it is to be bounded.
-    fn set_timeout(&self, most: Option<Duration>) -> io::Result<()> {
+    /// Lets no read and no write wait longer than this, if it is to be bounded.
+    fn set_timeouts(&self, patience: Patience) -> io::Result<()> {
+        let (read, write) = (patience.reading.at_a_time, patience.writing.at_a_time);
         match self {
             Stream::Tcp(stream) => {
-                stream.set_read_timeout(most)?;
-                stream.set_write_timeout(most)
+                stream.set_read_timeout(read)?;
+                stream.set_write_timeout(write)
             }
             Stream::Unix(stream) => {
-                stream.set_read_timeout(most)?;
-                stream.set_write_timeout(most)
+                stream.set_read_timeout(read)?;
+                stream.set_write_timeout(write)
             }
         }
     }
 }
 
-/// How long a connection waits for its peer: at a time, and how often.
+/// How long one end of a connection waits for its peer: at a time, and how often.
 #[derive(Clone, Copy)]
-pub(crate) struct Patience {
+struct Waits {
     at_a_time: Option<Duration>,
     times: u64,
 }
 
-impl Patience {
-    /// So many seconds, if they are bounded; a second at a time where the server may have to end meanwhile.
-    pub(crate) fn new(idle: Option<u32>, may_end: bool) -> Patience {
-        match idle {
-            Some(seconds) if may_end => Patience {
-                at_a_time: Some(Duration::from_secs(LOOK)),
-                times: u64::from(seconds),
-            },
-            None if may_end => Patience {
-                at_a_time: Some(Duration::from_secs(LOOK)),
-                times: u64::MAX,
-            },
-            Some(seconds) => Patience {
-                at_a_time: Some(Duration::from_secs(u64::from(seconds))),
-                times: 1,
-            },
-            None => Patience {
-                at_a_time: None,
-                times: 1,
+impl Waits {
+    /// So many seconds, if they are bounded.
+    fn for_seconds(idle: Option<u32>) -> Waits {
+        let at_a_time = match idle {
+            Some(seconds) => Some(Duration::from_secs(u64::from(seconds))),
+            None => None,
+        };
+        Waits {
+            at_a_time,
+            times: 1,
+        }
+    }
+
+    /// So many seconds, if they are bounded, a second at a time.
+    fn looking(idle: Option<u32>) -> Waits {
+        Waits {
+            at_a_time: Some(Duration::from_secs(LOOK)),
+            times: match idle {
+                Some(seconds) => u64::from(seconds),
+                None => u64::MAX,
             },
         }
+    }
+}
+
+/// How long a connection waits for its peer: for what that sends, and until it takes what is sent.
+#[derive(Clone, Copy)]
+pub(crate) struct Patience {
+    reading: Waits,
+    writing: Waits,
+}
+
+impl Patience {
+    /// So many seconds at each end, if they are bounded; a second at a time where the server may have to end meanwhile.
+    pub(crate) fn new(idle: Option<u32>, may_end: bool) -> Patience {
+        let waits = if may_end {
+            Waits::looking(idle)
+        } else {
+            Waits::for_seconds(idle)
+        };
+        Patience {
+            reading: waits,
+            writing: waits,
+        }
+    }
+
+    /// So many seconds to read and so many to write, a second at a time, since the server may have to end meanwhile.
+    pub(crate) fn looking(reading: u32, writing: u32) -> Patience {
+        Patience {
+            reading: Waits::looking(Some(reading)),
+            writing: Waits::looking(Some(writing)),
+        }
+    }
+}
+
+/// One of those that are counted, until it is dropped.
+pub(crate) struct Counted<'a> {
+    count: &'a AtomicU64,
+}
+
+impl<'a> Counted<'a> {
+    /// One more of those that are counted here.
+    pub(crate) fn new(count: &'a AtomicU64) -> Counted<'a> {
+        count.fetch_add(1, Ordering::SeqCst);
+        Counted { count }
+    }
+}
+
+impl<'a> Drop for Counted<'a> {
+    fn drop(self) {
+        let Self { count } = self;
+        count.fetch_sub(1, Ordering::SeqCst);
     }
 }
 
@@ -129,7 +181,8 @@ impl Patience {
 #[derive(Drop)]
 struct Wire<'a> {
     stream: Arc<Stream>,
-    patience: Patience,
+    /// How long this end waits.
+    waits: Waits,
     /// Whether the server ends, so that nobody waits any more.
     is_ending: &'a AtomicBool,
 }
@@ -141,7 +194,7 @@ impl<'a> Wire<'a> {
     }
 
     /// Whether to go on waiting, where a read or a write came to this.
-    fn waits(&self, done: &io::Result<usize>) -> bool {
+    fn goes_on(&self, done: &io::Result<usize>) -> bool {
         match done {
             Err(error) => error.kind() == ErrorKind::WouldBlock && !self.is_ending(),
             Ok(_) => false,
@@ -152,9 +205,9 @@ impl<'a> Wire<'a> {
     fn read(&self, buf: &mut [u8]) -> io::Result<usize>
         ensures { ReadsAtMost result buf.new }
     {
-        for _ in 1..self.patience.times {
+        for _ in 1..self.waits.times {
             let read = self.read_once(buf);
-            if !self.waits(&read) {
+            if !self.goes_on(&read) {
                 return read;
             }
         }
@@ -174,9 +227,9 @@ impl<'a> Wire<'a> {
     fn write(&self, buf: &[u8]) -> io::Result<usize>
         ensures { WritesAtMost result buf.now }
     {
-        for _ in 1..self.patience.times {
+        for _ in 1..self.waits.times {
             let written = self.write_once(buf);
-            if !self.waits(&written) {
+            if !self.goes_on(&written) {
                 return written;
             }
         }
@@ -205,6 +258,10 @@ pub(crate) struct LineEnd<'a> {
     pub(crate) lines: u64,
     /// Whether a read has waited too long.
     pub(crate) is_idle: bool,
+    /// That the connection is open.
+    counted: Counted<'a>,
+    /// That it has a desk, where it has one.
+    pub(crate) desk: Option<Counted<'a>>,
 }
 
 /// The end of a connection at which replies are written.
@@ -244,24 +301,27 @@ pub(crate) fn ends_of<'a>(
     peer: Peer,
     patience: Patience,
     is_ending: &'a AtomicBool,
+    counted: Counted<'a>,
 ) -> io::Result<(LineEnd<'a>, ReplyEnd<'a>)> {
-    stream.set_timeout(patience.at_a_time)?;
+    stream.set_timeouts(patience)?;
     let stream = Arc::new(alloc, stream)?;
     let same = stream.clone()?;
     let reader = LineEnd {
         wire: Wire {
             stream,
-            patience,
+            waits: patience.reading,
             is_ending,
         },
         seat,
         peer,
         lines: 0,
         is_idle: false,
+        counted,
+        desk: None,
     };
     let wire = Wire {
         stream: same,
-        patience,
+        waits: patience.writing,
         is_ending,
     };
     Ok((reader, ReplyEnd { wire }))
