@@ -37,7 +37,7 @@ main{display:grid;grid-template-columns:304px minmax(0,1fr) 330px;gap:12px;paddi
 .card{background:var(--card);border:1px solid var(--line);border-radius:10px;min-width:0;flex:none}
 .col{display:flex;flex-direction:column;gap:12px;min-width:0;overflow-y:auto}
 .tall{display:flex;flex-direction:column;flex:1;min-height:150px;overflow:hidden}
-.head{display:flex;align-items:center;justify-content:space-between;gap:6px 10px;padding:10px 14px 6px}
+.head{display:flex;flex-wrap:wrap;align-items:center;justify-content:space-between;gap:6px 10px;padding:10px 14px 6px}
 .head h2,.btn,.legend span{white-space:nowrap}
 .scroll{overflow:auto;min-height:0;flex:1}
 /* How a flight or a slot stands: each has a colour and a shape. */
