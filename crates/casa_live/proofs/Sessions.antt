@@ -1,5 +1,5 @@
 -- a session of a browser's desk
-use Rattle.std.proofs.Common.{◌≡◌, ℕ, List, [], subst, ap, sym, ◌∙◌}
+use Rattle.std.proofs.Common.{◌≡◌, ℕ, List, [], subst, sym, ◌∙◌}
 use Rattle.std.specs.Prelude.{Option, Some, Result, Ok, Err, IfOk, OnErr, ⊤}
 use mathlib.Core.List.{IsPrefix}
 use Rattle.casa_flight.specs.declared.call.Call.{Call}

@@ -1,7 +1,6 @@
 -- how tallies grow
-use Rattle.std.proofs.Common.{◌≡◌, ℕ, ◌+◌, ◌-◌, ◌^◌, ◌≤◌, ◌<◌, List, [], ◌∷◌, ◌++◌, length, map, cond, true, false, refl, sym, ap, ◌∙◌, arith, add-zero, length-append}
+use Rattle.std.proofs.Common.{◌≡◌, ℕ, ◌+◌, ◌^◌, ◌<◌, List, [], ◌∷◌, ◌++◌, length, map, cond, true, false, refl, sym, ◌∙◌, arith, add-zero, length-append}
 use Rattle.std.specs.Prelude.{slice_index, slice_set, codes, ◌&&◌, Bool}
-use Rattle.std.specs.List.{count_by}
 use Rattle.std.proofs.lemmas.List.Sums.{sum_by_push, count_by-le-length}
 use Rattle.casa_filing.specs.Text.{Text, same_text}
 use Rattle.casa_flight.specs.declared.call.Call.{Call}

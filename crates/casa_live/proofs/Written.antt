@@ -1,6 +1,6 @@
 -- how metrics are written
-use Rattle.std.proofs.Common.{◌≡◌, ℕ, ◌+◌, ◌<◌, List, [], ◌∷◌, ◌++◌, length, map, take, get_or, refl, sym, ap, ◌∙◌, append_assoc, append-nil}
-use Rattle.std.specs.Prelude.{codes, decimal, Result, Ok, Err, OnOk, ⊤, flat_map, slice_index_or}
+use Rattle.std.proofs.Common.{◌≡◌, ℕ, ◌+◌, ◌<◌, List, [], ◌∷◌, ◌++◌, length, map, take, get_or, sym, ap, ◌∙◌, append_assoc, append-nil}
+use Rattle.std.specs.Prelude.{codes, decimal, Result, Ok, Err, OnOk, flat_map, slice_index_or}
 use Rattle.std.proofs.lemmas.Grind.{flat_map-append}
 use Rattle.std.proofs.lemmas.List.{get_or-map, take_more}
 use Rattle.casa_filing.specs.Text.{Text}
@@ -30,11 +30,11 @@ gauge_behind name help value a b c d heading_is name_is value_is =
     ∙ ap (λ (t : List ℕ). t ++ sample name value) heading_is ∙ append_assoc a top (sample name value)
 
 -- a value more
-pub sample_behind : (name help : Text) (value : Text → ℕ) (counts : List ℕ) (k : ℕ) (a b c : List ℕ) → counts ≡ map value commands → k < 12
+pub sample_behind : (name : Text) (value : Text → ℕ) (counts : List ℕ) (k : ℕ) (a b c : List ℕ) → counts ≡ map value commands → k < 12
     → b ≡ a ++ flat_map (command_sample name value) (take k commands)
     → c ≡ b ++ sample (name ++ codes "{command=\"" ++ slice_index_or commands k [] ++ codes "\"}") (get_or counts k 0)
     → c ≡ a ++ flat_map (command_sample name value) (take (k + 1) commands)
-sample_behind name help value counts k a b c are within before here =
+sample_behind name value counts k a b c are within before here =
     let command = slice_index_or commands k [] in
     let count : get_or counts k 0 ≡ value command = ap (λ (ns : List ℕ). get_or ns k 0) are ∙ get_or-map value commands k [] 0 within in
     let one : flat_map (command_sample name value) (take (k + 1) commands) ≡ flat_map (command_sample name value) (take k commands) ++ command_sample name value command =

@@ -29,14 +29,14 @@ pub struct Browser<'e, E, P, L: Named, R, Q> {
 /// The same over an engine whose versions the store K keeps, and whose gate is G.
 pub type EngineBrowser<'e, K, L, G, R, Q> = Browser<'e, Engine<K, L, G>, DeskPass<K, L>, L, R, Q>;
 
-impl<'e, K: Store, L: EngineName, G: Gate<Board<K>> + Drop, R: Wait, Q: Gauges> EngineBrowser<
-    'e,
-    K,
-    L,
-    G,
-    R,
-    Q,
-> {
+impl<'e, K, L, G, R, Q> EngineBrowser<'e, K, L, G, R, Q>
+where
+    K: Store,
+    L: EngineName,
+    G: Gate<Board<K>> + Drop,
+    R: Wait,
+    Q: Gauges,
+{
     /// A browser that has seen the engine's history as it is now, and has no desk.
     pub fn new(
         engine: &'e Engine<K, L, G>,
@@ -59,8 +59,14 @@ impl<'e, K: Store, L: EngineName, G: Gate<Board<K>> + Drop, R: Wait, Q: Gauges> 
 
 /// Questions are no calls: the desk is as it was. The first POST of lines opens it, and the later ones are answered by the
 /// same. `answer` gives `AllocError` also where 1,024 desks are open: then nothing was answered.
-impl<'e, K: Store, L: EngineName, G: Gate<Board<K>> + Drop, R: Wait, Q: Gauges> Backend
-    for EngineBrowser<'e, K, L, G, R, Q> {
+impl<'e, K, L, G, R, Q> Backend for EngineBrowser<'e, K, L, G, R, Q>
+where
+    K: Store,
+    L: EngineName,
+    G: Gate<Board<K>> + Drop,
+    R: Wait,
+    Q: Gauges,
+{
     ghost use Rattle.std.specs.Prelude.{◌≡◌};
     ghost use Rattle.casa_engine.specs.Passes.{pass_of};
     ghost use Rattle.casa_live.specs.Answered.{HasAnswered, given_by};

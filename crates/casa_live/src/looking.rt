@@ -31,14 +31,14 @@ use std::sync::Wait;
 /// The most entries of which it is told at once what came of them.
 const MOST: usize = 1000;
 
-impl<'e, K: Store, L: EngineName, G: Gate<Board<K>> + Drop, R: Wait, Q: Gauges> EngineBrowser<
-    'e,
-    K,
-    L,
-    G,
-    R,
-    Q,
-> {
+impl<'e, K, L, G, R, Q> EngineBrowser<'e, K, L, G, R, Q>
+where
+    K: Store,
+    L: EngineName,
+    G: Gate<Board<K>> + Drop,
+    R: Wait,
+    Q: Gauges,
+{
     /// The state, as `shown_text` writes it.
     pub(crate) fn state_text(
         &self,

@@ -12,7 +12,7 @@ use std::mem;
 /// The history that a browser has seen, its desk where it has one, and how many calls of each command the first entries of
 /// the history have.
 #[derive(Drop)]
-pub struct Seen<P, L: Named> {
+pub(crate) struct Seen<P, L: Named> {
     front: Front<Call, Reply, L>,
     desk: Option<P>,
     tally: Tally,

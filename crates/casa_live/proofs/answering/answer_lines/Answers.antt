@@ -1,7 +1,6 @@
-use Rattle.std.proofs.Common.{List, ℕ, Option, None, Some, ap, sym, ◌∙◌}
+use Rattle.std.proofs.Common.{None, Some, ap, sym}
 use Rattle.casa_history.specs.Entries.{desk_of, receipts}
 use Rattle.casa_engine.specs.Passes.{pass_of}
-use Rattle.casa_live.specs.Answered.{IsAnswered}
 use Rattle.casa_live.proofs.Sessions.{answered, if_ok, on_err}
 use Rattle.casa_live.proofs.answering.answer_lines.Goals as goal
 

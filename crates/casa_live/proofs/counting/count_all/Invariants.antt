@@ -1,4 +1,4 @@
-use Rattle.std.proofs.Common.{◌-◌, ◌≤◌, length, take}
+use Rattle.std.proofs.Common.{◌-◌, take}
 use mathlib.Core.List.{IsPrefix}
 use Rattle.casa_live.specs.Tallies.{IsTallyOf}
 use Rattle.casa_live.proofs.counting.count_all.Given as goal

@@ -8,7 +8,7 @@ use Rattle.casa_live.proofs.metrics.push_counter.Goals as goal
 
 pub loop-number-preserved : goal.loop-number-preserved
 loop-number-preserved c = λ value are.
-    sample_behind c.args.name.now c.args.help.now value c.args.counts.now c.loop-number.number
+    sample_behind c.args.name.now value c.args.counts.now c.loop-number.number
     (c.args.out.now.items ++ heading c.args.name.now (codes "counter") c.args.help.now) c.loop-number.out.items _ are c.loop-number-test.true
     (c.loop-number.invariant value are) (rw (← c.command.ensures) c.in_ok-push_command_sample.ensures)
 

@@ -3,7 +3,6 @@ use Rattle.std.proofs.lemmas.List.{length-take-le, take_all, take_more}
 use Rattle.casa_flight.specs.declared.call.Call.{Call}
 use Rattle.casa_flight.specs.declared.reply.Reply.{Reply}
 use Rattle.casa_history.specs.declared.entry.Entry.{Entry}
-use Rattle.casa_live.specs.declared.tally.Tally.{Tally}
 use Rattle.casa_live.specs.Tallies.{IsTallyOf}
 use Rattle.casa_live.proofs.tally.Tally.add_all.Goals as goal
 
