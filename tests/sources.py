@@ -477,8 +477,7 @@ def asked_by_traits(crate, types):
     """What the contracts of casa's own traits cite, for the types of these names in a crate."""
     found = []
     for block in (block for source in SOURCES[crate] for block in source.blocks):
-        names = {block.type, full_name(block.source, block.type)}
-        if not block.is_trait and block.trait in TRAITS and names & types:
+        if not block.is_trait and block.trait in TRAITS and full_name(block.source, block.type) in types:
             found += asked_by_trait(block)
     return found
 

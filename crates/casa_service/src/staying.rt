@@ -236,7 +236,7 @@ fn stay_at<
         return sats_of(stay_by(rt, alloc, log, doors, engine, service, standing));
     };
     let page = page_door(rt, log, page, standing, keeper)?;
-    sats_of(stay_with_page(rt, alloc, log, doors, &page, engine, service, standing))
+    sats_of(stay_with_page(rt, alloc, doors, &page, engine, service))
 }
 
 /// What the seats have done; the fault where there was not even one.
@@ -311,19 +311,15 @@ fn stay_with_page<
 >(
     rt: &R,
     alloc: Global,
-    log: &Log<R>,
     doors: Vec<Door<R, P>>,
     page: &PageDoor<R, P>,
     engine: &Engine<K, L, Recalling>,
     service: &Service,
-    standing: &Standing,
 ) -> Stayed {
     thread::scope(
         thread::scope_env(),
         rt,
-        move |scope| stay_beside(
-            scope, rt, alloc, log, doors, page, engine, service, standing,
-        ),
+        move |scope| stay_beside(scope, alloc, doors, page, engine, service),
     )
 }
 
@@ -338,16 +334,15 @@ fn stay_beside<
     P: Keeper<Kept: Send + Sync> + Send + Sync,
 >(
     scope: &'s Scope<'s, E>,
-    rt: &'s R,
     alloc: Global,
-    log: &Log<R>,
     doors: Vec<Door<R, P>>,
     page: &'s PageDoor<'d, R, P>,
     engine: &'s Engine<K, L, Recalling>,
     service: &Service,
-    standing: &Standing,
 ) -> Stayed {
+    let (rt, log) = (page.entrance.rt, page.entrance.log);
     seat_browsers(scope, rt, alloc, engine, page);
+    let standing = page.entrance.standing;
     let stayed = stay_by(rt, alloc, log, doors, engine, service, standing);
     page.close();
     stayed
