@@ -57,7 +57,7 @@ pub metrics_written : (history : List (Entry Call Reply)) (reading : Reading) (p
     → b ≡ a ++ counter (codes "casa_refusals_total") (codes "Calls that were refused.") (refusals_in history)
     → c ≡ b ++ gauge (codes "casa_entries") (codes "Entries of the history.") position
     → d ≡ c ++ gauge (codes "casa_clock_seconds") (codes "The clock, in seconds from midnight UTC.") clock
-    → e ≡ d ++ gauge (codes "casa_desks") (codes "Desks that were handed out to connections.") reading.desks
+    → e ≡ d ++ gauge (codes "casa_desks") (codes "Desks that have a connection.") reading.desks
     → f ≡ e ++ gauge (codes "casa_connections") (codes "Connections that are open.") reading.connections
     → f ≡ metrics_text history reading
 metrics_written history reading position clock start a b c d e f many at empty calls refusals entries time desks connections =

@@ -78,5 +78,5 @@ metrics_text history reading =
     ++ counter (codes "casa_refusals_total") (codes "Calls that were refused.") (refusals_in history)
     ++ gauge (codes "casa_entries") (codes "Entries of the history.") (length history)
     ++ gauge (codes "casa_clock_seconds") (codes "The clock, in seconds from midnight UTC.") (state_after history).clock
-    ++ gauge (codes "casa_desks") (codes "Desks that were handed out to connections.") reading.desks
+    ++ gauge (codes "casa_desks") (codes "Desks that have a connection.") reading.desks
     ++ gauge (codes "casa_connections") (codes "Connections that are open.") reading.connections

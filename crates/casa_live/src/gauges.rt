@@ -9,8 +9,8 @@ pub trait Gauges {
 /// How many desks and connections a server has.
 #[derive(Clone, Copy, PartialEq, Eq, Debug)]
 pub struct Reading {
-    /// The desks that were handed out to connections.
+    /// How many desks have a connection.
     pub desks: u64,
-    /// The connections that are open.
+    /// How many connections are open.
     pub connections: u64,
 }

@@ -57,7 +57,7 @@ pub(crate) fn metrics_text(
     push_gauge(
         &mut text,
         "casa_desks",
-        "Desks that were handed out to connections.",
+        "Desks that have a connection.",
         reading.desks,
     )?;
     push_gauge(

@@ -15,7 +15,7 @@ use casa_script::CallScript;
 use casa_view::{Board, Store};
 use std::alloc::Global;
 use std::fs::{File, Files};
-use std::io::Eprint;
+use std::io::{Eprint, ErrorKind};
 use std::sync::Wait;
 use std::time::{Clock, Instant};
 
@@ -107,7 +107,12 @@ fn refusal_of(
         RecoveryFault::Refused(OpenFault::ReplayDiffers(line)) => Trouble::ReplayDiffers(line),
         RecoveryFault::NotSetAside => match trouble {
             Some(Trouble::MoreThanTorn(line, bytes)) => Trouble::MoreThanTorn(line, bytes),
-            Some(Trouble::NotSetAside(error)) => Trouble::NotSetAside(error),
+            Some(Trouble::NotSetAside(error)) => {
+                if error.kind() == ErrorKind::OutOfMemory {
+                    return ServiceFault::NoMemory;
+                }
+                Trouble::NotSetAside(error)
+            }
             _ => Trouble::NotAlone,
         },
     };
