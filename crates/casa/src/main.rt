@@ -6,10 +6,9 @@
 
 use casa_app::{Input, ProgramFault, load, outcome, page, report, summary, why};
 use casa_cli::{Task, TaskFault, task};
-use casa_service::{
-    ServiceFault, Timing, check_journal, run_journaled, serve_desks, stand_in, stay_desks,
-};
+use casa_service::{ServiceFault, Timing, check_journal, run_journaled, serve_desks, stay_desks};
 use casa_session::Lone;
+use casa_sockets::stand_in;
 use clap::Command;
 use clap::error::ErrorKind;
 use jiff::civil::Date;

@@ -1,15 +1,14 @@
 //! Where a server that stays listens.
 
-use crate::fault::{BindFault, ServiceFault};
+use crate::fault::ServiceFault;
 use crate::log::Log;
-use crate::sockets;
-use crate::streams::Listener;
 use casa_cli::{PagePort, Service};
 use casa_http::Hosts;
+use casa_sockets::Listener;
 use std::alloc::{AllocError, Global};
 use std::fs::Files;
 use std::io::Eprint;
-use std::net::{Ipv4Addr, Net, TcpListener, TcpStream};
+use std::net::{Net, TcpListener, TcpStream};
 use std::sync::Arc;
 use std::time::Clock;
 
@@ -62,15 +61,12 @@ fn listen_for_desks<R: Net<Listener = TcpListener, Stream = TcpStream> + Files +
 ) -> Result<Vec<Arc<Listener>>, ServiceFault> {
     let mut listeners = Vec::new(alloc);
     if let Some(port) = service.port {
-        let listener = listen_at(rt, port)?;
+        let listener = Listener::on_port(rt, port)?;
         share(alloc, &mut listeners, listener)?;
         log.tell(format_args!("listening on 127.0.0.1:{port}"));
     }
     if let Some(socket) = &service.socket {
-        let listener = match sockets::listen(rt, alloc, socket) {
-            Ok(listener) => Listener::Unix(listener),
-            Err(error) => return Err(bind_failed(None, error)),
-        };
+        let listener = Listener::at_path(rt, alloc, socket.path, socket.group)?;
         share(alloc, &mut listeners, listener)?;
         log.tell(format_args!("listening at {}", socket.path));
     }
@@ -86,7 +82,7 @@ fn listen_for_browsers<R: Net<Listener = TcpListener, Stream = TcpStream> + Cloc
 ) -> Result<PageAddress, ServiceFault> {
     let port = page.port;
     let hosts = hosts_of(alloc, page)?;
-    let Ok(listener) = Arc::new(alloc, listen_at(rt, port)?) else {
+    let Ok(listener) = Arc::new(alloc, Listener::on_port(rt, port)?) else {
         return Err(ServiceFault::NoMemory);
     };
     log.tell(format_args!("listening on 127.0.0.1:{port} for browsers"));
@@ -111,17 +107,6 @@ fn written_host(alloc: Global, host: &str) -> Result<String, AllocError> {
     written.to_ascii_lowercase(alloc)
 }
 
-/// Listens on a port of 127.0.0.1.
-fn listen_at<R: Net<Listener = TcpListener, Stream = TcpStream>>(
-    rt: &R,
-    port: u16,
-) -> Result<Listener, ServiceFault> {
-    match TcpListener::bind(rt, (Ipv4Addr::LOCALHOST, port)) {
-        Ok(listener) => Ok(Listener::Tcp(listener)),
-        Err(error) => Err(bind_failed(Some(port), error)),
-    }
-}
-
 /// Adds a listener, to be shared.
 fn share(
     alloc: Global,
@@ -135,9 +120,4 @@ fn share(
         Ok(()) => Ok(()),
         Err(_) => Err(AllocError),
     }
-}
-
-/// An address can't be had: this port, or the socket.
-fn bind_failed(port: Option<u16>, error: std::io::Error) -> ServiceFault {
-    ServiceFault::BindFailed(BindFault { port, error })
 }

@@ -2,13 +2,13 @@
 
 use crate::door::Entrance;
 use crate::log::Log;
-use crate::streams::{LineEnd, Patience};
 use casa_engine::{Engine, EngineName};
 use casa_html::live_page;
 use casa_http::{Backend, Hosts, Site, browse};
 use casa_keeper::Keeper;
 use casa_live::Browser;
 use casa_plan::Recalling;
+use casa_sockets::{LineEnd, Patience};
 use casa_view::Store;
 use std::alloc::{AllocError, Global};
 use std::hash::RandomState;

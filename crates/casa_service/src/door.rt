@@ -1,11 +1,11 @@
 //! Where connections come in, and what is said of them.
 
 use crate::log::Log;
-use crate::streams::{Counted, LineEnd, Listener, Patience, ReplyEnd, ends_of};
 use casa_keeper::{Held, Keeper};
 use casa_live::{Gauges, Reading};
 use casa_server::{Connections, Guarded, SeatFault, ServeFault, TimerFault, Watcher};
 use casa_session::SessionFault;
+use casa_sockets::{Counted, LineEnd, Listener, Patience, ReplyEnd, ends_of};
 use std::alloc::{AllocError, Global};
 use std::io::Eprint;
 use std::sync::Arc;

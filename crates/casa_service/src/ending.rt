@@ -2,8 +2,8 @@
 
 use crate::door::Standing;
 use crate::log::Log;
-use crate::streams::Listener;
 use casa_keeper::{Keeper, Unkept};
+use casa_sockets::Listener;
 use std::io::Eprint;
 use std::sync::Arc;
 use std::time::Clock;

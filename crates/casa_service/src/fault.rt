@@ -4,6 +4,7 @@ ghost use Rattle.casa_service.specs.Faults.{IsOfJournal, IsOfOpening, service_fa
 use casa_keeper::FileFault;
 use casa_server::ServeFault;
 use casa_session::SessionFault;
+use casa_sockets::BindFault;
 use std::alloc::{AllocError, Global};
 use std::fmt::{Display, Formatter};
 use std::{fmt, io};
@@ -64,6 +65,16 @@ impl From<AllocError> for ServiceFault {
     }
 }
 
+impl From<BindFault> for ServiceFault {
+    ghost use Rattle.casa_service.specs.declared.fault.ServiceFault.TheVariants.{BindFailed};
+
+    ghost from_gives = { λ cause fault. fault ≡ BindFailed cause };
+
+    fn from(cause: BindFault) -> ServiceFault {
+        ServiceFault::BindFailed(cause)
+    }
+}
+
 impl From<ServeFault> for ServiceFault {
     ghost use Rattle.casa_service.specs.declared.fault.ServiceFault.TheVariants.{Serve};
 
@@ -71,25 +82,6 @@ impl From<ServeFault> for ServiceFault {
 
     fn from(cause: ServeFault) -> ServiceFault {
         ServiceFault::Serve(cause)
-    }
-}
-
-/// Why an address of a server can't be had.
-#[derive(Debug, Drop)]
-pub struct BindFault {
-    /// The port of 127.0.0.1; `None` where it is the socket.
-    pub port: Option<u16>,
-    /// What the system says.
-    pub error: io::Error,
-}
-
-/// The address, and what the system says.
-impl Display for BindFault {
-    fn fmt<W: fmt::Write>(&self, f: &mut Formatter<W>) -> fmt::Result {
-        match self.port {
-            Some(port) => write!(f, "127.0.0.1:{port}: {}", self.error),
-            None => write!(f, "the socket: {}", self.error),
-        }
     }
 }
 

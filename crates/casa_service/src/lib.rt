@@ -5,7 +5,6 @@
 mod addresses;
 mod browsers;
 mod checking;
-mod descriptors;
 mod door;
 mod ending;
 mod fault;
@@ -13,15 +12,12 @@ mod journal;
 mod log;
 mod running;
 mod serving;
-mod sockets;
 mod staying;
-mod streams;
 mod torn;
 mod whole_day;
 
 pub use checking::check_journal;
-pub use descriptors::stand_in;
-pub use fault::{BindFault, JournalFault, ServiceFault, Trouble};
+pub use fault::{JournalFault, ServiceFault, Trouble};
 pub use running::run_journaled;
 pub use serving::{Timing, serve_desks};
 pub use staying::stay_desks;

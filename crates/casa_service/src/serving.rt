@@ -7,10 +7,9 @@ ghost use Rattle.casa_engine.specs.Ledgers.{IsBlankOf};
 
 use crate::door::{Entrance, OpenDoor, Standing};
 use crate::ending::EndingKeeper;
-use crate::fault::{BindFault, ServiceFault, Trouble};
+use crate::fault::{ServiceFault, Trouble};
 use crate::journal::open_journal;
 use crate::log::Log;
-use crate::streams::{Listener, Patience};
 use casa_cli::Journal;
 use casa_day::Script;
 use casa_engine::{Blank, Engine, EngineName, blank};
@@ -19,6 +18,7 @@ use casa_keeper::{JournalKeeper, Keeper, LastError, NoKeeper, SharedJournal, Syn
 use casa_plan::Recalling;
 use casa_server::{DayClock, ServeFault, Served, moment_at, serve, serve_with_timer};
 use casa_shelf::{Seals, Shelf, Shelving};
+use casa_sockets::{Listener, Patience};
 use casa_tape::Tape;
 use casa_time::Moment;
 use casa_view::Store;
@@ -28,7 +28,7 @@ use std::alloc::Global;
 use std::fs::{File, Files};
 use std::io::Eprint;
 use std::marker::Brand;
-use std::net::{Ipv4Addr, Net, TcpListener, TcpStream};
+use std::net::{Net, TcpListener, TcpStream};
 use std::sync::{Arc, Wait};
 use std::thread;
 use std::thread::Threads;
@@ -110,17 +110,11 @@ pub fn serve_desks<
 ) -> Result<Served, ServiceFault>
     ensures { IfOk result (λ served. served.sessions ≡ connections) }
 {
-    let listener = match TcpListener::bind(rt, (Ipv4Addr::LOCALHOST, port)) {
-        Ok(listener) => listener,
-        Err(error) => {
-            let port = Some(port);
-            return Err(ServiceFault::BindFailed(BindFault { port, error }));
-        }
-    };
+    let listener = Listener::on_port(rt, port)?;
     let Ok(shelf) = Arc::new(alloc, boxcar::Vec::new(alloc)?) else {
         return Err(ServiceFault::NoMemory);
     };
-    let Ok(listener) = Arc::new(alloc, Listener::Tcp(listener)) else {
+    let Ok(listener) = Arc::new(alloc, listener) else {
         return Err(ServiceFault::NoMemory);
     };
     let span = Span {

@@ -12,7 +12,6 @@ use crate::ending::EndingKeeper;
 use crate::fault::{ServiceFault, Trouble};
 use crate::journal::open_journal;
 use crate::log::Log;
-use crate::streams::Patience;
 use crate::whole_day::WholeDay;
 use casa_cli::{Journal, Service};
 use casa_day::Script;
@@ -22,6 +21,7 @@ use casa_keeper::{JournalKeeper, Keeper, LastError, NoKeeper, SharedJournal, Syn
 use casa_plan::Recalling;
 use casa_server::{Sat, SeatFault, ServeFault, Stayed, stay, stay_with_timer};
 use casa_shelf::{Seals, Shelf, Shelving};
+use casa_sockets::Patience;
 use casa_tape::Tape;
 use casa_view::Store;
 use std::alloc::{AllocError, Global};

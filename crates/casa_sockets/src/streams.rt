@@ -1,6 +1,11 @@
 //! Connections over TCP and over sockets of the file system.
 
+ghost use Rattle.std.specs.Prelude.{◌≡◌, ◌+◌, ◌-◌, ◌^◌, min, take, None, Some, false, IsTrue, IfErr, IfOk, OnErr, OnOk};
 ghost use Rattle.std.specs.Io.{ReadsAtMost, WritesAtMost};
+ghost use Rattle.std.specs.Io.KnownBytes.{ReadConsumes};
+ghost use Rattle.std.specs.IoError.{error_kind};
+ghost use Rattle.casa_sockets.specs.LineFeeds.{line_feeds};
+ghost use Rattle.casa_sockets.specs.Waiting.{WaitsBySeconds, WaitsFor};
 
 use std::alloc::Global;
 use std::fmt::{Display, Formatter};
@@ -16,27 +21,35 @@ use std::{fmt, io};
 /// How long a read or a write waits at a time where the server may have to end, in seconds.
 const LOOK: u64 = 1;
 
-/// What connections come to.
-#[derive(Drop)]
-pub(crate) enum Listener {
+/// What connections come to: a port, or a socket of the file system.
+pub enum Listener {
     Tcp(TcpListener),
     Unix(UnixListener),
 }
 
-/// A connection.
+impl Drop for Listener {
+    fn drop(self) {
+        match self {
+            Listener::Tcp(_) | Listener::Unix(_) => {}
+        }
+    }
+}
+
+/// A connection, over TCP or over a socket of the file system.
 #[derive(Drop)]
-pub(crate) enum Stream {
+pub enum Stream {
     Tcp(TcpStream),
     Unix(UnixStream),
 }
 
-/// Who is at the other end of a connection.
+/// Who is at the other end of a connection: an address, or somebody at the socket.
 #[derive(Clone, Copy)]
-pub(crate) enum Peer {
+pub enum Peer {
     Tcp(SocketAddr),
     Unix,
 }
 
+/// The address, or `the socket`.
 impl Display for Peer {
     fn fmt<W: fmt::Write>(&self, f: &mut Formatter<W>) -> fmt::Result {
         match self {
@@ -47,8 +60,9 @@ impl Display for Peer {
 }
 
 impl Listener {
-    /// The next connection, and who it comes from. It waits for one.
-    pub(crate) fn accept(&self) -> io::Result<(Stream, Peer)> {
+    /// The next connection, for which it waits, and who it comes from. What the system says where it can't be accepted, as for
+    /// want of descriptors, or where the listener is shut.
+    pub fn accept(&self) -> io::Result<(Stream, Peer)> {
         match self {
             Listener::Tcp(listener) => {
                 let (stream, address) = listener.accept()?;
@@ -63,8 +77,9 @@ impl Listener {
         }
     }
 
-    /// Lets nobody connect any more, and wakes who waits for that.
-    pub(crate) fn shut(&self) -> io::Result<()> {
+    /// Lets nobody connect any more, and wakes who waits for that, here or by another owner of this listener. What the system
+    /// says where it can't, as for want of descriptors; then all stays as it was.
+    pub fn shut(&self) -> io::Result<()> {
         match self {
             Listener::Tcp(listener) => {
                 let same = OwnedFd::from(listener.try_clone()?);
@@ -79,7 +94,7 @@ impl Listener {
 }
 
 impl Stream {
-    /// Lets no read and no write wait longer than this, if it is to be bounded.
+    /// Lets no read and no write wait longer than this, if it is to be bounded. `InvalidInput` where it is no time at all.
     fn set_timeouts(&self, patience: Patience) -> io::Result<()> {
         let (read, write) = (patience.reading.at_a_time, patience.writing.at_a_time);
         match self {
@@ -104,7 +119,9 @@ struct Waits {
 
 impl Waits {
     /// So many seconds, if they are bounded.
-    fn for_seconds(idle: Option<u32>) -> Waits {
+    fn for_seconds(idle: Option<u32>) -> Waits
+        ensures { WaitsFor idle result }
+    {
         let at_a_time = match idle {
             Some(seconds) => Some(Duration::from_secs(u64::from(seconds))),
             None => None,
@@ -116,7 +133,10 @@ impl Waits {
     }
 
     /// So many seconds, if they are bounded, a second at a time.
-    fn looking(idle: Option<u32>) -> Waits {
+    fn looking(idle: Option<u32>) -> Waits
+        ensures all { WaitsFor idle result }
+        ensures at_a_time { WaitsBySeconds result }
+    {
         Waits {
             at_a_time: Some(Duration::from_secs(LOOK)),
             times: match idle {
@@ -129,14 +149,20 @@ impl Waits {
 
 /// How long a connection waits for its peer: for what that sends, and until it takes what is sent.
 #[derive(Clone, Copy)]
-pub(crate) struct Patience {
+pub struct Patience {
     reading: Waits,
     writing: Waits,
 }
 
 impl Patience {
-    /// So many seconds at each end, if they are bounded; a second at a time where the server may have to end meanwhile.
-    pub(crate) fn new(idle: Option<u32>, may_end: bool) -> Patience {
+    /// So many seconds at each end, 1 or more, if they are bounded; a second at a time where the server may have to end
+    /// meanwhile.
+    pub fn new(idle: Option<u32>, may_end: bool) -> Patience
+        ensures reading { WaitsFor idle result.reading }
+        ensures writing { WaitsFor idle result.writing }
+        ensures at_a_time { IsTrue may_end
+            → WaitsBySeconds result.reading × WaitsBySeconds result.writing }
+    {
         let waits = if may_end {
             Waits::looking(idle)
         } else {
@@ -148,8 +174,13 @@ impl Patience {
         }
     }
 
-    /// So many seconds to read and so many to write, a second at a time, since the server may have to end meanwhile.
-    pub(crate) fn looking(reading: u32, writing: u32) -> Patience {
+    /// So many seconds to read and so many to write, 1 or more each, a second at a time, since the server may have to end
+    /// meanwhile.
+    pub fn looking(reading: u32, writing: u32) -> Patience
+        ensures reading { WaitsFor (Some reading) result.reading }
+        ensures writing { WaitsFor (Some writing) result.writing }
+        ensures at_a_time { WaitsBySeconds result.reading × WaitsBySeconds result.writing }
+    {
         Patience {
             reading: Waits::looking(Some(reading)),
             writing: Waits::looking(Some(writing)),
@@ -157,14 +188,14 @@ impl Patience {
     }
 }
 
-/// One of those that are counted, until it is dropped.
-pub(crate) struct Counted<'a> {
+/// One of those that are counted, until it is dropped: then there is one less.
+pub struct Counted<'a> {
     count: &'a AtomicU64,
 }
 
 impl<'a> Counted<'a> {
     /// One more of those that are counted here.
-    pub(crate) fn new(count: &'a AtomicU64) -> Counted<'a> {
+    pub fn new(count: &'a AtomicU64) -> Counted<'a> {
         count.fetch_add(1, Ordering::SeqCst);
         Counted { count }
     }
@@ -177,7 +208,7 @@ impl<'a> Drop for Counted<'a> {
     }
 }
 
-/// A connection, as both of its ends share it.
+/// A connection, as one of its two ends has it, which share it.
 #[derive(Drop)]
 struct Wire<'a> {
     stream: Arc<Stream>,
@@ -247,31 +278,67 @@ impl<'a> Wire<'a> {
 }
 
 /// The end of a connection at which lines are read.
-#[derive(Drop)]
-pub(crate) struct LineEnd<'a> {
+///
+/// A read gives what has come, for which it waits as long as the connection's patience says. Then it fails by `WouldBlock`, and
+/// so it does where it waits a second at a time and the server ends. Else it fails by what the system says.
+pub struct LineEnd<'a> {
     wire: Wire<'a>,
     /// By which seat they are answered.
-    pub(crate) seat: u32,
+    pub seat: u32,
     /// Who sends them.
-    pub(crate) peer: Peer,
-    /// How many line feeds have come.
-    pub(crate) lines: u64,
-    /// Whether a read has waited too long.
-    pub(crate) is_idle: bool,
+    pub peer: Peer,
+    /// How many line feeds have come, at most 2^64 - 1.
+    pub lines: u64,
+    /// Whether the last read that failed had waited too long, and the server was not to end.
+    pub is_idle: bool,
     /// That the connection is open.
     counted: Counted<'a>,
     /// That it has a desk, where it has one.
-    pub(crate) desk: Option<Counted<'a>>,
+    pub desk: Option<Counted<'a>>,
+}
+
+impl<'a> Drop for LineEnd<'a> {
+    fn drop(self) {
+        let LineEnd {
+            wire: _,
+            seat: _,
+            peer: _,
+            lines: _,
+            is_idle: _,
+            counted: _,
+            desk: _,
+        } = self;
+    }
 }
 
 /// The end of a connection at which replies are written.
-#[derive(Drop)]
-pub(crate) struct ReplyEnd<'a> {
+///
+/// A write tells how many bytes were taken, for which it waits as long as the connection's patience says. Then it fails by
+/// `WouldBlock`, and so it does where it waits a second at a time and the server ends. Else it fails by what the system says. A
+/// flush does nothing, and is never at fault.
+pub struct ReplyEnd<'a> {
     wire: Wire<'a>,
 }
 
+impl<'a> Drop for ReplyEnd<'a> {
+    fn drop(self) {
+        let ReplyEnd { wire: _ } = self;
+    }
+}
+
 impl<'a> Read for LineEnd<'a> {
-    fn read(&mut self, buf: &mut [u8]) -> io::Result<usize> {
+    fn read(&mut self, buf: &mut [u8]) -> io::Result<usize>
+        ensures bound { ReadsAtMost result buf.new }
+        ensures bytes { ReadConsumes None None result buf.new }
+        ensures lines { IfOk result (λ n. self.new.lines
+            ≡ min (self.old.lines + line_feeds (take n buf.new)) (2 ^ 64 - 1)) }
+        ensures err { OnErr result (self.new.lines ≡ self.old.lines) }
+        ensures heard { OnOk result (self.new.is_idle ≡ self.old.is_idle) }
+        ensures idle { IfErr result (λ error. IsTrue self.new.is_idle
+            → error_kind error ≡ ErrorKind.WouldBlock) }
+        ensures seat { self.new.seat ≡ self.old.seat }
+        ensures peer { self.new.peer ≡ self.old.peer }
+    {
         let read = self.wire.read(buf);
         match &read {
             Ok(n) => self.lines = self.lines.saturating_add(line_feeds(&buf[..*n])),
@@ -293,8 +360,13 @@ impl<'a> Write for ReplyEnd<'a> {
     }
 }
 
-/// The two ends of a connection, which is closed when both are dropped. `OutOfMemory` where there is no memory for them.
-pub(crate) fn ends_of<'a>(
+/// The two ends of a connection, which is closed when both are dropped. They wait as this patience says; where that is a second
+/// at a time, no more once `is_ending` is set. The reader tells this seat and this peer; it has no desk yet, and keeps `counted`
+/// until it is dropped.
+///
+/// `InvalidInput` where the patience is of no time at all, or what else the system says where it does not let reads or writes be
+/// bounded; `OutOfMemory` where there is no memory for the ends. The connection is closed then.
+pub fn ends_of<'a>(
     alloc: Global,
     stream: Stream,
     seat: u32,
@@ -302,7 +374,15 @@ pub(crate) fn ends_of<'a>(
     patience: Patience,
     is_ending: &'a AtomicBool,
     counted: Counted<'a>,
-) -> io::Result<(LineEnd<'a>, ReplyEnd<'a>)> {
+) -> io::Result<(LineEnd<'a>, ReplyEnd<'a>)>
+    ensures seat { IfOk result (λ ends. ends.0.seat ≡ seat) }
+    ensures peer { IfOk result (λ ends. ends.0.peer ≡ peer) }
+    ensures lines { IfOk result (λ ends. ends.0.lines ≡ 0) }
+    ensures idle { IfOk result (λ ends. ends.0.is_idle ≡ false) }
+    ensures desk { IfOk result (λ ends. ends.0.desk ≡ None) }
+    ensures reading { IfOk result (λ ends. ends.0.wire.waits ≡ patience.reading) }
+    ensures writing { IfOk result (λ ends. ends.1.wire.waits ≡ patience.writing) }
+{
     stream.set_timeouts(patience)?;
     let stream = Arc::new(alloc, stream)?;
     let same = stream.clone()?;
@@ -342,12 +422,8 @@ fn write_to<W: Write + Drop>(mut stream: W, buf: &[u8]) -> io::Result<usize>
 }
 
 /// How many line feeds there are.
-fn line_feeds(bytes: &[u8]) -> u64 {
-    let mut count: u64 = 0;
-    for byte in bytes {
-        if *byte == b'\n' {
-            count = count.saturating_add(1);
-        }
-    }
-    count
+fn line_feeds(bytes: &[u8]) -> u64
+    ensures { result ≡ line_feeds bytes.now }
+{
+    bytes.iter().filter(|byte| **byte == b'\n').count() as u64
 }

@@ -1,6 +1,5 @@
 //! Sockets of the file system, to which those may connect whom its rights let.
 
-use casa_cli::Socket;
 use std::alloc::Global;
 use std::fs::{Files, Permissions};
 use std::io::ErrorKind;
@@ -18,25 +17,27 @@ const OWNER: u32 = 0o600;
 /// Who may connect: the owner and the group.
 const GROUP: u32 = 0o660;
 
-/// Listens at this path. A socket that nobody answers at is replaced.
+/// Listens at a socket that is made at this path: its owner may connect, and with `group` its group too. A socket that nobody
+/// answers at is replaced.
 ///
-/// `AddrInUse` where somebody answers there, `AlreadyExists` where something else than a socket is there, and the system's
-/// faults. The socket is made in a folder of its own beside it, which others can't enter, and moved to its path when its
-/// rights are set: so nobody can connect whom they do not let.
+/// `AddrInUse` where somebody answers there, `AlreadyExists` where something else than a socket is there, `OutOfMemory` where
+/// there is no memory for the names, and the system's faults. The socket is made in a folder of its own beside it, which others
+/// can't enter, and moved to its path when its rights are set: so nobody can connect whom they do not let.
 pub(crate) fn listen<R: Files + Net>(
     rt: &R,
     alloc: Global,
-    socket: &Socket,
+    path: &str,
+    group: bool,
 ) -> io::Result<UnixListener> {
-    find_free(rt, socket.path)?;
-    let folder = format!(in alloc; "{}.new", socket.path)?;
-    let made = format!(in alloc; "{}.new/s", socket.path)?;
+    find_free(rt, path)?;
+    let folder = format!(in alloc; "{path}.new")?;
+    let made = format!(in alloc; "{path}.new/s")?;
     make_folder(rt, folder.as_str())?;
     remove_if_there(rt, made.as_str())?;
     let listener = UnixListener::bind(rt, made.as_str())?;
-    let mode = if socket.group { GROUP } else { OWNER };
+    let mode = if group { GROUP } else { OWNER };
     fs::set_permissions(rt, made.as_str(), Permissions::from_mode(mode))?;
-    fs::rename(rt, made.as_str(), socket.path)?;
+    fs::rename(rt, made.as_str(), path)?;
     fs::remove_dir(rt, folder.as_str())?;
     Ok(listener)
 }
