@@ -1,6 +1,6 @@
 //! From the bytes of a line to a call.
 
-ghost use Rattle.std.specs.Prelude.{◌≡◌};
+ghost use Rattle.std.specs.Prelude.{◌≡◌, length};
 ghost use Rattle.serde_json.specs.View.{view};
 ghost use Rattle.casa_wire.specs.declared.fault.WireFault.TheVariants.{NotJson};
 ghost use Rattle.casa_wire.specs.Commands.{Gives, GivesAs, command_named, command_of, line_call, line_value, or_fault, file_call, amend_call, cancel_call, revise_call, exempt_call, show_call, open_call, close_call, rates_call, list_call, plan_member, plan_wire_fault, profile_member, profile_wire_fault, swap_call, tick_call};
@@ -83,30 +83,60 @@ fn command_of(value: &Value) -> Option<Command>
 fn command_named(text: &str) -> Option<Command>
     ensures { result ≡ command_named text.now }
 {
+    match text.len() {
+        4 => command_of_four(text),
+        5 => command_of_five(text),
+        6 => command_of_six(text),
+        _ => None,
+    }
+}
+
+/// The command with this name of four letters, those first that come most often.
+fn command_of_four(text: &str) -> Option<Command>
+    ensures { length text.now ≡ 4 → result ≡ command_named text.now }
+{
     if text == "file" {
         Some(Command::File)
-    } else if text == "amend" {
-        Some(Command::Amend)
-    } else if text == "cancel" {
-        Some(Command::Cancel)
-    } else if text == "revise" {
-        Some(Command::Revise)
-    } else if text == "exempt" {
-        Some(Command::Exempt)
+    } else if text == "tick" {
+        Some(Command::Tick)
     } else if text == "show" {
         Some(Command::Show)
+    } else if text == "list" {
+        Some(Command::List)
     } else if text == "open" {
         Some(Command::Open)
+    } else if text == "swap" {
+        Some(Command::Swap)
+    } else {
+        None
+    }
+}
+
+/// The command with this name of five letters.
+fn command_of_five(text: &str) -> Option<Command>
+    ensures { length text.now ≡ 5 → result ≡ command_named text.now }
+{
+    if text == "amend" {
+        Some(Command::Amend)
     } else if text == "close" {
         Some(Command::Close)
     } else if text == "rates" {
         Some(Command::Rates)
-    } else if text == "list" {
-        Some(Command::List)
-    } else if text == "tick" {
-        Some(Command::Tick)
-    } else if text == "swap" {
-        Some(Command::Swap)
+    } else {
+        None
+    }
+}
+
+/// The command with this name of six letters.
+fn command_of_six(text: &str) -> Option<Command>
+    ensures { length text.now ≡ 6 → result ≡ command_named text.now }
+{
+    if text == "revise" {
+        Some(Command::Revise)
+    } else if text == "cancel" {
+        Some(Command::Cancel)
+    } else if text == "exempt" {
+        Some(Command::Exempt)
     } else {
         None
     }
