@@ -1,5 +1,5 @@
 ghost use Rattle.std.specs.Prelude.{◌≡◌, ◌⊎◌, ◌+◌, ◌≤◌, IfOk, MatchOption};
-ghost use Rattle.std.specs.List.{list_any};
+ghost use Rattle.std.specs.List.{AllPairs, list_any};
 ghost use Rattle.casa_time.specs.Moment.{last_moment};
 ghost use Rattle.casa_filing.specs.declared.plan.Crossing.{Crossing};
 ghost use Rattle.casa_filing.specs.Text.{same_text};
@@ -43,6 +43,19 @@ impl Sts {
 pub struct Crossing {
     pub loc: Loc,
     pub eto: Moment,
+}
+
+impl Crossing {
+    /// The time over, if a regulation at this location covers it: from the regulation's start on and before its end.
+    pub fn covered_by(&self, regulation: &Regulation) -> Option<Moment>
+        ensures { result ≡ covered regulation.now self.now }
+    {
+        if regulation.start <= self.eto && self.eto < regulation.end {
+            Some(self.eto)
+        } else {
+            None
+        }
+    }
 }
 
 /// A flight plan: its key, off-block time, taxi time in seconds, crossings and status.
@@ -239,9 +252,10 @@ impl Plan {
         eobt + self.parts.taxi
     }
 
-    /// The crossings.
+    /// The crossings, no two at one location.
     pub fn via(&self) -> &[Crossing]
-        ensures { result.now ≡ self.now.via }
+        ensures crossings { result.now ≡ self.now.via }
+        ensures apart { AllPairs (λ a b. a.loc ≡ b.loc → ⊥) self.now.via }
     {
         self.parts.via.as_slice()
     }
@@ -285,20 +299,9 @@ impl Plan {
     {
         for crossing in self.via() {
             if crossing.loc == regulation.loc {
-                return covered(regulation, crossing);
+                return crossing.covered_by(regulation);
             }
         }
-        None
-    }
-}
-
-/// The time over of a crossing that the regulation covers: from its start on and before its end.
-fn covered(regulation: &Regulation, crossing: &Crossing) -> Option<Moment>
-    ensures { result ≡ covered regulation.now crossing.now }
-{
-    if regulation.start <= crossing.eto && crossing.eto < regulation.end {
-        Some(crossing.eto)
-    } else {
         None
     }
 }

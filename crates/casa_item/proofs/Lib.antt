@@ -1,5 +1,6 @@
 pub mod Equal
 pub mod Gathered
-pub mod InTurn
+pub mod Row
+pub mod Sorted
 pub mod Crossed
 pub mod Listed

@@ -1,17 +1,16 @@
 -- listed regulations with one more, without one, and a search among them
-use Rattle.std.proofs.Common.{◌≡◌, ℕ, zero, suc, arith, get_or, ◌⊎◌, inl, inr, ◌+◌, ◌≤◌, ◌<◌, List, [], ◌∷◌, ◌++◌}
+use Rattle.std.proofs.Common.{◌≡◌, ℕ, zero, suc, arith, get_or, ◌⊎◌, inl, inr, ◌≤◌, ◌<◌, List, [], ◌∷◌, ◌++◌}
 use Rattle.std.proofs.Common.{length, Bool, true, false, not, ◌||◌, ◌&&◌, cond, refl, sym, ap, subst, ◌∙◌, Option, None}
 use Rattle.std.proofs.Common.{Some, is_some}
 use Rattle.std.specs.declared.cmp.Ordering.{Ordering}
 use Rattle.std.specs.declared.cmp.Ordering.TheVariants.{Less, Equal, Greater}
-use Rattle.std.specs.Ordering.{is_eq, is_lt, match_ordering, ordering_index, ordering_reverse}
+use Rattle.std.specs.Ordering.{is_eq, is_lt, match_ordering, ordering_index}
 use Rattle.std.specs.Option.{option_map}
 use Rattle.std.specs.List.{AllByRecursion, cons_option}
-use Rattle.std.specs.List.Sorted.{IsNonDecreasingBy, IsPartitionPoint, IsSortedBy, IsStrictlySortedBy}
+use Rattle.std.specs.List.Sorted.{IsNonDecreasingBy, IsPartitionPoint, IsStrictlySortedBy}
 use Rattle.std.specs.Map.{keys_of}
-use Rattle.std.proofs.lemmas.Cmp.{nat_list_cmp_total}
 use Rattle.std.proofs.lemmas.Bool.{cases_lt}
-use Rattle.std.proofs.lemmas.List.Sorted.{searchable_from_sorted}
+use Rattle.std.proofs.lemmas.Simd.{map-map}
 use Rattle.casa_filing.specs.declared.regulation.Regulation.{Regulation}
 use Rattle.casa_filing.specs.FlightPlan.{FlightPlan}
 use Rattle.casa_filing.specs.Subject.{subject}
@@ -22,10 +21,8 @@ use Rattle.casa_footprint.specs.Finding.{crossed}
 use Rattle.casa_footprint.specs.Finding.{by_id}
 use Rattle.casa_item.specs.Crossed.{before, after, others, meets, AreListed}
 use Rattle.casa_item.proofs.Crossed.{all_open}
+use Rattle.casa_item.proofs.Sorted.{flipped, searchable}
 use Rattle.casa_named.proofs.Found.{same_test}
-
-flipped : (k q : Text) (o : Ordering) → text_cmp k q ≡ o → text_cmp q k ≡ ordering_reverse o
-flipped k q o h = nat_list_cmp_total.antisymm q k ∙ ap ordering_reverse h
 
 -- where each comes after the name
 none_before : (k : Text) (rs : List Regulation) → Above k (by_id rs) → before k rs ≡ []
@@ -124,19 +121,12 @@ crossed_meets plan (r ∷ rs) id = by (crossed_meets plan rs id) (subject plan r
         ∙ or_some later eto (same_text r.id id)
 
 -- a binary search among listed regulations
-in_sequence : (rs : List Regulation) → AreListed rs → IsSortedBy (λ (a b : Regulation). is_lt (text_cmp a.id b.id)) rs
-unfolding IsStrictlySortedBy
-in_sequence [] h k d low high = absurd (omega (arith, high))
-in_sequence (r ∷ []) h k d low high = absurd (omega (arith, high))
-in_sequence (r ∷ s ∷ rs) h zero d low high = ap is_lt (flipped r.id s.id Less h.0.0)
-in_sequence (r ∷ s ∷ rs) h (suc k) d low high =
-    let next : suc k + 1 ≡ suc (k + 1) = omega arith in
-    subst (λ n. is_lt (text_cmp (get_or (r ∷ s ∷ rs) n d).id (get_or (s ∷ rs) k d).id) ≡ false) (sym next)
-    (in_sequence (s ∷ rs) h.1 k d (omega arith) (omega (arith, high)))
-
-pub searchable : (id : Text) (rs : List Regulation) → AreListed rs
+pub searchable_by_id : (id : Text) (rs : List Regulation) → AreListed rs
     → IsNonDecreasingBy (λ (r : Regulation). ordering_index (text_cmp r.id id)) rs
-searchable id rs h = searchable_from_sorted nat_list_cmp_total (λ (r : Regulation). r.id) rs id (in_sequence rs h)
+searchable_by_id id rs h =
+    searchable (λ (r : Regulation). r.id) id rs
+    (subst (IsStrictlySortedBy text_cmp)
+    (map-map (λ (e : Text × Regulation). e.0) (λ (r : Regulation). (r.id, r)) rs) h)
 
 open_at : (P : Regulation → Type 0) (rs : List Regulation) → AllByRecursion P rs → (k : ℕ) (d : Regulation)
     → k < length rs → P (get_or rs k d)

@@ -1,14 +1,14 @@
 -- inner contracts: the regulations of a catalogue, and those that a plan crosses
-use Rattle.std.specs.Prelude.{◌≡◌, List, [], ◌∷◌, Bool, not, ◌&&◌, is_some, ◌++◌, if◌then◌else◌}
-use Rattle.std.specs.Option.{option_map_or}
-use Rattle.std.specs.List.{filter, flat_map, list_any}
+use Rattle.std.specs.Prelude.{◌≡◌, ℕ, List, [], ◌∷◌, Bool, not, ◌&&◌, is_some, ◌++◌, if◌then◌else◌}
+use Rattle.std.specs.Option.{option_map, option_map_or}
+use Rattle.std.specs.List.{filter, filter_map, flat_map, list_any}
 use Rattle.casa_filing.specs.declared.plan.Crossing.{Crossing}
 use Rattle.casa_filing.specs.declared.regulation.Regulation.{Regulation}
 use Rattle.std.specs.Cmp.Lexicographic.{slice_cmp}
 use Rattle.std.specs.Ordering.{nat_cmp, is_lt}
 use Rattle.casa_filing.specs.Text.{Text, same_text, at_name}
 use Rattle.casa_filing.specs.FlightPlan.{FlightPlan}
-use Rattle.casa_filing.specs.Subject.{subject}
+use Rattle.casa_filing.specs.Subject.{covered, subject}
 use Rattle.casa_flight.specs.Good.{AreInOrder}
 use Rattle.casa_footprint.specs.Finding.{by_id}
 
@@ -38,9 +38,13 @@ is_over loc r = same_text r.loc loc
 abbrev pub at_place : {V : Type 0} → (V → List Regulation) → List (Text × V) → Text → List Regulation
 at_place items places loc = option_map_or items (at_name places loc) []
 
--- those at the locations of these crossings, one location after another
-abbrev pub along : (Text → List Regulation) → List Crossing → List Regulation
-along place via = flat_map (λ (c : Crossing). place c.loc) via
+-- those of these regulations at its location that cover a crossing, with its time over
+abbrev pub covering : List Regulation → Crossing → List (Text × ℕ)
+covering rs c = filter_map (λ (r : Regulation). option_map (λ (eto : ℕ). (r.id, eto)) (covered r c)) rs
+
+-- those that cover these crossings, one crossing after another
+abbrev pub covering_along : (Text → List Regulation) → List Crossing → List (Text × ℕ)
+covering_along place via = flat_map (λ (c : Crossing). covering (place c.loc) c) via
 
 -- the places with one more regulation, behind those at its location
 abbrev pub place_with : (Text → List Regulation) → Regulation → Text → List Regulation

@@ -1,3 +1,4 @@
+pub mod Row
 pub mod Gathered
 pub mod Crossed
 pub mod Copies

@@ -1,23 +1,19 @@
 //! The open regulations, with an index by location.
 
 ghost use Rattle.std.specs.Prelude.{◌≡◌, ◌++◌, ◌∷◌, [], IfOk, OnOk};
+ghost use Rattle.std.specs.List.{AllPairs};
 ghost use Rattle.std.specs.Option.{option_copied, option_map_or};
 ghost use Rattle.casa_filing.specs.Text.{Text, at_name, put, without};
-ghost use Rattle.casa_item.specs.Gathered.{put_if_some, HasNoted};
 ghost use Rattle.casa_footprint.specs.Finding.{crossed};
 ghost use Rattle.casa_footprint.specs.Finding.{by_id};
 ghost use Rattle.casa_item.specs.Crossed.{before, after, others, AreListed, HasPlaces};
-ghost use Rattle.casa_item.specs.Crossed.{at_place, along, place_with};
+ghost use Rattle.casa_item.specs.Crossed.{at_place, place_with, covering, covering_along};
 
-use casa_flight::{Loc, OfRegulation, Plan, RegId, Regulation};
-use casa_named::Few;
-use casa_time::Moment;
+use crate::crossings::{Crossings, Entries};
+use casa_flight::{Crossing, Loc, Plan, RegId, Regulation};
 use std::alloc::{AllocError, Global};
 use std::collections::BTreeMap;
 use std::marker::Model;
-
-/// The regulations to which a flight is subject, by identifiers, with its times over.
-pub type Crossings = Few<OfRegulation, Moment>;
 
 /// The open regulations in the order of their identifiers, with an index by location.
 ///
@@ -117,7 +113,9 @@ impl Catalogue {
     pub fn crossed(&self, alloc: Global, plan: &Plan) -> Result<Crossings, AllocError>
         ensures { IfOk result (λ found. found ≡ crossed plan.now self.now) }
     {
-        noted_along(alloc, &self.places, plan)
+        let mut found = covering_along(alloc, &self.places, plan)?;
+        found.sort();
+        Ok(Crossings::of(found))
     }
 }
 
@@ -239,60 +237,50 @@ fn with_one(
     Ok(there)
 }
 
-/// The regulations to which a flight with this plan is subject, by its crossings.
-fn noted_along(
+/// The regulations to which a flight with this plan is subject, as its crossings come to them.
+fn covering_along(
     alloc: Global,
     places: &BTreeMap<Loc, Vec<Regulation>>,
     plan: &Plan,
-) -> Result<Crossings, AllocError>
-    ensures { IfOk result (λ found.
-        HasNoted (crossed plan.now
-        (along (at_place (λ v. v.items) places.now.entries) plan.now.via)) [] found) }
+) -> Result<Entries, AllocError>
+    ensures covering { IfOk result (λ found. found
+        ≡ covering_along (at_place (λ v. v.items) places.now.entries) plan.now.via) }
+    ensures apart { AllPairs (λ a b. a.loc ≡ b.loc → ⊥) plan.now.via }
 {
-    let mut found = Few::new(alloc);
+    let mut found = Entries::new(alloc);
     for crossing in plan.via() {
-        note_at(&mut found, places, plan, &crossing.loc)?;
+        add_at(&mut found, places, crossing)?;
     }
     Ok(found)
 }
 
-/// Notes the regulations at a location to which a flight with this plan is subject.
-fn note_at(
-    found: &mut Crossings,
+/// Adds the regulations at the location of a crossing that cover it.
+fn add_at(
+    found: &mut Entries,
     places: &BTreeMap<Loc, Vec<Regulation>>,
-    plan: &Plan,
-    loc: &Loc,
+    crossing: &Crossing,
 ) -> Result<(), AllocError>
-    ensures { OnOk result (HasNoted
-        (crossed plan.now (at_place (λ v. v.items) places.now.entries loc.now))
-        found.old found.new) }
+    ensures { OnOk result (found.new ≡ found.old ++
+        covering (at_place (λ v. v.items) places.now.entries crossing.now.loc) crossing.now) }
 {
-    match places.get(loc) {
-        Some(regulations) => note_each(found, plan, regulations.as_slice()),
+    match places.get(&crossing.loc) {
+        Some(regulations) => add_covering(found, regulations.as_slice(), crossing),
         None => Ok(()),
     }
 }
 
-/// Notes those of the regulations to which a flight with this plan is subject.
-fn note_each(
-    found: &mut Crossings,
-    plan: &Plan,
+/// Adds those of the regulations that cover a crossing, which is at their location.
+fn add_covering(
+    found: &mut Entries,
     regulations: &[Regulation],
+    crossing: &Crossing,
 ) -> Result<(), AllocError>
-    ensures { OnOk result (HasNoted (crossed plan.now regulations.now) found.old found.new) }
+    ensures { OnOk result (found.new ≡ found.old ++ covering regulations.now crossing.now) }
 {
     for regulation in regulations {
-        note(found, regulation.id, plan.time_over(regulation))?;
-    }
-    Ok(())
-}
-
-/// Notes an entry, if there is one.
-fn note(found: &mut Crossings, id: RegId, time: Option<Moment>) -> Result<(), AllocError>
-    ensures { OnOk result (found.new ≡ put_if_some found.old id time) }
-{
-    if let Some(time) = time {
-        found.put(id, time)?;
+        if let Some(eto) = crossing.covered_by(regulation) {
+            found.push(regulation.id, eto)?;
+        }
     }
     Ok(())
 }

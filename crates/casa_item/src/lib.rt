@@ -3,13 +3,15 @@
 
 mod catalogue;
 mod copies;
+mod crossings;
 mod item;
 mod seal;
 mod spare;
 mod version;
 
-pub use catalogue::{Catalogue, Crossings};
+pub use catalogue::Catalogue;
 pub use copies::{Copied, Copies};
+pub use crossings::Crossings;
 pub use item::{Item, row_in};
 pub use seal::{Seal, Seals};
 pub use spare::Spare;

@@ -13,8 +13,8 @@ use std::cmp::Ordering;
 use std::collections::BTreeMap;
 use std::marker::Model;
 
-/// Values under names, in the order of the names. One alone takes no memory, and mostly there is no other: so are the
-/// regulations that a flight crosses, what a call on it reads, and what it writes.
+/// Values under names, in the order of the names. One alone takes no memory, and mostly there is no other: so is what a
+/// call on a flight reads, and what it writes.
 ///
 /// Contracts see the entries.
 pub struct Few<Kind, X> {
@@ -56,7 +56,8 @@ impl<Kind, X> Few<Kind, X> {
 
     /// The value under a name.
     pub fn get(&self, name: &Name<Kind>) -> Option<&X>
-        ensures { option_copied result ≡ at_name self.now name.now }
+        ensures value { option_copied result ≡ at_name self.now name.now }
+        ensures ordered { AreInOrder self.now }
     {
         match &self.first {
             None => None,

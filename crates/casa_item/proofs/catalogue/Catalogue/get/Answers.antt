@@ -9,7 +9,7 @@ use Rattle.casa_filing.specs.Text.{at_name}
 use Rattle.casa_filing.proofs.Entries.{text_cmp}
 use Rattle.casa_footprint.specs.Finding.{by_id}
 use Rattle.casa_item.specs.Crossed.{AreListed}
-use Rattle.casa_item.proofs.Listed.{searchable, found_at, none_found}
+use Rattle.casa_item.proofs.Listed.{searchable_by_id, found_at, none_found}
 use Rattle.casa_item.proofs.catalogue.Catalogue.get.Goals as goal
 
 pub returns-in-Ok-clause-regulation : goal.returns-in-Ok-clause-regulation
@@ -36,4 +36,4 @@ returns-in-Err-clause-regulation c =
     (λ (r : Regulation). cmp r ≡ Greater) rs c.in-Err.field-0) is at in
     let listed = subst AreListed c.self.view_is c.self.invariant.listed in
     sym (none_found c.args.id.now c.args.self.now c.in-Err.field-0
-    (there (searchable c.args.id.now c.args.self.now listed)))
+    (there (searchable_by_id c.args.id.now c.args.self.now listed)))

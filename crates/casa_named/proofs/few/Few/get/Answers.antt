@@ -4,14 +4,14 @@ use Rattle.casa_named.specs.Named.{ahead}
 use Rattle.casa_named.proofs.Ahead.{found, not_first}
 use Rattle.casa_named.proofs.few.Few.get.Goals as goal
 
-pub returns-then-eq : goal.returns-then-eq
-returns-then-eq g c =
+pub returns-then-eq-clause-value : goal.returns-then-eq-clause-value
+returns-then-eq-clause-value g c =
     let others = c.self.inside.others.entries in
     found c.in-Some.first c.in-Some.value others c.args.name.now (sym c.if-eq.ensures)
     ∙ ap (λ es. at_name es c.args.name.now) (sym (ap (λ f. ahead f others) c.in-Some.is) ∙ c.self.view_is)
 
-pub returns-else-eq : goal.returns-else-eq
-returns-else-eq g c =
+pub returns-else-eq-clause-value : goal.returns-else-eq-clause-value
+returns-else-eq-clause-value g c =
     let others = c.self.inside.others.entries in
     c.get.ensures.value ∙ not_first c.in-Some.first c.in-Some.value others c.args.name.now (sym c.if-eq.ensures)
     ∙ ap (λ es. at_name es c.args.name.now) (sym (ap (λ f. ahead f others) c.in-Some.is) ∙ c.self.view_is)
