@@ -5,7 +5,6 @@ pub mod Steps
 pub mod Summed
 pub mod Told
 pub mod Flights
-pub mod Leaving
 pub mod Listed
 pub mod Ordered
 pub mod Waiting

@@ -87,7 +87,7 @@ fn offers<S: Shown>(
 {
     let mut all = Vec::new(alloc);
     for regulation in shown.catalogue() {
-        if let Some(offer) = offer_of(shown, regulation, key, plan)? {
+        if let Some(offer) = offer_of(shown, regulation, key, plan) {
             all.push(offer)?;
         }
     }
@@ -95,17 +95,9 @@ fn offers<S: Shown>(
 }
 
 /// What a regulation would offer a flight; `None` where that is not subject to it.
-fn offer_of<S: Shown>(
-    shown: &S,
-    regulation: &Regulation,
-    key: Key,
-    plan: &Plan,
-) -> Result<Option<Offer>, AllocError>
-    ensures { IfOk result (λ made. (m : State) → S.shows shown.now m →
-        made ≡ offer (situation m) key plan.now regulation.now) }
+fn offer_of<S: Shown>(shown: &S, regulation: &Regulation, key: Key, plan: &Plan) -> Option<Offer>
+    ensures { (m : State) → S.shows shown.now m →
+        result ≡ offer (situation m) key plan.now regulation.now }
 {
-    match shown.list(&regulation.id) {
-        Some(list) => offer(regulation, list, key, plan),
-        None => Ok(None),
-    }
+    offer(regulation, shown.list(&regulation.id)?, key, plan)
 }

@@ -4,10 +4,9 @@ ghost use Rattle.std.specs.Prelude.{◌≡◌, ◌≤◌, ◌<◌, ◌++◌, ◌
 ghost use Rattle.std.specs.List.{filter_map, range_with_len};
 ghost use Rattle.casa_time.specs.Moment.{last_moment};
 ghost use Rattle.casa_grid.specs.Slots.{slots};
-ghost use Rattle.casa_flight.specs.declared.row.Stance.{Stance};
 ghost use Rattle.casa_filing.specs.Subject.{subject};
-ghost use Rattle.casa_flight.specs.Listing.{cto_as, delay_in};
-ghost use Rattle.casa_flight.specs.Entry.{most_penalising, offer_in, with_competitor};
+ghost use Rattle.casa_flight.specs.Listing.{delay_in};
+ghost use Rattle.casa_flight.specs.Entry.{most_penalising, offer_in};
 ghost use Rattle.casa_slots.specs.Walk.{low_after};
 ghost use Rattle.casa_inquiry.specs.Why.{AreHeld, held, held_by, held_in, holdings, holdings_at, is_tied, rule_by, rule_free, rule_governed, rule_of, slot_held, slot_with, slots_waited};
 
@@ -61,35 +60,14 @@ pub struct Holding {
 }
 
 /// What a regulation with this list would offer a flight if it entered now, in place of how it stands there; `None` where
-/// it is not subject to that. `AllocError` where there is no memory to work it out.
-pub fn offer(
-    regulation: &Regulation,
-    list: &SlotList,
-    key: Key,
-    plan: &Plan,
-) -> Result<Option<Offer>, AllocError>
-    ensures { IfOk result (λ offer. offer ≡
-        offer_in regulation.now.id key (Some list.now) (subject plan.now regulation.now)) }
+/// it is not subject to that.
+pub fn offer(regulation: &Regulation, list: &SlotList, key: Key, plan: &Plan) -> Option<Offer>
+    ensures { result ≡
+        offer_in regulation.now.id key (Some list.now) (subject plan.now regulation.now) }
 {
-    let Some(eto) = plan.time_over(regulation) else {
-        return Ok(None);
-    };
-    let cto = time_anew(list, &Comp { eto, key })?;
-    Ok(Some(Offer::of(regulation.id, eto, cto)))
-}
-
-/// The calculated time over that a flight would have as a competitor in place of how it stands, worked out on a copy of
-/// the list.
-fn time_anew(list: &SlotList, comp: &Comp) -> Result<Moment, AllocError>
-    ensures { IfOk result (λ time. time ≡
-        cto_as (with_competitor list.now comp.now.key comp.now.eto) comp.now.key
-        (Stance.Competing comp.now.eto)) }
-{
-    let mut rest = list.try_clone()?;
-    // What stands beside the grid: the flights are in the order of their keys.
-    let _grid = rest.grid();
-    let _place = rest.leave(&comp.key);
-    Ok(rest.would_pass(comp))
+    let eto = plan.time_over(regulation)?;
+    let cto = list.would_pass_anew(&Comp { eto, key });
+    Some(Offer::of(regulation.id, eto, cto))
 }
 
 /// By which rule a flight is governed, or not, at this clock and with these offers, those of all regulations to which it

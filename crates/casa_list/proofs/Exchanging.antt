@@ -19,10 +19,10 @@ use Rattle.casa_slots.specs.declared.standing.Standing.TheVariants.{Issued as Is
 use Rattle.casa_list.specs.declared.standing.Times.{Times}
 use Rattle.casa_slots.specs.Blocked.{issued_counts}
 use Rattle.casa_list.specs.Kept.{Kept, IsKept}
-use Rattle.casa_list.specs.Standings.{issued_flights, forced_flights, index_in, issued_times, can_exchange_at, can_exchange}
+use Rattle.casa_list.specs.Standings.{issued_flights, index_in, issued_times, can_exchange_at, can_exchange}
 use Rattle.casa_slots.proofs.Rightly.{count_by-cons}
 use Rattle.casa_list.proofs.Listed.{count_by-put}
-use Rattle.casa_list.proofs.Changes.{with_flight, without_flight, competitors-put_other, issued-put, forced-put_other, length-places}
+use Rattle.casa_list.proofs.Changes.{with_flight, without_flight, competitors-put_other, issued-put, length-places}
 use Rattle.casa_list.proofs.Keeping.{Out, out}
 use Rattle.casa_list.proofs.Flights.{flight_set}
 
@@ -64,9 +64,6 @@ kept_reissued {l} {k} c old new h found =
       issued_are =
           flight_set c (IssuedAt old) (IssuedAt new) k.issued (issued_flights less) (h.issued_are ∙ ap issued_flights o.is ∙ issued-put less c old o.none)
           ∙ sym (ap issued_flights anew ∙ issued-put less c new o.none);
-      forced_are =
-          h.forced_are ∙ ap forced_flights o.is ∙ forced-put_other less c.key was refl o.none
-          ∙ sym (ap forced_flights anew ∙ forced-put_other less c.key now refl o.none);
       blocked_are = refl;
       room_is = omega (arith, many, size, room);
     }
@@ -128,7 +125,6 @@ kept_exchanged {l} {k} a b c d h here there =
       keys = both.keys;
       competitors_are = h.competitors_are ∙ sym stay;
       issued_are = both.issued_are;
-      forced_are = both.forced_are;
       blocked_are = h.blocked_are ∙ sym (counts_exchanged a b c d h here there);
       room_is = omega (arith, many, room);
     }

@@ -4,7 +4,7 @@ use Rattle.std.specs.List.{All}
 use Rattle.casa_flight.specs.declared.comp.Comp.{Comp}
 use Rattle.casa_flight.specs.declared.comp.Assigned.{Assigned}
 use Rattle.casa_slots.specs.declared.standing.Standing.{Standing}
-use Rattle.casa_slots.specs.declared.standing.Standing.TheVariants.{Pre, Forced}
+use Rattle.casa_slots.specs.declared.standing.Standing.TheVariants.{Pre}
 use Rattle.casa_slots.specs.Seat.{HoldsTime, issued_in}
 
 -- the flights that a regulation governs: its competitors in their places and its issued flights; and for how many there is
@@ -17,10 +17,6 @@ pub record Governing : Type 0 where
 -- how a competitor stands, in its place
 abbrev pub pre_in : Assigned → Comp × Standing
 pre_in a = (a.comp, Pre a.place)
-
--- how a forced flight stands
-abbrev pub forced_in : Comp → Comp × Standing
-forced_in c = (c, Forced)
 
 -- the seats of so many competitors, and behind them those of the issued flights
 abbrev pub governing : ℕ → List Assigned → ℕ → Governing

@@ -8,13 +8,12 @@ ghost use Rattle.casa_flight.specs.declared.row.Stance.{Stance};
 ghost use Rattle.casa_filing.specs.Text.{Text};
 ghost use Rattle.casa_flight.specs.Good.{AreInOrder};
 ghost use Rattle.casa_flight.specs.Listing.{sorted_by, is_before, competitor};
-ghost use Rattle.casa_list.specs.Governing.{forced_in};
 ghost use Rattle.casa_slots.specs.Seat.{HoldsTime, issued_in};
-ghost use Rattle.casa_list.specs.Standings.{is_flight_before, issued_flight, forced_flight};
+ghost use Rattle.casa_list.specs.Standings.{is_flight_before, issued_flight};
 ghost use Rattle.casa_slots.specs.Walk.{comps_in};
 
 use crate::stances::Stances;
-use casa_flight::{Comp, Stance, put_in_order, sort_comps};
+use casa_flight::{Comp, Stance, put_in_order};
 use casa_grid::Place;
 use casa_slots::Seat;
 use std::alloc::{AllocError, Global};
@@ -93,32 +92,5 @@ pub fn issued_of(alloc: Global, flights: &Stances) -> Result<Vec<Seat>, AllocErr
 {
     let mut all = issued_by_key(alloc, flights)?;
     sort_seats(&mut all)?;
-    Ok(all)
-}
-
-/// The forced ones among these flights, by key.
-fn forced_by_key(alloc: Global, flights: &Stances) -> Result<Vec<Comp>, AllocError>
-    ensures { IfOk result (λ all. map forced_in all.items ≡
-        filter_map (λ (e : Text × Stance). forced_flight e.0 e.1) flights.now) }
-{
-    let mut all = Vec::new(alloc);
-    for member in flights.as_slice() {
-        if let Stance::Forced { eto } = member.stance() {
-            all.push(Comp {
-                eto,
-                key: member.key(),
-            })?;
-        }
-    }
-    Ok(all)
-}
-
-/// The forced ones among these flights, in their order.
-pub fn forced_of(alloc: Global, flights: &Stances) -> Result<Vec<Comp>, AllocError>
-    ensures { IfOk result (λ all. map forced_in all.items ≡ sorted_by is_flight_before
-        (filter_map (λ (e : Text × Stance). forced_flight e.0 e.1) flights.now)) }
-{
-    let mut all = forced_by_key(alloc, flights)?;
-    sort_comps(&mut all);
     Ok(all)
 }

@@ -1,7 +1,8 @@
 //! The flights that a regulation governs, as a list keeps them.
 
-ghost use Rattle.std.specs.Prelude.{◌≡◌, ◌∷◌, ◌++◌, ◌+◌, ◌<◌, ◌≤◌, [], Some, IfOk, OnOk, drop, length, map, set, take};
-ghost use Rattle.std.specs.List.{All, filter_map, insert, remove, slice_get};
+ghost use Rattle.std.specs.Prelude.{◌≡◌, ◌∷◌, ◌++◌, ◌+◌, ◌<◌, ◌≤◌, [], Some, IfOk, OnOk, drop, length, map, not, set, take, unwrap_or};
+ghost use Rattle.std.specs.List.{All, filter_map, insert, position, remove, slice_get};
+ghost use Rattle.std.specs.Option.{option_map_or};
 ghost use Rattle.std.specs.List.Sorted.{IsSortedBy};
 ghost use Rattle.casa_grid.specs.Slots.{slots};
 ghost use Rattle.casa_flight.specs.declared.comp.Assigned.{Assigned};
@@ -13,7 +14,8 @@ ghost use Rattle.casa_slots.specs.declared.standing.Standing.{Standing};
 ghost use Rattle.casa_list.specs.Governing.{pre_in};
 ghost use Rattle.casa_slots.specs.Seat.{HoldsTime, issued_in};
 ghost use Rattle.casa_list.specs.Standings.{is_flight_before, issued_flight, index_in};
-ghost use Rattle.casa_slots.specs.Walk.{place_low, low_behind, walked, followed, comps_in, FollowFirst, PlacesRise, FollowFrom, walked_from_slot};
+ghost use Rattle.casa_slots.specs.Blocked.{lowered};
+ghost use Rattle.casa_slots.specs.Walk.{place_low, low_behind, walked, followed, comps_in, count_below, FollowFirst, PlacesRise, FollowFrom, walked_from_slot};
 
 use crate::build::{competitors_of, issued_of};
 use crate::order::index_of;
@@ -22,7 +24,8 @@ use crate::standing::Entry;
 use casa_flight::Comp;
 use casa_grid::Place;
 use casa_slots::{
-    Blocked, Seat, SharedGrid, Standing, copied, count_below, place_behind, walk_all, walk_on,
+    Blocked, Seat, SharedGrid, Standing, copied, count_below, place_behind, place_once_moved,
+    walk_all, walk_on,
 };
 use casa_time::Moment;
 use std::alloc::{AllocError, Global};
@@ -178,6 +181,52 @@ impl Governed {
             let from = count_below(self.competitors(), k);
             self.walk_on(grid, blocked, from);
         }
+    }
+
+    /// From which competitor on places can change once the number of issued flights in this slot does.
+    pub fn first_from_slot(&self, slot: Option<usize>) -> usize
+        requires { PlacesRise self.now.competitors }
+        ensures value { result ≡ option_map_or (count_below self.now.competitors) slot
+            (length self.now.competitors) }
+        ensures within { result ≤ length self.now.competitors }
+    {
+        match slot {
+            Some(k) => count_below(self.competitors(), k),
+            None => self.competitors,
+        }
+    }
+
+    /// The place that a flight would have among the competitors, once a flight has left this slot, if it had one, and those
+    /// from number `behind` on have moved up behind those before number `out`; at most one stood between.
+    pub fn place_once_moved(
+        &self,
+        grid: &SharedGrid,
+        blocked: &Blocked,
+        left: Option<usize>,
+        out: usize,
+        behind: usize,
+        comp: &Comp,
+    ) -> Place
+        requires out { (out ≤ behind) × (behind ≤ out + 1) }
+        requires within { behind ≤ length self.now.competitors }
+        requires sorted { IsSortedBy (λ (a b : Assigned). is_before a.comp b.comp)
+            self.now.competitors }
+        requires follow { FollowFirst (slots grid.now) (lowered blocked.now.counts left)
+            (drop behind self.now.competitors) }
+        ensures { let counts = lowered blocked.now.counts left in
+            let moved = followed (slots grid.now) counts (take out self.now.competitors)
+            (comps_in (drop behind self.now.competitors)) in
+            result ≡ place_low (slots grid.now) counts (low_behind (length counts) 0
+            (take (unwrap_or (position (λ (a : Assigned). not (is_before a.comp comp.now)) moved)
+            (length moved)) moved)) comp.now.eto }
+    {
+        let competitors = self.competitors();
+        let at = index_of(competitors, comp);
+        if at <= out {
+            return place_once_moved(grid, blocked, left, &competitors[..at], &[], comp.eto);
+        }
+        let others = &competitors[behind..at];
+        place_once_moved(grid, blocked, left, &competitors[..out], others, comp.eto)
     }
 
     /// Puts a competitor at number `at` among the others, which it may displace, and gives its place.

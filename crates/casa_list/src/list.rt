@@ -1,6 +1,6 @@
 //! The list.
 
-ghost use Rattle.std.specs.Prelude.{◌≡◌, [], Option, Some, None, IfOk, OnOk, OnErr, IfSome, is_some, true, false, length, if◌then◌else◌};
+ghost use Rattle.std.specs.Prelude.{◌≡◌, ℕ, [], Option, Some, None, IfOk, OnOk, OnErr, IfSome, is_some, true, false, length, if◌then◌else◌};
 ghost use Rattle.std.specs.List.{slice_get};
 ghost use Rattle.casa_grid.specs.Slots.{slots, window_of};
 ghost use Rattle.casa_flight.specs.declared.row.Stance.{Stance};
@@ -11,19 +11,19 @@ ghost use Rattle.casa_flight.specs.Entry.{with_competitor};
 ghost use Rattle.casa_flight.specs.Good.{AreInOrder};
 ghost use Rattle.casa_slots.specs.Walk.{IsWithin};
 ghost use Rattle.casa_flight.specs.IssuedTimes.{with_issued};
-ghost use Rattle.casa_list.specs.Standings.{standings, count_governed, governed_place, governed_cto, issue_cto, is_forced, competing_eto, forced_eto, issued_times, can_exchange, with_exchange};
+ghost use Rattle.casa_list.specs.ByKey.{by_key};
+ghost use Rattle.casa_list.specs.Standings.{standings, count_governed, governed_place, governed_cto, issue_cto, is_forced, competing_eto, issued_times, can_exchange, with_exchange};
 
-use crate::build::forced_of;
 use crate::governed::Governed;
 use crate::member::Member;
-use crate::order::{forced_entry, free_flight, index_of, put_forced, take_forced};
+use crate::order::{index_of, nth_forced};
 use crate::stances::Stances;
 use crate::standing::Times;
 use casa_flight::{Assigned, Comp, Key, Stance};
 use casa_grid::{Grid, Place};
 use casa_slots::{
-    Blocked, SharedGrid, Standing, block, copied, counted, cto_at, place_behind, place_from,
-    slot_of, unblock,
+    Blocked, SharedGrid, Standing, block, counted, cto_at, place_behind, place_from, slot_of,
+    unblock,
 };
 use casa_time::Moment;
 use std::alloc::{AllocError, Global};
@@ -52,20 +52,18 @@ use std::marker::Model;
 /// ```
 ///
 /// Contracts see it as a regulation's profile and the stance of each flight, by keys; places follow from that.
-/// It keeps the competitors in their order with their places and the issued flights in theirs, in one row, the forced
-/// flights in theirs, and which slots issued flights block. Its flights are in the order of their keys: `grid`,
-/// `stance_of`, `governed` and `nth` say so, since the law `standings_name_each_flight_once` asks for it.
+/// It keeps the competitors in their order with their places and the issued flights in theirs, in one row, and which slots
+/// issued flights block; the forced flights are among its flights alone, so that one comes and goes at the cost of that.
+/// Its flights are in the order of their keys: `grid`, `stance_of`, `governed` and `nth` say so, since the law
+/// `standings_name_each_flight_once` asks for it.
 pub struct SlotList {
     grid: SharedGrid,
     flights: Stances,
     governed: Governed,
-    forced: Vec<Comp>,
     blocked: Blocked,
 }
 
 impl Model for SlotList {
-    ghost use Rattle.std.specs.Prelude.{map};
-    ghost use Rattle.casa_list.specs.Governing.{forced_in};
     ghost use Rattle.casa_flight.specs.Listing.{Listing};
 
     ghost Value = { Listing };
@@ -78,7 +76,6 @@ impl Model for SlotList {
         (record {
           competitors = l.governed.competitors;
           issued = l.governed.issued;
-          forced = map forced_in l.forced.items;
           blocked = l.blocked.counts;
           room = l.blocked.room;
         }) };
@@ -90,7 +87,6 @@ impl Drop for SlotList {
             grid: _,
             flights: _,
             governed: _,
-            forced: _,
             blocked: _,
         } = self;
     }
@@ -145,17 +141,36 @@ impl SlotList {
         ensures { IfOk result (λ list. list
             ≡ record { profile = grid; flights = flights.entries }) }
     {
+        SlotList::placed(alloc, grid, Stances::of(alloc, &flights)?)
+    }
+
+    /// A list with these flights, in whatever order they come: of several with one key, the last. `AllocError` where there
+    /// is no memory for it.
+    ///
+    /// It sorts them where they lie, keeps them in that memory, and places them in one walk.
+    pub fn of_members(
+        alloc: Global,
+        grid: Grid,
+        members: Vec<Member>,
+    ) -> Result<SlotList, AllocError>
+        ensures { IfOk result (λ list. list
+            ≡ record { profile = grid; flights = by_key members.items }) }
+    {
+        SlotList::placed(alloc, grid, Stances::of_members(members)?)
+    }
+
+    /// A list with these flights, all placed in one walk.
+    fn placed(alloc: Global, grid: Grid, flights: Stances) -> Result<SlotList, AllocError>
+        ensures { IfOk result (λ list. list ≡ record { profile = grid; flights = flights }) }
+    {
         let grid = SharedGrid::new(alloc, grid)?;
-        let flights = Stances::of(alloc, &flights)?;
         let mut governed = Governed::of(alloc, &flights)?;
-        let forced = forced_of(alloc, &flights)?;
         let blocked = counted(alloc, &grid, governed.issued(), governed.len())?;
         governed.walk_all(&grid, &blocked);
         Ok(SlotList {
             grid,
             flights,
             governed,
-            forced,
             blocked,
         })
     }
@@ -188,18 +203,6 @@ impl SlotList {
         }
     }
 
-    /// The estimated time over of a forced flight.
-    fn forced_at(&self, key: &Key) -> Option<Moment>
-        ensures value { result ≡ forced_eto self.now key.now }
-        ensures found { IfSome result (λ eto. stance_of self.now key.now
-            ≡ Some (Stance.Forced eto)) }
-    {
-        match self.stance_of(key)? {
-            Stance::Forced { eto } => Some(eto),
-            _ => None,
-        }
-    }
-
     /// The estimated and the calculated time over of an issued flight.
     fn issued_at(&self, key: &Key) -> Option<Times>
         ensures value { result ≡ issued_times self.now key.now }
@@ -224,12 +227,10 @@ impl SlotList {
         ensures place { IfOk result (λ place. place ≡ place_of self.new comp.key) }
         ensures unchanged { OnErr result (self.new ≡ self.old) }
     {
-        let was = self.forced_at(&comp.key);
         self.governed.reserve()?;
         self.blocked.reserve(self.governed.len() + 1)?;
         self.flights
             .put(comp.key, Stance::Competing { eto: comp.eto })?;
-        free_flight(&mut self.forced, comp.key, was);
         let at = index_of(self.governed.competitors(), &comp);
         Ok(self.governed.put(&self.grid, &self.blocked, at, comp))
     }
@@ -257,6 +258,59 @@ impl SlotList {
         cto_at(&self.grid, comp.eto, self.would_get(comp))
     }
 
+    /// The place that a competitor, which competes there with the time over `was`, would have with the time over that it has
+    /// here.
+    fn place_replanned(&self, comp: &Comp, was: Moment) -> Place
+        requires { stance_of self.now comp.now.key ≡ Some (Stance.Competing was) }
+        ensures place { result ≡ place_of (with_competitor self.now comp.now.key comp.now.eto)
+            comp.now.key }
+        ensures within { IsWithin (length (slots self.now.profile)) result }
+    {
+        let key = comp.key;
+        let out = index_of(self.governed.competitors(), &Comp { eto: was, key });
+        self.governed
+            .place_once_moved(&self.grid, &self.blocked, None, out, out + 1, comp)
+    }
+
+    /// The place that a flight, which is issued there at this time, would have as a competitor.
+    fn place_withdrawn(&self, comp: &Comp, cto: Moment) -> Place
+        requires { (was : ℕ) × (stance_of self.now comp.now.key ≡ Some (Stance.Issued was cto)) }
+        ensures place { result ≡ place_of (with_competitor self.now comp.now.key comp.now.eto)
+            comp.now.key }
+        ensures within { IsWithin (length (slots self.now.profile)) result }
+    {
+        let slot = slot_of(&self.grid, cto);
+        let from = self.governed.first_from_slot(slot);
+        self.governed
+            .place_once_moved(&self.grid, &self.blocked, slot, from, from, comp)
+    }
+
+    /// The place that a flight would have as a competitor, in place of how it stands.
+    fn would_get_anew(&self, comp: &Comp) -> Place
+        ensures place { result ≡ place_of (with_competitor self.now comp.now.key comp.now.eto)
+            comp.now.key }
+        ensures within { IsWithin (length (slots self.now.profile)) result }
+    {
+        let Some(stance) = self.stance_of(&comp.key) else {
+            return self.would_get(comp);
+        };
+        match stance {
+            Stance::Competing { eto } => self.place_replanned(comp, eto),
+            Stance::Issued { cto, .. } => self.place_withdrawn(comp, cto),
+            Stance::Forced { .. } => self.would_get(comp),
+        }
+    }
+
+    /// The calculated time over that a flight would have as a competitor, in place of how it stands: that of the place that
+    /// `enter` would give once it had left. It takes no memory.
+    pub fn would_pass_anew(&self, comp: &Comp) -> Moment
+        ensures { result ≡
+            cto_as (with_competitor self.now comp.now.key comp.now.eto) comp.now.key
+            (Stance.Competing comp.now.eto) }
+    {
+        cto_at(&self.grid, comp.eto, self.would_get_anew(comp))
+    }
+
     /// Puts an issued flight in, with this calculated time over. The competitor that has its slot looks on from
     /// there. The regulation must not govern the flight yet; where it is forced, it is so no more.
     ///
@@ -268,12 +322,10 @@ impl SlotList {
         }) }
         ensures unchanged { OnErr result (self.new ≡ self.old) }
     {
-        let was = self.forced_at(&comp.key);
         self.governed.reserve()?;
         self.blocked.reserve(self.governed.len() + 1)?;
         let stance = Stance::Issued { eto: comp.eto, cto };
         self.flights.put(comp.key, stance)?;
-        free_flight(&mut self.forced, comp.key, was);
         self.governed.put_issued(comp, cto);
         let slot = block(&self.grid, &mut self.blocked, cto);
         self.governed
@@ -291,10 +343,8 @@ impl SlotList {
         }) }
         ensures unchanged { OnErr result (self.new ≡ self.old) }
     {
-        self.forced.reserve(1)?;
         self.flights
             .put(comp.key, Stance::Forced { eto: comp.eto })?;
-        put_forced(&mut self.forced, comp);
         Ok(())
     }
 
@@ -306,11 +356,10 @@ impl SlotList {
               self.old.flights key.now;
         } else self.old) }
     {
-        let Some(eto) = self.forced_at(key) else {
+        let Some(Stance::Forced { .. }) = self.stance_of(key) else {
             return false;
         };
         self.flights.remove(key);
-        take_forced(&mut self.forced, &Comp { eto, key: *key });
         true
     }
 
@@ -471,7 +520,8 @@ impl SlotList {
     /// Flight number `n` as it stands; `None` from the number of flights on.
     ///
     /// The competitors come first, in their order, then the issued and then the forced flights, both ordered
-    /// likewise by estimated time over and key.
+    /// likewise by estimated time over and key. A forced flight is looked for among all flights, in time of the number of
+    /// flights times that of forced ones: to read them all, take them from `flights`.
     pub fn nth(&self, n: usize) -> Option<(Comp, Standing)>
         ensures flight { result ≡ slice_get (standings self.now) n }
         ensures keys { AreInOrder self.now.flights }
@@ -480,7 +530,7 @@ impl SlotList {
         if n < governed {
             return self.governed.nth(n);
         }
-        forced_entry(self.forced.as_slice(), n - governed)
+        nth_forced(self.flights.as_slice(), n - governed)
     }
 
     /// Competitor number `n`, in their order, with its place; `None` from the number of competitors on.
@@ -501,7 +551,7 @@ impl SlotList {
         ensures regridded { OnOk result (self.new ≡ record self.old { profile = grid }) }
         ensures unchanged { OnErr result (self.new ≡ self.old) }
     {
-        let alloc = *self.forced.allocator();
+        let alloc = self.flights.allocator();
         let grid = SharedGrid::new(alloc, grid)?;
         let room = self.governed.len();
         let blocked = counted(alloc, &grid, self.governed.issued(), room)?;
@@ -517,13 +567,10 @@ impl SlotList {
     pub fn try_clone(&self) -> Result<SlotList, AllocError>
         ensures { IfOk result (λ list. list ≡ self.now) }
     {
-        let alloc = *self.forced.allocator();
-        let forced = self.forced.len() + 1;
         Ok(SlotList {
             grid: self.grid.share()?,
             flights: self.flights.try_clone()?,
             governed: self.governed.try_clone()?,
-            forced: copied(alloc, &self.forced, forced)?,
             blocked: self.blocked.try_clone(self.governed.len() + 1)?,
         })
     }

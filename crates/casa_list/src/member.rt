@@ -62,7 +62,7 @@ impl fmt::Debug for Member {
 
 impl Member {
     /// A flight that stands so.
-    pub(crate) fn new(key: Key, stance: Stance) -> Member
+    pub fn new(key: Key, stance: Stance) -> Member
         ensures { result ≡ (key, stance) }
     {
         let eto = stance.eto();

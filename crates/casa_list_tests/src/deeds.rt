@@ -13,6 +13,8 @@ use std::process::Abort;
 pub enum Deed {
     /// What it would get is asked.
     Ask,
+    /// What it would get once it had left is asked.
+    AskAnew,
     /// It enters.
     Enter,
     /// It is held, issued at the time of the step.
@@ -46,6 +48,7 @@ fn attempt(
         (Deed::Ask, _) if is_new => {
             return Ok((Some(list.would_get(comp)), Some(list.would_pass(comp))));
         }
+        (Deed::AskAnew, _) => return Ok((None, Some(list.would_pass_anew(comp)))),
         (Deed::Enter, _) if is_new => return Ok((Some(list.enter(*comp)?), list.cto_of(&comp.key))),
         (Deed::Hold, Some(cto)) if is_new => list.hold(*comp, cto)?,
         (Deed::Force, _) if list.stance_of(&comp.key).is_none() => list.force(*comp)?,

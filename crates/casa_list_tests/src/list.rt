@@ -1,6 +1,6 @@
 //! Slot lists.
 
-use crate::deeds::Deed::{Ask, Enter, Force, Hold, Issue, Leave, Read};
+use crate::deeds::Deed::{Ask, AskAnew, Enter, Force, Hold, Issue, Leave, Read};
 use crate::deeds::{Step, follow};
 use crate::parts::{comp, key, moment, period, profile};
 use casa_flight::{Comp, Key};
@@ -11,8 +11,9 @@ use casa_time::Moment;
 use std::alloc::Global;
 use std::process::Abort;
 
-/// Each deed once: B comes before A, which is issued; C comes in issued, so that B has the slot behind both; A leaves, and
-/// B is pulled up; D is forced, which moves nobody.
+/// Each deed once: B comes before A, which is issued; C comes in issued, so that B has the slot behind both. Anew, A
+/// and C would each come behind B, which would move up to their slot, and B would stay where it is, or have a slot of its
+/// own if it came later. A leaves, and B is pulled up; D is forced, which moves nobody, and anew would come behind B.
 const EACH_DEED: &[Step] = &[
     (Enter, "A", 36_010, Some(Slot(0)), Some(36_010)),
     (Ask, "B", 36_005, Some(Slot(0)), Some(36_005)),
@@ -21,10 +22,15 @@ const EACH_DEED: &[Step] = &[
     (Issue, "A", 36_010, Some(Slot(1)), None),
     (Hold, "C", 36_005, Some(Slot(0)), Some(36_015)),
     (Read, "B", 36_005, Some(Slot(2)), Some(36_240)),
+    (AskAnew, "A", 36_010, None, Some(36_240)),
+    (AskAnew, "B", 36_005, None, Some(36_240)),
+    (AskAnew, "B", 36_500, None, Some(36_500)),
+    (AskAnew, "C", 36_005, None, Some(36_240)),
     (Leave, "A", 36_010, Some(Slot(1)), None),
     (Leave, "Z", 36_010, None, None),
     (Force, "D", 36_050, None, None),
     (Read, "B", 36_005, Some(Slot(1)), Some(36_120)),
+    (AskAnew, "D", 36_050, None, Some(36_240)),
 ];
 
 /// Half as many slots later: C blocks the first, and B has the next.

@@ -7,3 +7,4 @@ pub mod Sparse
 pub mod Counts
 pub mod Few
 pub mod Asked
+pub mod Leaving

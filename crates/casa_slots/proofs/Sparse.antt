@@ -6,7 +6,7 @@ use Rattle.std.specs.List.{AllByRecursion, find, insert, range_with_len, remove,
 use Rattle.std.proofs.lemmas.Bool.{cases_lt, eqb-true, eq-eqb, ne_eqb, ltb-true, le-ltb, lt-ltb, both_ways}
 use Rattle.std.proofs.lemmas.List.Sums.{sum_by-cons, prefix_len-le-length}
 use Rattle.std.proofs.lemmas.List.FromFn.{length-map-range_with_len, get_or-map-range_with_len}
-use Rattle.std.proofs.lemmas.Option.{slice_get-get_or, same_Some}
+use Rattle.std.proofs.lemmas.Option.{slice_get-get_or, slice_get_past, same_Some}
 use Rattle.std.specs.List.Sorted.{IsPartitionedBy}
 use Rattle.casa_slots.specs.Blocked.{raised, lowered}
 use Rattle.casa_slots.specs.Sparse.{count_in, dense, AreBlocked, count_before, passed, put_one, take_one}
@@ -470,6 +470,23 @@ module _ (k : ℕ) where
         ]
       ]
 
+  -- and then no flight is in it
+  pub missing : (low n : ℕ) (es : List (ℕ × ℕ)) → AreBlocked low n es → has_at es (count_before es k) k ≡ false → count_in es k ≡ 0
+  missing low n [] h has = refl
+  missing low n (e ∷ es) h has =
+      elim (stands e.0 k) [
+        | inl b ↦
+            let lt : e.0 < k = b.0 in
+            let rest : has_at es (count_before es k) k ≡ false = sym (step e es (λ i. has_at (e ∷ es) i k) b) ∙ has in
+            count_tail e es k (λ same. omega (arith, same, lt)) ∙ missing (e.0 + 1) n es h.3 rest
+        | inr o ↦ elim o [
+          | inl m ↦ absurd (both_ways _ has (ap (λ i. has_at (e ∷ es) i k) (none_before e es m.1) ∙ m.2))
+          | inr a ↦
+              let gt : k < e.0 = a.0 in
+              count_tail e es k (λ same. omega (arith, same, gt)) ∙ none_below (e.0 + 1) n es k h.3 (omega (arith, gt))
+        ]
+      ]
+
   -- what it has there
   pub there : (es : List (ℕ × ℕ)) (e : ℕ × ℕ) → slice_get es (count_before es k) ≡ Some e → (e.0 == k) ≡ true → e.1 ≡ count_in es k
   there [] e found own = cc
@@ -666,3 +683,21 @@ more_found es i k c at has more is = ap (λ j. set es j (k, c)) at ∙ take_set 
 
 pub none_found : (es : List (ℕ × ℕ)) (i k : ℕ) → i ≡ count_before es k → has_at es i k ≡ false → es ≡ take_one es k
 none_found es i k at has = take_missed k es (ap (λ j. has_at es j k) (sym at) ∙ has)
+
+-- whether one flight is in a slot
+one_dense : (n : ℕ) (es : List (ℕ × ℕ)) (k : ℕ) → AreBlocked 0 n es → option_map_or (λ (c : ℕ). c == 1) (slice_get (dense n es) k) false ≡ (count_in es k == 1)
+one_dense n es k h =
+    let size : length (dense n es) ≡ n = length-dense n es in
+    elim (cases_lt k n) [
+      | inl lt ↦ ap (λ o. option_map_or (λ (c : ℕ). c == 1) o false) (get_dense n es k lt)
+      | inr le ↦
+          ap (λ o. option_map_or (λ (c : ℕ). c == 1) o false) (slice_get_past (dense n es) k (omega (arith, size, le)))
+          ∙ ap (λ c. c == 1) (sym (none_beyond 0 n es k h le))
+    ]
+
+pub one_there : (n : ℕ) (es : List (ℕ × ℕ)) (i k : ℕ) (e : ℕ × ℕ) → AreBlocked 0 n es → i ≡ count_before es k → has_at es i k ≡ true → e ≡ get_or es i e → (e.1 == 1) ≡ option_map_or (λ (c : ℕ). c == 1) (slice_get (dense n es) k) false
+one_there n es i k e h at has is = ap (λ c. c == 1) (count_found es i k e at has is) ∙ sym (one_dense n es k h)
+
+pub none_there : (n : ℕ) (es : List (ℕ × ℕ)) (i k : ℕ) → AreBlocked 0 n es → i ≡ count_before es k → has_at es i k ≡ false → false ≡ option_map_or (λ (c : ℕ). c == 1) (slice_get (dense n es) k) false
+none_there n es i k h at has =
+    ap (λ c. c == 1) (sym (missing k 0 n es h (ap (λ j. has_at es j k) (sym at) ∙ has))) ∙ sym (one_dense n es k h)

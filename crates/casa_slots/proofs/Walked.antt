@@ -3,6 +3,7 @@ use Rattle.std.proofs.Common.{◌≡◌, ℕ, ◌+◌, ◌-◌, ◌<◌, ◌≤�
 use Rattle.std.specs.List.{AllByRecursion, range_with_len, find, position_or_len, slice_get}
 use Rattle.std.specs.List.Sorted.{IsPartitionedBy}
 use Rattle.std.proofs.lemmas.Bool.{cases_lt, false_from_ne_true, ltb-true, ltb-false}
+use Rattle.std.proofs.lemmas.List.{take-map}
 use Rattle.casa_grid.specs.declared.slot.Place.{Place}
 use Rattle.casa_grid.specs.declared.slot.Place.TheVariants.{Slot, Over}
 use Rattle.casa_grid.specs.declared.slot.Window.{Window}
@@ -44,6 +45,13 @@ follow_drop ws bs zero xs h = h
 follow_drop ws bs (suc i) [] h = tt
 follow_drop ws bs (suc i) (x ∷ xs) h = follow_drop ws bs i xs (follow_step ws bs x xs h)
 
+pub follow_take : (ws : List Window) (bs : List ℕ) (i : ℕ) (xs : List Assigned) → FollowFirst ws bs xs → FollowFirst ws bs (take i xs)
+follow_take ws bs zero xs h = tt
+follow_take ws bs (suc i) [] h = tt
+follow_take ws bs (suc i) (x ∷ xs) h =
+    let low : ℕ = low_after (length bs) x.place in
+    ap (walked ws bs low) (sym (take-map (λ (a : Assigned). a.comp) i xs)) ∙ walked-take ws bs low i (comps_in xs) ∙ ap (take i) h
+
 -- the walk with one more competitor, from where it stands on
 pub walked_split : (ws : List Window) (bs : List ℕ) (i : ℕ) (xs : List Assigned) (cs ds : List Comp) → xs ≡ walked ws bs 0 cs → walked ws bs 0 (take i cs ++ ds) ≡ take i xs ++ walked ws bs (low_behind (length bs) 0 (take i xs)) ds
 walked_split ws bs i xs cs ds is =
@@ -56,7 +64,7 @@ comps-drop (suc i) [] = refl
 comps-drop (suc i) (x ∷ xs) = comps-drop i xs
 
 -- the same search over tests that agree on the range
-find_agree : (p q : ℕ → Bool) (a n : ℕ) → ((j : ℕ) → a ≤ j → j < a + n → q j ≡ p j) → find q (range_with_len a n) ≡ find p (range_with_len a n)
+pub find_agree : (p q : ℕ → Bool) (a n : ℕ) → ((j : ℕ) → a ≤ j → j < a + n → q j ≡ p j) → find q (range_with_len a n) ≡ find p (range_with_len a n)
 find_agree p q a zero h = refl
 find_agree p q a (suc n) h = λ i. cond (h a (omega arith) (omega arith) i) (Some a) (find_agree p q (a + 1) n (λ j low high. h j (omega (arith, low)) (omega (arith, high))) i)
 
@@ -83,7 +91,7 @@ AgreeAt bs ds None = ds ≡ bs
 AgreeAt bs ds (Some k) = AgreeBut bs ds k
 
 -- places below that slot stay
-clear_below : (bs ds : List ℕ) (k m i : ℕ) → AgreeBut bs ds k → clear_from bs m ≡ Some i → i < k → clear_from ds m ≡ Some i
+pub clear_below : (bs ds : List ℕ) (k m i : ℕ) → AgreeBut bs ds k → clear_from bs m ≡ Some i → i < k → clear_from ds m ≡ Some i
 clear_below bs ds k m i h found lt =
     ap (λ n. find (is_clear ds) (range_with_len m (n - m))) h.size
     ∙ find_early (is_clear bs) (is_clear ds) m (length bs - m) i found (λ j le. h.clear j (λ same. absurd (omega (arith, same, le, lt))))

@@ -1,6 +1,6 @@
 //! Which slots issued flights block, and how many flights each.
 
-ghost use Rattle.std.specs.Prelude.{◌≡◌, ◌<◌, ◌≤◌, ◌==◌, ℕ, false, IfOk, IfSome, OnOk, replicate, length, map, sum, vec_len, vec_capacity};
+ghost use Rattle.std.specs.Prelude.{◌≡◌, ◌<◌, ◌≤◌, ◌==◌, ◌↔◌, ℕ, false, IfOk, IfSome, IsTrue, OnOk, replicate, length, map, sum, vec_len, vec_capacity};
 ghost use Rattle.std.specs.List.{All, AllByRecursion, slice_get};
 ghost use Rattle.casa_grid.specs.Profile.{IsProfile};
 ghost use Rattle.casa_grid.specs.Slots.{slots, window_of};
@@ -99,6 +99,30 @@ impl Blocked {
         (slot < self.slots).then_some(slot)
     }
 
+    /// Whether one flight blocks a slot, and no other.
+    fn has_one(&self, slot: usize) -> bool
+        ensures { result ≡ option_map_or (λ (n : ℕ). n == 1) (slice_get self.now.counts slot)
+            false }
+    {
+        let at = count_before(&self.blocks, slot, self.slots);
+        has_at(&self.blocks, at, slot) && self.blocks[at].1 == 1
+    }
+
+    /// The first clear slot from `k` on, once a flight has left this slot, if it had one.
+    pub(crate) fn clear_once_left(&self, k: usize, left: Option<usize>) -> Option<usize>
+        ensures { result ≡ clear_from (lowered self.now.counts left) k }
+    {
+        let clear = self.clear_from(k);
+        let Some(slot) = left else {
+            return clear;
+        };
+        if is_sooner(slot, k, clear) && self.has_one(slot) {
+            Some(slot)
+        } else {
+            clear
+        }
+    }
+
     /// Makes room for so many blocked slots in all; the numbers of flights stay. `AllocError` where there is no memory for
     /// that; nothing is lost then, neither a number nor room.
     pub fn reserve(&mut self, room: usize) -> Result<(), AllocError>
@@ -149,6 +173,13 @@ impl Blocked {
             blocks: copied(*self.blocks.allocator(), &self.blocks, room)?,
         })
     }
+}
+
+/// Whether a slot is from number `k` on and before the other, if there is one.
+fn is_sooner(slot: usize, k: usize, other: Option<usize>) -> bool
+    ensures { IsTrue result ↔ (k ≤ slot) × IfSome other (λ i. slot < i) }
+{
+    k <= slot && other.is_none_or(|i| slot < i)
 }
 
 /// Whether block number `at` is of this slot.

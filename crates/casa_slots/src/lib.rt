@@ -19,4 +19,6 @@ pub use copies::copied;
 pub use grid::SharedGrid;
 pub use seat::Seat;
 pub use standing::Standing;
-pub use walk::{count_below, cto_at, place_behind, place_from, walk_all, walk_on};
+pub use walk::{
+    count_below, cto_at, place_behind, place_from, place_once_moved, walk_all, walk_on,
+};

@@ -4,6 +4,7 @@
 ghost use Rattle.std.specs.Prelude.{◌≡◌, ◌≤◌, take, drop, length, true, vec_len};
 ghost use Rattle.casa_grid.specs.Slots.{slots, wanted};
 ghost use Rattle.casa_flight.specs.Assignment.{place_from};
+ghost use Rattle.casa_slots.specs.Blocked.{lowered};
 ghost use Rattle.casa_slots.specs.Walk.{place_low, low_after, low_behind, walked, followed, comps_in, FollowFirst, is_below, count_below, PlacesRise, IsNotBefore, IsWithin};
 ghost use Rattle.casa_grid.specs.Profile.{end_of};
 ghost use Rattle.casa_grid.specs.TimeOver.{cto};
@@ -88,6 +89,70 @@ pub fn place_behind(
     ensures few { IsWithin u32.MAX result }
 {
     place_low(grid, blocked, low_behind(blocked.slots(), competitors), eto)
+}
+
+/// The place of a flight with this time over where the slots below `low` are gone, once a flight has left this slot, if it
+/// had one.
+fn place_once_left(
+    grid: &SharedGrid,
+    blocked: &Blocked,
+    left: Option<usize>,
+    low: usize,
+    eto: Moment,
+) -> Place
+    ensures { result ≡ place_low (slots grid.now) (lowered blocked.now.counts left) low eto }
+{
+    match grid.get().wanted(eto) {
+        Some(asked) => place_from(blocked.clear_once_left(asked.max(low), left)),
+        None => Place::Over,
+    }
+}
+
+/// Below which slot all are gone behind these competitors, once a flight has left this slot, if it had one, and they have
+/// moved up in turn where the slots below `low` are gone. It goes along them up to the first whose place stays.
+fn low_once_left(
+    grid: &SharedGrid,
+    blocked: &Blocked,
+    left: Option<usize>,
+    low: usize,
+    competitors: &[Seat],
+) -> usize
+    requires { FollowFirst (slots grid.now) (lowered blocked.now.counts left) competitors.now }
+    ensures { let counts = lowered blocked.now.counts left in
+        result ≡ low_behind (length counts) low
+        (walked (slots grid.now) counts low (comps_in competitors.now)) }
+{
+    let mut low = low;
+    for seat in competitors {
+        let place = place_once_left(grid, blocked, left, low, seat.comp().eto);
+        if place == seat.place() {
+            return low_behind(blocked.slots(), competitors);
+        }
+        low = low_after(blocked.slots(), place);
+    }
+    low
+}
+
+/// The place of a flight with this estimated time over behind the competitors in front and the others, once a flight has
+/// left this slot, if it had one, and the others have moved up behind those in front. The others behind the first have
+/// asked for their slots already.
+pub fn place_once_moved(
+    grid: &SharedGrid,
+    blocked: &Blocked,
+    left: Option<usize>,
+    front: &[Seat],
+    others: &[Seat],
+    eto: Moment,
+) -> Place
+    requires { FollowFirst (slots grid.now) (lowered blocked.now.counts left) others.now }
+    ensures { let counts = lowered blocked.now.counts left in
+        result ≡ place_low (slots grid.now) counts
+        (low_behind (length counts) 0
+        (followed (slots grid.now) counts front.now (comps_in others.now))) eto }
+{
+    let behind = low_behind(blocked.slots(), front);
+    let low = low_once_left(grid, blocked, left, behind, others);
+    place_once_left(grid, blocked, left, low, eto)
 }
 
 /// As `walk_on`, where all of these are competitors.

@@ -1,17 +1,15 @@
-//! A flight in a list: how it comes, goes or stands otherwise, and the time that it would have there.
+//! A flight in a list: how it comes, goes or stands otherwise.
 
 ghost use Rattle.std.specs.Prelude.{◌≡◌, ℕ, true, Some, None, IfOk, OnOk, IfSome, if◌then◌else◌};
 ghost use Rattle.casa_flight.specs.Good.{AreInOrder};
-ghost use Rattle.casa_flight.specs.Listing.{stance_of, cto_as};
+ghost use Rattle.casa_flight.specs.Listing.{stance_of};
 ghost use Rattle.casa_flight.specs.declared.row.Stance.{Stance};
-ghost use Rattle.casa_flight.specs.Entry.{with_competitor};
 ghost use Rattle.casa_flight.specs.IssuedTimes.{with_issued};
 ghost use Rattle.casa_list.specs.Standings.{governed_place};
 ghost use Rattle.casa_plan_spec.specs.Write.{with_flight};
 
 use casa_flight::{Comp, Key, Stance};
 use casa_list::{SharedList, SlotList};
-use casa_time::Moment;
 use std::alloc::{AllocError, Global};
 
 /// Takes a flight out, which stands in this way, if it is there.
@@ -145,42 +143,4 @@ pub fn with_flight(
     }
     let list = with_stance(shared.into_list()?, key, &was, stance)?;
     SharedList::new(alloc, list)
-}
-
-/// The calculated time over that a flight would have as a competitor once it had left, worked out on a copy.
-/// `AllocError` where there is no memory for that.
-fn time_anew(list: &SlotList, comp: &Comp) -> Result<Moment, AllocError>
-    ensures { IfOk result (λ time. time ≡
-        cto_as (with_competitor list.now comp.now.key comp.now.eto) comp.now.key
-        (Stance.Competing comp.now.eto)) }
-{
-    let mut rest = list.try_clone()?;
-    let stance = rest.stance_of(&comp.key);
-    take_out(&mut rest, &comp.key, &stance);
-    Ok(rest.would_pass(comp))
-}
-
-/// The calculated time over that a flight would have as a competitor, in place of how it stands in the list.
-///
-/// Only where it is issued there, or competes with another time over, is the list copied; `AllocError` where there is no
-/// memory for that.
-pub fn time_there(list: &SlotList, comp: &Comp) -> Result<Moment, AllocError>
-    ensures { IfOk result (λ time. time ≡
-        cto_as (with_competitor list.now comp.now.key comp.now.eto) comp.now.key
-        (Stance.Competing comp.now.eto)) }
-{
-    let Some(stance) = list.stance_of(&comp.key) else {
-        return Ok(list.would_pass(comp));
-    };
-    match stance {
-        Stance::Competing { eto } => {
-            if eto == comp.eto {
-                Ok(list.cto_of(&comp.key).unwrap())
-            } else {
-                time_anew(list, comp)
-            }
-        }
-        Stance::Issued { .. } => time_anew(list, comp),
-        Stance::Forced { .. } => Ok(list.would_pass(comp)),
-    }
 }
