@@ -28,8 +28,10 @@ fn shown(alloc: Global, all: &Catalogue, plan: &Plan) -> Result<String, AllocErr
     for regulation in all.as_slice() {
         let id = regulation.id;
         text.push_str(format!(in alloc; " {id}")?.as_str())?;
-        if let Some(at) = times.get(&id) {
-            text.push_str(format!(in alloc; " {at}")?.as_str())?;
+        for (crossed, at) in times.as_slice() {
+            if *crossed == id {
+                text.push_str(format!(in alloc; " {at}")?.as_str())?;
+            }
         }
     }
     Ok(text)

@@ -33,8 +33,8 @@ fn push_over(
 ) {
     let regulation = board.catalogue().first().expect(rt, "a regulation");
     let found = view.flights_over(alloc, regulation).expect(rt, "memory");
-    for (comp, _) in &found {
-        write!(out, " {} {}", comp.key, comp.eto).expect(rt, "memory");
+    for over in found.as_slice() {
+        write!(out, " {} {}", over.comp.key, over.comp.eto).expect(rt, "memory");
     }
 }
 

@@ -7,3 +7,4 @@ pub mod Answered
 pub mod Members
 pub mod Rows
 pub mod Served
+pub mod Stood

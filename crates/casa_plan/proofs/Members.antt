@@ -1,35 +1,29 @@
 -- the flights of a list as they stand are its flights, each once, in another order
-use Rattle.std.proofs.Common.{◌≡◌, List, [], ◌∷◌, ◌++◌, length, map, Bool, Option, refl, sym, ap, subst, ◌∙◌, Some, unwrap_or}
+use Rattle.std.proofs.Common.{◌≡◌, ℕ, ◌+◌, ◌<◌, List, [], ◌∷◌, ◌++◌, length, length-append, append_assoc, get_or, take, map, arith, None, Option, refl, sym, ap, subst, ◌∙◌, Some, unwrap_or}
 use Rattle.std.specs.Map.{keys_of}
 use Rattle.std.specs.Option.{option_map}
-use Rattle.std.specs.List.{AllByRecursion, Contains, filter_map, fold}
+use Rattle.std.specs.List.{AllByRecursion, Contains, cons_option, filter_map}
 use Rattle.std.specs.List.Sorted.{IsPermutation}
-use Rattle.std.proofs.lemmas.List.{append-nil, length-map, map-append}
-use Rattle.std.proofs.lemmas.List.Sorted.{IsPermutation-refl, IsPermutation-sym, IsPermutation-trans, IsPermutation-cons, IsPermutation-middle, IsPermutation-insert, IsPermutation-append, IsPermutation-append_left, IsPermutation-append_right, IsPermutation-map, length_permutation}
+use Rattle.std.proofs.Math.Seq.{take-append_seam}
+use Rattle.std.proofs.lemmas.List.{append-nil, length-map, map-append, take_more}
+use Rattle.std.proofs.lemmas.List.Elements.{filter_map-append}
+use Rattle.std.proofs.lemmas.List.Sorted.{IsPermutation-refl, IsPermutation-sym, IsPermutation-trans, IsPermutation-cons, IsPermutation-middle, IsPermutation-append, IsPermutation-append_left, IsPermutation-append_right, IsPermutation-map}
 use Rattle.casa_flight.specs.declared.comp.Comp.{Comp}
 use Rattle.casa_flight.specs.declared.comp.Assigned.{Assigned}
 use Rattle.casa_flight.specs.declared.row.Stance.{Stance}
 use Rattle.casa_flight.specs.declared.row.Stance.TheVariants.{Competing, Issued, Forced}
 use Rattle.casa_filing.specs.Text.{Text, at_name}
 use Rattle.casa_flight.specs.Good.{AreInOrder}
-use Rattle.casa_flight.specs.Listing.{Listing, insert_sorted, sorted_by, is_before, competitor, competitors, places}
+use Rattle.casa_flight.specs.Listing.{Listing, is_before, competitor, competitors, places}
 use Rattle.casa_filing.proofs.Entries.{all-each, each_found}
 use Rattle.casa_flight.proofs.PutBy.{each_itself}
 use Rattle.casa_slots.specs.declared.standing.Standing.{Standing}
 use Rattle.casa_slots.specs.declared.standing.Standing.TheVariants.{Pre, Forced as NoSlot}
-use Rattle.casa_list.specs.Standings.{issued_flight, forced_flight, is_flight_before, issued_flights, forced_flights, standings, standing_as, standing_of}
-use Rattle.casa_list.proofs.Changes.{comps-places}
-use Rattle.casa_list.proofs.Once.{standings_who}
-
--- a list put in order has the same elements
-fold_moved : {X : Type 0} (precedes : X → X → Bool) (xs ys : List X) → IsPermutation (xs ++ ys) (fold (λ (zs : List X) (x : X). insert_sorted precedes x zs) ys xs)
-fold_moved precedes [] ys = IsPermutation-refl ys
-fold_moved precedes (x ∷ xs) ys =
-    IsPermutation-trans _ _ _ (IsPermutation-sym _ _ (IsPermutation-middle xs x ys))
-    (IsPermutation-trans _ _ _ (IsPermutation-append_right xs (x ∷ ys) (insert_sorted precedes x ys) (IsPermutation-insert ys _ x)) (fold_moved precedes xs (insert_sorted precedes x ys)))
-
-pub in_order_moved : {X : Type 0} (precedes : X → X → Bool) (xs : List X) → IsPermutation xs (sorted_by precedes xs)
-in_order_moved {X} precedes xs = subst (λ (ys : List X). IsPermutation ys (sorted_by precedes xs)) (append-nil xs) (fold_moved precedes xs [])
+use Rattle.casa_list.specs.Standings.{issued_flight, forced_flight, is_flight_before, issued_flights, forced_flights, standings, standing_as, standing_of, count_governed}
+use Rattle.casa_list.proofs.Changes.{comps-places, length-places}
+use Rattle.casa_list.proofs.Once.{as_pre, standings_who}
+use Rattle.casa_plan.specs.Rows.{flights_told}
+use Rattle.casa_list.proofs.Ordered.{in_order_moved}
 
 -- the keys of a list's flights, by how these stand
 abbrev key_of : Comp × Standing → Text
@@ -88,7 +82,7 @@ entry_standings l (e ∷ es) h =
     ap (λ (o : Option Stance). unwrap_or (option_map (standing_as l e.0) o) (record { eto = 0; key = e.0 }, NoSlot)) h.0 in
     λ i. here i ∷ entry_standings l es h.1 i
 
-pub standings_moved : (l : Listing) → AreInOrder l.flights → IsPermutation (map (λ (e : Text × Stance). standing_as l e.0 e.1) l.flights) (standings l)
+standings_moved : (l : Listing) → AreInOrder l.flights → IsPermutation (map (λ (e : Text × Stance). standing_as l e.0 e.1) l.flights) (standings l)
 standings_moved l sorted =
     let each : AllByRecursion (λ (f : Comp × Standing). standing_at l (key_of f) ≡ f) (standings l) =
     all-each (Contains (standings l)) (λ (f : Comp × Standing). standing_at l (key_of f) ≡ f)
@@ -97,7 +91,56 @@ standings_moved l sorted =
     (subst (IsPermutation (map (standing_at l) (keys_of l.flights))) (own_standings l (standings l) each)
     (IsPermutation-map (standing_at l) _ _ (keys_moved l)))
 
--- so there are as many
-pub length-standings : (l : Listing) → AreInOrder l.flights → length (standings l) ≡ length l.flights
-length-standings l sorted =
-    length_permutation _ _ (standings_moved l sorted) ∙ length-map l.flights (λ (e : Text × Stance). standing_as l e.0 e.1)
+-- so they are where the forced ones come by key, behind those that the list governs
+pub governed-standings : (l : Listing) → take (count_governed l) (standings l) ≡ map as_pre (places l) ++ issued_flights l
+governed-standings l =
+    let front : List (Comp × Standing) = map as_pre (places l) ++ issued_flights l in
+    let size : length front ≡ count_governed l =
+    length-append (map as_pre (places l)) (issued_flights l) ∙ ap (λ n. n + length (issued_flights l)) (length-map (places l) as_pre ∙ length-places l) in
+    ap (λ n. take n (front ++ forced_flights l)) (sym size) ∙ take-append_seam front (forced_flights l)
+
+pub told_moved : (l : Listing) → AreInOrder l.flights → IsPermutation (map (λ (e : Text × Stance). standing_as l e.0 e.1) l.flights) (flights_told l)
+told_moved l sorted =
+    let front : List (Comp × Standing) = map as_pre (places l) ++ issued_flights l in
+    let forced : List (Comp × Standing) = filter_map (λ (e : Text × Stance). forced_flight e.0 e.1) l.flights in
+    subst (λ (fs : List (Comp × Standing)). IsPermutation (map (λ (e : Text × Stance). standing_as l e.0 e.1) l.flights) (fs ++ forced)) (sym (governed-standings l))
+    (IsPermutation-trans _ _ _ (standings_moved l sorted)
+    (IsPermutation-append_right front _ _ (IsPermutation-sym _ _ (in_order_moved is_flight_before forced))))
+
+-- and there are no fewer than it governs
+pub governed_within : (l : Listing) (n : ℕ) → n < count_governed l → n < length (standings l)
+governed_within l n lt =
+    let front : List (Comp × Standing) = map as_pre (places l) ++ issued_flights l in
+    let some = length-append front (forced_flights l) in
+    let both = length-append (map as_pre (places l)) (issued_flights l) in
+    let size : length (map as_pre (places l)) ≡ length (competitors l) = length-map (places l) as_pre ∙ length-places l in
+    omega (arith, some, both, size, lt)
+
+-- the rows of those that it governs and of the forced ones among its first flights, and then among one flight more
+abbrev forced_among : List (Text × Stance) → List (Comp × Standing)
+forced_among es = filter_map (λ (e : Text × Stance). forced_flight e.0 e.1) es
+
+one_more : (es : List (Text × Stance)) (i : ℕ) (e : Text × Stance) → i < length es → e ≡ get_or es i e → forced_among (take (i + 1) es) ≡ forced_among (take i es) ++ cons_option (forced_flight e.0 e.1) []
+one_more es i e lt is =
+    ap forced_among (take_more es i e lt ∙ ap (λ (f : Text × Stance). take i es ++ f ∷ []) (sym is))
+    ∙ filter_map-append (λ (f : Text × Stance). forced_flight f.0 f.1) (take i es) (e ∷ [])
+
+pub told_more : {X : Type 0} (row : Comp × Standing → X) (front : List (Comp × Standing)) (es : List (Text × Stance)) (i : ℕ) (e : Text × Stance) (f : Comp × Standing) (xs ys : List X) → i < length es → e ≡ get_or es i e → forced_flight e.0 e.1 ≡ Some f → ys ≡ xs ++ row f ∷ [] →
+    xs ≡ map row (front ++ forced_among (take i es)) → ys ≡ map row (front ++ forced_among (take (i + 1) es))
+told_more row front es i e f xs ys lt is found pushed h =
+    pushed
+    ∙ ap (λ rows. rows ++ row f ∷ []) h
+    ∙ sym (map-append row (front ++ forced_among (take i es)) (f ∷ []))
+    ∙ ap (map row) (append_assoc front (forced_among (take i es)) (f ∷ []))
+    ∙ sym (ap (λ fs. map row (front ++ fs)) (one_more es i e lt is ∙ ap (λ o. forced_among (take i es) ++ cons_option o []) found))
+
+pub told_same : {X : Type 0} (row : Comp × Standing → X) (front : List (Comp × Standing)) (es : List (Text × Stance)) (i : ℕ) (e : Text × Stance) (xs ys : List X) → i < length es → e ≡ get_or es i e → ((eto : ℕ) → e.1 ≡ Forced eto → ⊥) → ys ≡ xs →
+    xs ≡ map row (front ++ forced_among (take i es)) → ys ≡ map row (front ++ forced_among (take (i + 1) es))
+told_same row front es i e xs ys lt is other same h =
+    same ∙ h
+    ∙ sym (ap (λ fs. map row (front ++ fs)) (one_more es i e lt is ∙ ap (λ o. forced_among (take i es) ++ cons_option o []) (none e.1 other) ∙ append-nil (forced_among (take i es))))
+  where
+    none : (s : Stance) → ((eto : ℕ) → s ≡ Forced eto → ⊥) → forced_flight e.0 s ≡ None
+    none (Competing eto) h = refl
+    none (Issued eto cto) h = refl
+    none (Forced eto) h = absurd (h eto refl)

@@ -19,11 +19,12 @@ use Rattle.casa_flight.proofs.Planning.{rows_order, tied_comps}
 use Rattle.casa_flight.proofs.Sorting.{ranked-in_order, sorted_of_same}
 use Rattle.casa_laws.proofs.InOrder.{pairs_from_recursion}
 use Rattle.casa_slots.specs.declared.standing.Standing.{Standing}
-use Rattle.casa_list.specs.Standings.{standings, standing_as}
+use Rattle.casa_list.specs.Standings.{standing_as}
 use Rattle.casa_plan_spec.specs.Sight.{Sight}
 use Rattle.casa_plan_spec.specs.Look.{row_shown, rows_shown}
-use Rattle.casa_plan.specs.Rows.{row_as}
-use Rattle.casa_plan.proofs.Members.{in_order_moved, standings_moved}
+use Rattle.casa_plan.specs.Rows.{row_as, flights_told}
+use Rattle.casa_list.proofs.Ordered.{in_order_moved}
+use Rattle.casa_plan.proofs.Members.{told_moved}
 
 -- a flight as it stands has the row that its stance gives it
 abbrev row_of : Sight → Listing → Comp × Standing → ListRow
@@ -38,10 +39,10 @@ rows_same : (v : Sight) (l : Listing) (es : List (Text × Stance)) → map (row_
 rows_same v l [] = refl
 rows_same v l (e ∷ es) = λ i. row_same v l e.0 e.1 i ∷ rows_same v l es i
 
-rows_moved : (v : Sight) (l : Listing) → AreInOrder l.flights → IsPermutation (map (λ (e : Text × Stance). row_shown v l e.0 e.1) l.flights) (map (row_of v l) (standings l))
+rows_moved : (v : Sight) (l : Listing) → AreInOrder l.flights → IsPermutation (map (λ (e : Text × Stance). row_shown v l e.0 e.1) l.flights) (map (row_of v l) (flights_told l))
 rows_moved v l sorted =
-    subst (λ (rows : List ListRow). IsPermutation rows (map (row_of v l) (standings l))) (rows_same v l l.flights)
-    (IsPermutation-map (row_of v l) _ _ (standings_moved l sorted))
+    subst (λ (rows : List ListRow). IsPermutation rows (map (row_of v l) (flights_told l))) (rows_same v l l.flights)
+    (IsPermutation-map (row_of v l) _ _ (told_moved l sorted))
 
 -- each row is that of the flight with its key
 abbrev IsOwn : Sight → Listing → ListRow → Type 0
@@ -64,10 +65,10 @@ tied_rows v l x y own other p q =
     same_Some x y (sym own ∙ ap (λ (k : Text). option_map (row_shown v l k) (stance_of l k)) same ∙ other)
 
 -- and the rows in their order are those that the list shows, in whichever order they were made
-pub rows_alike : (v : Sight) (l : Listing) → AreInOrder l.flights → sorted_by is_row_before (map (row_of v l) (standings l)) ≡ rows_shown v l
+pub rows_alike : (v : Sight) (l : Listing) → AreInOrder l.flights → sorted_by is_row_before (map (row_of v l) (flights_told l)) ≡ rows_shown v l
 rows_alike v l sorted =
     let shown : List ListRow = map (λ (e : Text × Stance). row_shown v l e.0 e.1) l.flights in
-    let told : List ListRow = map (row_of v l) (standings l) in
+    let told : List ListRow = map (row_of v l) (flights_told l) in
     let rows : List ListRow = sorted_by is_row_before told in
     let own : (row : ListRow) → Contains shown row → IsOwn v l row =
     λ row. All-contains (IsOwn v l) shown row (All-from_recursion (IsOwn v l) shown (rows_own v l l.flights (each_found l.flights sorted))) in

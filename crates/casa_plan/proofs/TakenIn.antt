@@ -2,7 +2,6 @@
 use Rattle.std.proofs.Common.{◌≡◌, ℕ, List, [], ◌∷◌, map, true, false, refl, sym, ap, ◌∙◌, Option, Some}
 use Rattle.std.specs.Option.{option_map_or}
 use Rattle.std.specs.List.{AllByRecursion, filter, fold}
-use Rattle.std.specs.Map.{keys_of}
 use Rattle.casa_grid.specs.declared.period.Period.{Period}
 use Rattle.casa_flight.specs.declared.comp.Comp.{Comp}
 use Rattle.casa_filing.specs.declared.regulation.Regulation.{Regulation}
@@ -21,10 +20,9 @@ use Rattle.casa_plan_spec.proofs.Entries.{entries_catalogue}
 use Rattle.casa_plan_spec.proofs.ListOver.{each_over}
 use Rattle.casa_plan_spec.proofs.Newcomers.{newcomers}
 use Rattle.casa_plan_spec.proofs.TakingIn.{values-by_id}
-use Rattle.casa_item.specs.declared.item.Item.{Item}
-use Rattle.casa_table.specs.Asking.{HaveRows}
-use Rattle.casa_item.specs.Versions.{row_of}
-use Rattle.casa_plan.specs.TakingIn.{stances_of}
+use Rattle.casa_table.specs.declared.asking.FlightOver.{FlightOver}
+use Rattle.casa_table.specs.Asking.{HaveRows, comps_of}
+use Rattle.casa_plan.specs.TakingIn.{member_of, stances_of}
 
 -- regulations are what is put under identifiers
 pub with_as : (all rs : List Regulation) (r : Regulation) → by_id all ≡ put (by_id rs) r.id r → all ≡ with_regulation r rs
@@ -52,19 +50,19 @@ taking_in_as v r profile clock rs over list sorted clock_is rs_is over_is list_i
     new_now : filter (λ (c : Comp). option_map_or (may_compete clock) (row_in v c.key) false) over ≡ flights_over (may_compete (clock_in v)) r v.rows
     new_now = (λ i. filter (λ (c : Comp). option_map_or (may_compete (clock_is i)) (row_in v c.key) false) (over_is i)) ∙ newcomers (row_in v) (may_compete (clock_in v)) r v.rows found
 
-module _ {V : Type 0} (item_of : V → Item) (v : Sight) where
+module _ (v : Sight) (id : Text) where
   -- a flight put by its key among others, as it stands by this row
-  abbrev with_stance : Text → List (Text × Stance) → Comp → Option Row → List (Text × Stance)
-  with_stance id es c row = option_map_or (λ (s : Stance). put es c.key s) (stance_by id c.eto row) es
+  abbrev with_stance : List (Text × Stance) → Comp → Option Row → List (Text × Stance)
+  with_stance es c row = option_map_or (λ (s : Stance). put es c.key s) (stance_by id c.eto row) es
 
-  stances_from : (id : Text) (es : List (Text × Stance)) (flights : List (Comp × V)) → HaveRows item_of v.rows flights
-      → fold (λ (es : List (Text × Stance)) (e : Comp × V). with_stance id es e.0 (row_of (item_of e.1))) es flights
-      ≡ fold (λ (es : List (Text × Stance)) (c : Comp). with_stance id es c (row_in v c.key)) es (keys_of flights)
-  stances_from id es [] h = refl
-  stances_from id es (e ∷ flights) h =
-      stances_from id (with_stance id es e.0 (row_of (item_of e.1))) flights h.1
-      ∙ ap (λ (row : Option Row). fold (λ (es : List (Text × Stance)) (c : Comp). with_stance id es c (row_in v c.key)) (with_stance id es e.0 row) (keys_of flights)) (sym h.0)
+  stances_from : (es : List (Text × Stance)) (flights : List FlightOver) → HaveRows v.rows flights
+      → fold (λ (es : List (Text × Stance)) (e : Text × Stance). put es e.0 e.1) es (map (member_of id) flights)
+      ≡ fold (λ (es : List (Text × Stance)) (c : Comp). with_stance es c (row_in v c.key)) es (comps_of flights)
+  stances_from es [] h = refl
+  stances_from es (f ∷ flights) h =
+      stances_from (put es f.comp.key (member_of id f).1) flights h.1
+      ∙ ap (λ (row : Option Row). fold (λ (es : List (Text × Stance)) (c : Comp). with_stance es c (row_in v c.key)) (with_stance es f.comp row) (comps_of flights)) (sym h.0)
 
-  -- so flights stand by the versions of their rows as by the rows that are shown
-  pub stances_shown : (id : Text) (flights : List (Comp × V)) → HaveRows item_of v.rows flights → stances_of item_of id flights ≡ stances_by id (row_in v) (keys_of flights)
-  stances_shown id flights h = stances_from id [] flights h
+  -- so flights stand by the rows that they have as by the rows that are shown
+  pub stances_shown : (flights : List FlightOver) → HaveRows v.rows flights → stances_of id flights ≡ stances_by id (row_in v) (comps_of flights)
+  stances_shown flights h = stances_from [] flights h

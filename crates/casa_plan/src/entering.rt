@@ -8,14 +8,13 @@ ghost use Rattle.casa_plan_spec.specs.Enter.{situation_with, with_reentry, with_
 
 use crate::one_flight::best_offer;
 use crate::shown::{Shown, row_with};
-use crate::write::write_flight;
+use crate::write::write_again;
 use casa_flight::{Comp, Key, Row};
 use casa_time::Moment;
 use casa_view::{Catalogue, Change, Crossings, Version};
 use std::alloc::{AllocError, Global};
 
-/// An ungoverned flight as it stands once it has entered, where these regulations are open. `AllocError` where there is no
-/// memory to work it out.
+/// An ungoverned flight as it stands once it has entered, where these regulations are open.
 fn row_after_entry<V: Version>(
     view: &Shown<V>,
     draft: &Change,
@@ -24,17 +23,17 @@ fn row_after_entry<V: Version>(
     key: Key,
     row: Row,
     over: &Crossings,
-) -> Result<Row, AllocError>
+) -> Row
     requires { over.now ≡ crossed row.plan _catalogue.now }
-    ensures { IfOk result (λ new. new ≡
-        row_after_entry (situation_with clock _catalogue.now view.now draft.now) key row) }
+    ensures { result ≡
+        row_after_entry (situation_with clock _catalogue.now view.now draft.now) key row }
 {
     if row.is_exempt() || row.plan.is_gone(clock) {
-        return Ok(row);
+        return row;
     }
-    match best_offer(view, draft, key, over)? {
-        Some(offer) => Ok(row.governed(clock, offer)),
-        None => Ok(row),
+    match best_offer(view, draft, key, over) {
+        Some(offer) => row.governed(clock, offer),
+        None => row,
     }
 }
 
@@ -59,8 +58,8 @@ pub(crate) fn reenter<V: Version>(
     };
     let row = row.ungoverned()?;
     let over = catalogue.crossed(alloc, &row.plan)?;
-    let new = row_after_entry(view, draft, clock, catalogue, key, row, &over)?;
-    write_flight(alloc, view, draft, key, Some(new), &over, &over)
+    let new = row_after_entry(view, draft, clock, catalogue, key, row, &over);
+    write_again(alloc, view, draft, key, Some(new), &over)
 }
 
 /// These flights enter one by one, where these regulations are open. `AllocError` where there is no memory for that.

@@ -6,18 +6,17 @@ ghost use Rattle.casa_time.specs.Moment.{last_moment};
 ghost use Rattle.casa_flight.specs.declared.comp.Comp.{Comp};
 ghost use Rattle.casa_flight.specs.Good.{AreInOrder};
 ghost use Rattle.casa_slots.specs.declared.standing.Standing.{Standing};
-ghost use Rattle.casa_list.specs.Standings.{standings};
 ghost use Rattle.casa_plan_spec.specs.Sight.{list_in, row_in};
 ghost use Rattle.casa_plan_spec.specs.Messages.{delay_by};
 ghost use Rattle.casa_plan_spec.specs.Look.{rows_shown, list_shown, list};
-ghost use Rattle.casa_plan.specs.Rows.{row_as};
+ghost use Rattle.casa_plan.specs.Rows.{row_as, flights_told};
 
 use crate::flight_reply::delay_shown;
 use crate::replies::{no_messages, refused};
 use crate::shown::Shown;
 use casa_flight::{
     Answer, Comp, Key, Kind, ListReply, ListRow, Refusal, RegId, Regulation, Reply, Rows, Shared,
-    SlotNumber, slot_number, sort_rows,
+    SlotNumber, Stance, slot_number, sort_rows,
 };
 use casa_list::{SlotList, Standing};
 use casa_view::{Change, Version};
@@ -64,23 +63,30 @@ fn row_shown<V: Version>(
     })
 }
 
-/// The flights of a list as it shows them, in the order in which they stand there. `AllocError` where there is no memory
-/// for them.
+/// The flights of a list as it shows them: those that it governs, in the order in which they stand there, and behind them
+/// the forced ones by key. `AllocError` where there is no memory for them.
 fn flights_shown<V: Version>(
     alloc: Global,
     view: &Shown<V>,
     list: &SlotList,
 ) -> Result<Vec<ListRow>, AllocError>
     ensures rows { IfOk result (λ rows. rows.items ≡
-        map (λ (f : Comp × Standing). row_as view.now list.now f.0 f.1) (standings list.now)) }
+        map (λ (f : Comp × Standing). row_as view.now list.now f.0 f.1)
+        (flights_told list.now)) }
     ensures keys { AreInOrder list.now.flights }
 {
-    let count = list.flights().len();
-    let mut rows = Vec::with_capacity(alloc, count)?;
-    for n in 0..count {
+    let mut rows = Vec::with_capacity(alloc, list.flights().len())?;
+    for n in 0..list.governed() {
         let (comp, standing) = list.nth(n).unwrap();
         let row = row_shown(view, list, comp, standing)?;
         rows.push(row)?;
+    }
+    for member in list.flights() {
+        if let Stance::Forced { eto } = member.stance() {
+            let key = member.key();
+            let row = row_shown(view, list, Comp { eto, key }, Standing::Forced)?;
+            rows.push(row)?;
+        }
     }
     Ok(rows)
 }

@@ -17,64 +17,58 @@ use casa_flight::{
     Answer, Comp, FlightReply, Key, Messages, Offer, Plan, Refusal, RegId, Reply, Row,
     more_penalising,
 };
-use casa_named::Few;
-use casa_stance::time_there;
 use casa_time::Moment;
 use casa_view::{Change, Crossings, Version};
 use std::alloc::{AllocError, Global};
 
 /// What the regulation with this identifier offers a flight with this time over, by the list that is written or else shown;
-/// `None` without a list. `AllocError` where there is no memory to work it out.
+/// `None` without a list.
 fn offer_of<V: Version>(
     view: &Shown<V>,
     draft: &Change,
     key: Key,
     id: RegId,
     eto: Moment,
-) -> Result<Option<Offer>, AllocError>
-    ensures { IfOk result (λ offer. offer ≡
-        offer_in id key (list_with view.now draft.now id) (Some eto)) }
+) -> Option<Offer>
+    ensures { result ≡ offer_in id key (list_with view.now draft.now id) (Some eto) }
 {
-    let Some(list) = view.list_with(draft, &id) else {
-        return Ok(None);
-    };
-    let cto = time_there(list, &Comp { eto, key })?;
-    Ok(Some(Offer::of(id, eto, cto)))
+    let list = view.list_with(draft, &id)?;
+    let cto = list.would_pass_anew(&Comp { eto, key });
+    Some(Offer::of(id, eto, cto))
 }
 
-/// The most penalising offer of these regulations. `AllocError` where there is no memory to work it out.
+/// The most penalising offer of these regulations.
 pub(crate) fn best_offer<V: Version>(
     view: &Shown<V>,
     draft: &Change,
     key: Key,
     over: &Crossings,
-) -> Result<Option<Offer>, AllocError>
-    ensures { IfOk result (λ best. best ≡
-        most_penalising (offers_of (list_with view.now draft.now) key over.now)) }
+) -> Option<Offer>
+    ensures { result ≡
+        most_penalising (offers_of (list_with view.now draft.now) key over.now) }
 {
     let mut best = None;
-    for (id, eto) in over.iter() {
-        if let Some(offer) = offer_of(view, draft, key, *id, *eto)? {
+    for (id, eto) in over.as_slice() {
+        if let Some(offer) = offer_of(view, draft, key, *id, *eto) {
             best = Some(more_penalising(best, offer));
         }
     }
-    Ok(best)
+    best
 }
 
 /// The offer that an ungoverned flight takes as it enters, of those of the regulations to which it is subject.
-/// `AllocError` where there is no memory to work it out.
 fn entry_offer<V: Version>(
     alloc: Global,
     view: &Shown<V>,
     key: Key,
     row: &Row,
     over: &Crossings,
-) -> Result<Option<Offer>, AllocError>
+) -> Option<Offer>
     requires { over.now ≡ crossed row.now.plan (regulations_in view.now) }
-    ensures { IfOk result (λ offer. offer ≡ entry_offer view.now key row.now) }
+    ensures { result ≡ entry_offer view.now key row.now }
 {
     if row.is_exempt() || row.plan.is_gone(view.clock()) {
-        return Ok(None);
+        return None;
     }
     best_offer(view, &Change::new(alloc), key, over)
 }
@@ -164,7 +158,7 @@ fn enter_flight<V: Version>(
     ensures { IfOk result (λ p. p ≡ enter_flight view.now key (option_copied was.entry) row) }
 {
     let has = view.crossed(alloc, &row.plan)?;
-    let offer = entry_offer(alloc, view, key, &row, &has)?;
+    let offer = entry_offer(alloc, view, key, &row, &has);
     take_offer(alloc, view, key, was, row, &offer, &has)
 }
 
@@ -223,7 +217,7 @@ pub(crate) fn cancel<V: Version>(
         return Ok(refused(alloc, Refusal::NoFlight));
     };
     let messages = Messages::from_vec(Vec::new(alloc))?;
-    let has = Few::new(alloc);
+    let has = Crossings::new(alloc);
     let draft = flight_written(alloc, view, key, Some(row), None, &has)?;
     Ok((Reply::Answered(Answer::Done, messages), draft))
 }
@@ -266,7 +260,7 @@ pub(crate) fn revise<V: Version>(
     }
     let free = row.ungoverned()?;
     let has = view.crossed(alloc, &free.plan)?;
-    let offer = entry_offer(alloc, view, key, &free, &has)?;
+    let offer = entry_offer(alloc, view, key, &free, &has);
     if is_taken(view, key, row, &offer) {
         take_offer(alloc, view, key, Some(row), free, &offer, &has)
     } else {

@@ -1,25 +1,23 @@
 //! What a view shows to a planner, alone or with a change laid over it.
 
 ghost use Rattle.std.specs.Prelude.{◌≡◌, [], true, IfOk, unwrap_or};
-ghost use Rattle.std.specs.Map.{keys_of};
 ghost use Rattle.std.specs.Option.{option_copied};
 ghost use Rattle.casa_flight.specs.declared.row.Row.{Row};
 ghost use Rattle.casa_flight.specs.Good.{AreInOrder};
 ghost use Rattle.casa_flight.specs.Steps.{flights_over};
 ghost use Rattle.casa_filing.specs.Text.{at_name};
 ghost use Rattle.casa_footprint.specs.Finding.{by_id, crossed, due_keys};
-ghost use Rattle.casa_table.specs.Asking.{HaveRows};
+ghost use Rattle.casa_table.specs.Asking.{HaveRows, comps_of};
 ghost use Rattle.casa_view.specs.Shown.{HasRowsInOrder};
 ghost use Rattle.casa_plan_spec.specs.Sight.{clock_in, regulations_in, row_in, list_in, list_with};
 ghost use Rattle.casa_plan.specs.Seen.{sight};
 
-use casa_flight::{Comp, Key, Plan, RegId, Regulation, Row};
+use casa_flight::{Key, Plan, RegId, Regulation, Row};
 use casa_list::{SharedList, SlotList};
 use casa_named::Few;
 use casa_time::Moment;
-use casa_view::{Catalogue, Change, Crossings, Version, View};
+use casa_view::{Catalogue, Change, Crossings, FlightOver, Version, View};
 use std::alloc::{AllocError, Global};
-use std::collections::BTreeMap;
 use std::marker::Model;
 
 /// What the view of a call shows to its planner.
@@ -96,9 +94,9 @@ impl<'a, V: Version> Shown<'a, V> {
     pub(crate) fn crossed(&self, alloc: Global, plan: &Plan) -> Result<Crossings, AllocError>
         ensures { IfOk result (λ found. found ≡ crossed plan.now (regulations_in self.now)) }
     {
-        match self.view.catalogue() {
+        match self.view.catalogue_seen() {
             Some(catalogue) => catalogue.crossed(alloc, plan),
-            None => Ok(Few::new(alloc)),
+            None => Ok(Crossings::new(alloc)),
         }
     }
 
@@ -141,16 +139,16 @@ impl<'a, V: Version> Shown<'a, V> {
         self.view.due(alloc, at)
     }
 
-    /// The flights that are subject to a regulation, by time over and key, with the versions of their rows. `AllocError`
-    /// where there is no memory for them.
+    /// The flights that are subject to a regulation, by time over and key, with their rows. `AllocError` where there is no
+    /// memory for them.
     pub(crate) fn flights_over(
         &self,
         alloc: Global,
         regulation: &Regulation,
-    ) -> Result<BTreeMap<Comp, V>, AllocError>
-        ensures over { IfOk result (λ flights. keys_of flights.entries ≡
+    ) -> Result<Vec<FlightOver<'a>>, AllocError>
+        ensures over { IfOk result (λ flights. comps_of flights.items ≡
             flights_over (λ (row : Row). true) regulation.now self.now.rows) }
-        ensures rows { IfOk result (λ flights. HaveRows V.item_of self.now.rows flights.entries) }
+        ensures rows { IfOk result (λ flights. HaveRows self.now.rows flights.items) }
         ensures ordered { AreInOrder self.now.rows }
     {
         self.view.flights_over(alloc, regulation)

@@ -6,14 +6,13 @@ ghost use Rattle.casa_flight.specs.Listing.{Listing};
 ghost use Rattle.casa_filing.specs.Text.{without};
 ghost use Rattle.casa_filing.specs.declared.regulation.Regulation.{Regulation};
 ghost use Rattle.casa_flight.specs.Good.{AreInOrder};
-ghost use Rattle.casa_plan_spec.specs.Sight.{regulations_in, list_with};
+ghost use Rattle.casa_plan_spec.specs.Sight.{Sight, regulations_in, list_with};
 ghost use Rattle.casa_plan_spec.specs.Write.{with_flight, with_stances, crossed_by, stances_gone, stances_now, write_flight};
 ghost use Rattle.casa_plan_spec.specs.OneFlight.{flight_written};
 
 use crate::shown::Shown;
 use casa_flight::{Key, RegId, Row, Stance};
 use casa_list::SharedList;
-use casa_named::Few;
 use casa_stance::with_flight;
 use casa_view::{Change, Crossings, Version};
 use std::alloc::{AllocError, Global};
@@ -62,6 +61,17 @@ fn stood(
     }
 }
 
+/// Whether a flight stands so already, or not at all, in a list as it is written.
+fn stands_so(draft: &Change, key: &Key, id: &RegId, stance: &Option<Stance>) -> bool
+    ensures { result ≡ true → (v : Sight) →
+        with_stances v key.now draft.now.lists ((id.now, stance.now) ∷ []) ≡ draft.now.lists }
+{
+    match draft.lists().get(id) {
+        Some(Some(shared)) => shared.list().stance_of(key) == *stance,
+        _ => false,
+    }
+}
+
 /// Has a flight stand so in a list, or not at all. `AllocError` where there is no memory for the list.
 pub(crate) fn stand<V: Version>(
     alloc: Global,
@@ -75,6 +85,9 @@ pub(crate) fn stand<V: Version>(
       lists = with_stances view.now key draft.old.lists ((id, stance) ∷ []);
     }) }
 {
+    if stands_so(draft, &key, &id, &stance) {
+        return Ok(());
+    }
     let list = take_shared(view, draft, &id)?;
     let list = stood(alloc, list, key, stance)?;
     draft.set_list(id, list)
@@ -93,8 +106,8 @@ fn leave_lists<V: Version>(
       lists = with_stances view.now key draft.old.lists (stances_gone had.now has.now);
     }) }
 {
-    for (id, _) in had.iter() {
-        if has.get(id).is_none() {
+    for (id, _) in had.as_slice() {
+        if !has.contains(id) {
             stand(alloc, view, draft, key, *id, None)?;
         }
     }
@@ -111,15 +124,17 @@ fn stand_in_lists<V: Version>(
     now: Option<&Row>,
     has: &Crossings,
 ) -> Result<(), AllocError>
-    ensures { OnOk result (draft.new ≡ record draft.old {
+    ensures stands { OnOk result (draft.new ≡ record draft.old {
       lists = with_stances view.now key draft.old.lists
           (stances_now (option_copied now.entry) has.now);
     }) }
+    ensures ordered { AreInOrder has.now }
 {
+    let over = has.as_slice();
     let Some(row) = now else {
         return Ok(());
     };
-    for (id, eto) in has.iter() {
+    for (id, eto) in over {
         let stance = Stance::of(row.is_governed_by(*id), row.issued, *eto);
         stand(alloc, view, draft, key, *id, Some(stance))?;
     }
@@ -145,6 +160,23 @@ pub(crate) fn write_flight<V: Version>(
     draft.set_row(key, now)
 }
 
+/// Writes a flight that crosses the regulations that it crossed: its row, or that there is none, and in each of their lists
+/// how it stands. `AllocError` where there is no memory for that.
+pub(crate) fn write_again<V: Version>(
+    alloc: Global,
+    view: &Shown<V>,
+    draft: &mut Change,
+    key: Key,
+    now: Option<Row>,
+    has: &Crossings,
+) -> Result<(), AllocError>
+    ensures { OnOk result (draft.new ≡ write_flight view.now draft.old key now
+        (stances_gone has.now has.now ++ stances_now now has.now)) }
+{
+    stand_in_lists(alloc, view, draft, key, now.as_ref(), has)?;
+    draft.set_row(key, now)
+}
+
 /// The regulations to which a flight is subject, if there is a flight. `AllocError` where there is no memory for them.
 fn crossed_by<V: Version>(
     alloc: Global,
@@ -156,7 +188,7 @@ fn crossed_by<V: Version>(
 {
     match row {
         Some(row) => view.crossed(alloc, &row.plan),
-        None => Ok(Few::new(alloc)),
+        None => Ok(Crossings::new(alloc)),
     }
 }
 
@@ -187,7 +219,7 @@ pub(crate) fn flight_written<V: Version>(
 {
     let mut draft = Change::new(alloc);
     if keeps_plan(was, &now) {
-        write_flight(alloc, view, &mut draft, key, now, has, has)?;
+        write_again(alloc, view, &mut draft, key, now, has)?;
         return Ok(draft);
     }
     let had = crossed_by(alloc, view, was)?;

@@ -43,7 +43,7 @@ row_under {V} item_of q es h = at-kept (λ (v : V). row_of (item_of v)) q es h
 module _ {X Y : Type 0} (f : X → Option Y) (ws : List (Text × Option X)) (es : List (Text × X)) (ks : List Text)
     (sorted : AreInOrder es)
     (found : (q : Text) (y : Y) → option_and_then f (at_name es q) ≡ Some y → is_named ks q ≡ true) where
-  all_found : AreFound f (with_changes ws es) (keys_of ws ++ ks)
+  pub all_found : AreFound f (with_changes ws es) (keys_of ws ++ ks)
   all_found q y h =
       list_any-append (λ (k : Text). is_eq (text_cmp q k)) (keys_of ws) ks ∙ by (is_named (keys_of ws) q) refl
     where

@@ -7,6 +7,8 @@ pub mod NotedFlights
 pub mod LaidFound
 pub mod Sequence
 pub mod Sealed
-pub mod Named
+pub mod Behind
+pub mod Once
+pub mod FoundOver
 pub mod Placed
 pub mod Answered

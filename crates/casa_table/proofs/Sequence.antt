@@ -1,15 +1,14 @@
--- flights put one by one into a set are in the order in which they are planned
-use Rattle.std.proofs.Common.{◌≡◌, ℕ, List, [], ◌∷◌, map, Bool, true, false, ◌||◌, ◌&&◌, ◌==◌, nat_lt, refl, sym, ap}
-use Rattle.std.proofs.Common.{◌∙◌, Option, None, Some, arith}
+-- flights in their order, each once, are those that are subject to a regulation, in the order in which they are planned
+use Rattle.std.proofs.Common.{◌≡◌, ◌↔◌, ℕ, ◌<◌, List, [], ◌∷◌, length, Bool, true, false, ◌||◌, ◌&&◌, ◌==◌, nat_lt, refl, sym, ap}
+use Rattle.std.proofs.Common.{◌∙◌, Option, None, Some, arith, subst, get_or, zero, suc, ◌⊎◌, inl, inr}
 use Rattle.std.specs.declared.cmp.Ordering.{Ordering}
 use Rattle.std.specs.declared.cmp.Ordering.TheVariants.{Less, Equal, Greater}
-use Rattle.std.specs.Ordering.{is_eq, is_lt, nat_cmp, ordering_then, ordering_reverse, match_ordering}
-use Rattle.std.specs.Option.{option_map}
-use Rattle.std.specs.List.{AllByRecursion, fold, filter_map, cons_option}
+use Rattle.std.specs.Ordering.{is_eq, is_lt, nat_cmp, ordering_then}
+use Rattle.std.specs.Option.{option_map, option_map_or, option_and_then}
+use Rattle.std.specs.List.{AllByRecursion, AllPairs, Contains, cons_option}
 use Rattle.std.specs.List.Sorted.{IsStrictlySortedBy}
-use Rattle.std.specs.BTreeSet.{insert_key}
-use Rattle.std.specs.BTreeMap.{insert_entry}
-use Rattle.std.proofs.lemmas.Cmp.{nat_list_cmp_total}
+use Rattle.std.proofs.lemmas.Bool.{both_ways}
+use Rattle.std.proofs.lemmas.List.Elements.{All-contains, All-from_recursion, recursion_from_All}
 use Rattle.casa_flight.specs.declared.comp.Comp.{Comp}
 use Rattle.casa_flight.specs.contracts.comp.CompOrd.TheImpl.{ghosts as sequence}
 use Rattle.casa_filing.specs.declared.regulation.Regulation.{Regulation}
@@ -18,26 +17,14 @@ use Rattle.casa_filing.specs.Text.{Text, at_name}
 use Rattle.casa_flight.specs.Good.{AreInOrder}
 use Rattle.casa_filing.specs.Subject.{subject}
 use Rattle.casa_flight.specs.Steps.{flights_over}
-use Rattle.casa_flight.specs.Listing.{filter_map_values, sorted_by, insert_sorted, is_before}
+use Rattle.casa_flight.specs.Listing.{is_before}
 use Rattle.casa_filing.proofs.Entries.{text_cmp, same_name}
-use Rattle.casa_laws.proofs.Competitors.{less_apart, before_one_way}
-use Rattle.casa_flight.proofs.PutBy.{put_later, put_first, all-put_by}
-use Rattle.std.specs.Map.{keys_of}
-use Rattle.casa_item.specs.declared.item.Item.{Item}
-use Rattle.casa_item.specs.Versions.{row_of}
-use Rattle.casa_table.specs.Passing.{over_row, comps}
-use Rattle.casa_table.specs.Asking.{times, HaveRows, with_flight}
-
-abbrev comp_of : Text × ℕ → Comp
-comp_of e = record { eto = e.1; key = e.0 }
-
--- flights by time over and key, put one by one into a set
-abbrev pub inserted : List Comp → List (Text × ℕ) → List Comp
-inserted comps [] = comps
-inserted comps (e ∷ es) = inserted (insert_key sequence.cmp comps (comp_of e)) es
-
-abbrev HasOther : Text → Comp → Type 0
-HasOther key c = c.key ≡ key → ⊥
+use Rattle.casa_flight.proofs.PutBy.{PairsByRecursion}
+use Rattle.casa_laws.proofs.Competitors.{before_one_way}
+use Rattle.casa_laws.proofs.Planned.{over_who, over_order}
+use Rattle.casa_item.specs.Gathered.{is_named}
+use Rattle.casa_table.specs.Passing.{over_row}
+use Rattle.casa_table.specs.Asking.{comp_over, comps_under}
 
 or_true : (b : Bool) → (b || true) ≡ true
 or_true true = refl
@@ -55,145 +42,150 @@ less_before x y Equal Equal p q h = cc
 less_before x y Equal Greater p q h = cc
 less_before x y Greater b p q h = cc
 
-greater_before : (x y : Comp) (a b : Ordering) → nat_cmp x.eto y.eto ≡ a → text_cmp x.key y.key ≡ b
-    → ordering_then a b ≡ Greater → is_before y x ≡ true
-greater_before x y Greater b p q h =
-    let less : nat_lt y.eto x.eto ≡ true = grind (arith, p) in
-    ap (λ t. t || ((y.eto == x.eto) && is_lt (text_cmp y.key x.key))) less
-greater_before x y Equal Greater p q h =
-    let same : (y.eto == x.eto) ≡ true = grind (arith, p) in
-    let less : text_cmp y.key x.key ≡ Less = nat_list_cmp_total.antisymm y.key x.key ∙ ap ordering_reverse q in
-    (λ i. nat_lt y.eto x.eto || (same i && is_lt (less i))) ∙ or_true (nat_lt y.eto x.eto)
-greater_before x y Equal Equal p q h = cc
-greater_before x y Equal Less p q h = cc
-greater_before x y Less b p q h = cc
+abbrev IsBefore : Comp → Comp → Type 0
+IsBefore a b = is_before a b ≡ true
 
-not_tied : (x y : Comp) (a b : Ordering) → nat_cmp x.eto y.eto ≡ a → text_cmp x.key y.key ≡ b
-    → ordering_then a b ≡ Equal → HasOther x.key y → ⊥
-not_tied x y Equal Equal p q h other = other (sym (same_name x.key y.key (ap is_eq q)))
-not_tied x y Equal Less p q h other = cc
-not_tied x y Equal Greater p q h other = cc
-not_tied x y Less b p q h other = cc
-not_tied x y Greater b p q h other = cc
+all_before : (x : Comp) (ys : List Comp) → AllByRecursion (λ (y : Comp). sequence.cmp x y ≡ Less) ys
+    → AllByRecursion (IsBefore x) ys
+all_before x [] h = tt
+all_before x (y ∷ ys) h =
+    (less_before x y (nat_cmp x.eto y.eto) (text_cmp x.key y.key) refl refl h.0, all_before x ys h.1)
 
-insert_put : (x : Comp) (ys : List Comp) → AllByRecursion (HasOther x.key) ys
-    → insert_key sequence.cmp ys x ≡ insert_sorted is_before x ys
-insert_put x [] other = refl
-insert_put x (y ∷ ys) other =
-    elim (sequence.cmp x y) as (λ r. sequence.cmp x y ≡ r
-    → match_ordering r (x ∷ y ∷ ys) (y ∷ ys) (y ∷ insert_key sequence.cmp ys x) ≡ insert_sorted is_before x (y ∷ ys)) [
-      | Less ↦ λ t. sym
-          (put_first is_before x y ys
-          (before_one_way x y (less_before x y (nat_cmp x.eto y.eto) (text_cmp x.key y.key) refl refl t)))
-      | Equal ↦ λ t. absurd (not_tied x y (nat_cmp x.eto y.eto) (text_cmp x.key y.key) refl refl t other.0)
-      | Greater ↦ λ t. ap (λ zs. y ∷ zs) (insert_put x ys other.1)
-          ∙ sym (put_later is_before x y ys
-          (greater_before x y (nat_cmp x.eto y.eto) (text_cmp x.key y.key) refl refl t))
-    ] refl
+pairs_before : (cs : List Comp) → IsStrictlySortedBy sequence.cmp cs → PairsByRecursion IsBefore cs
+unfolding IsStrictlySortedBy
+pairs_before [] h = tt
+pairs_before (c ∷ cs) h = (all_before c cs h.0, pairs_before cs h.1)
 
--- no flight of these has a key of those
-abbrev AreOther : List Comp → List (Text × ℕ) → Type 0
-AreOther comps es = AllByRecursion (λ (e : Text × ℕ). AllByRecursion (HasOther e.0) comps) es
-
-still_other : (x : Text × ℕ) (comps : List Comp) (es : List (Text × ℕ))
-    → AllByRecursion (λ y. text_cmp x.0 y ≡ Less) (keys_of es) → AreOther comps es
-    → AreOther (insert_sorted is_before (comp_of x) comps) es
-still_other x comps [] above h = tt
-still_other x comps (e ∷ es) above h = (
-  all-put_by (HasOther e.0) is_before (comp_of x) (less_apart x.0 e.0 above.0) comps h.0,
-  still_other x comps es above.1 h.1,
+recursion_from_pairs : {X : Type 0} (R : X → X → Type 0) (xs : List X) → AllPairs R xs → PairsByRecursion R xs
+recursion_from_pairs R [] h = tt
+recursion_from_pairs R (x ∷ xs) h = (
+  recursion_from_All (R x) xs (λ k d lt. h 0 (suc k) d (omega arith) (omega arith)),
+  recursion_from_pairs R xs (λ i j d lt within. h (suc i) (suc j) d (omega arith) (omega arith)),
 )
 
-inserted_is : (es : List (Text × ℕ)) (comps : List Comp) → AreInOrder es → AreOther comps es
-    → inserted comps es ≡ fold (λ (ys : List Comp) (x : Comp). insert_sorted is_before x ys) comps (map comp_of es)
-unfolding IsStrictlySortedBy
-inserted_is [] comps sorted other = refl
-inserted_is (e ∷ es) comps sorted other =
-    ap (λ (cs : List Comp). inserted cs es) (insert_put (comp_of e) comps other.0)
-    ∙ inserted_is es (insert_sorted is_before (comp_of e) comps) sorted.1 (still_other e comps es sorted.0 other.1)
+-- an element is the first, or behind it
+first : {X : Type 0} (x : X) (xs : List X) → Contains (x ∷ xs) x
+first x xs = (0, omega arith, refl)
 
-none_there : (es : List (Text × ℕ)) → AreOther [] es
-none_there [] = tt
-none_there (e ∷ es) = (tt, none_there es)
+behind : {X : Type 0} (x : X) (xs : List X) (c : X) → Contains xs c → Contains (x ∷ xs) c
+behind x xs c h = (suc h.0, omega (arith, h.1), h.2)
 
-comps_are : (r : Regulation) (rows : List (Text × Row)) → map comp_of (filter_map_values (over_row r) rows)
-    ≡ filter_map
-    (λ (e : Text × Row). option_map (λ (eto : ℕ). record { eto = eto; key = e.0 }) (subject e.1.plan r)) rows
-comps_are r [] = refl
-comps_are r (e ∷ es) =
-    both (subject e.1.plan r) e.0 (filter_map_values (over_row r) es) _ (comps_are r es)
+either : {X : Type 0} (x : X) (xs : List X) (c : X) → Contains (x ∷ xs) c → (x ≡ c) ⊎ Contains xs c
+either {X} x xs c h = by h.0 h.1 h.2
   where
-    both : (o : Option ℕ) (key : Text) (found : List (Text × ℕ)) (comps : List Comp) → map comp_of found ≡ comps
-        → map comp_of (cons_option (option_map (λ (t : ℕ). (key, t)) o) found)
-        ≡ cons_option (option_map (λ (eto : ℕ). record { eto = eto; key = key }) o) comps
-    both None key found comps h = h
-    both (Some t) key found comps h = ap (λ (cs : List Comp). record { eto = t; key = key } ∷ cs) h
+    by : (k : ℕ) → k < length (x ∷ xs) → get_or (x ∷ xs) k c ≡ c → (x ≡ c) ⊎ Contains xs c
+    by zero lt is = inl is
+    by (suc k) lt is = inr (k, omega arith, is)
 
-pub set_in_order : (es : List (Text × ℕ)) → AreInOrder es → inserted [] es ≡ sorted_by is_before (comps es)
-set_in_order es sorted = inserted_is es [] sorted (none_there es)
+none : {X : Type 0} (c : X) → Contains [] c → ⊥
+none c h = let lt : h.0 < 0 = h.1 in omega arith
 
-pub sequence_is : (r : Regulation) (rows : List (Text × Row))
-    → sorted_by is_before (comps (filter_map_values (over_row r) rows)) ≡ flights_over (λ (row : Row). true) r rows
-sequence_is r rows = ap (sorted_by is_before) (comps_are r rows)
+later_before : (x : Comp) (xs : List Comp) (c : Comp) → AllByRecursion (IsBefore x) xs → Contains xs c → IsBefore x c
+later_before x xs c h there = All-contains (IsBefore x) xs c (All-from_recursion (IsBefore x) xs h) there
 
--- times are in the order of what they are the times of
-above-times : {V : Type 0} (k : Text) (found : List (Text × (ℕ × V)))
-    → AllByRecursion (λ y. text_cmp k y ≡ Less) (keys_of found)
-    → AllByRecursion (λ y. text_cmp k y ≡ Less) (keys_of (times found))
-above-times k [] h = tt
-above-times k (e ∷ found) h = (h.0, above-times k found h.1)
-
-pub sorted-times : {V : Type 0} (found : List (Text × (ℕ × V))) → AreInOrder found → AreInOrder (times found)
-unfolding IsStrictlySortedBy
-sorted-times [] h = tt
-sorted-times (e ∷ found) h = (above-times e.0 found h.0, sorted-times found h.1)
-
--- the keys of a map with one entry more
-keys-insert : {V : Type 0} (c : Comp) (v : V) (es : List (Comp × V))
-    → keys_of (insert_entry sequence.cmp es c v) ≡ insert_key sequence.cmp (keys_of es) c
-keys-insert c v [] = refl
-keys-insert {V} c v (e ∷ es) =
-    elim (sequence.cmp c e.0) as (λ o. keys_of (match_ordering o ((c, v) ∷ e ∷ es) ((e.0, v) ∷ es) (e ∷ insert_entry sequence.cmp es c v))
-    ≡ match_ordering o (c ∷ e.0 ∷ keys_of es) (e.0 ∷ keys_of es) (e.0 ∷ insert_key sequence.cmp (keys_of es) c)) [
-      | Less ↦ refl
-      | Equal ↦ refl
-      | Greater ↦ ap (λ (cs : List Comp). e.0 ∷ cs) (keys-insert c v es)
-    ]
-
--- with one flight more, each has a version of its row still
-rows-insert : {V : Type 0} (item_of : V → Item) (rows : List (Text × Row)) (c : Comp) (v : V) (es : List (Comp × V))
-    → at_name rows c.key ≡ row_of (item_of v) → HaveRows item_of rows es
-    → HaveRows item_of rows (insert_entry sequence.cmp es c v)
-rows-insert item_of rows c v [] new h = (new, tt)
-rows-insert {V} item_of rows c v (e ∷ es) new h =
-    elim (sequence.cmp c e.0) as (λ o. sequence.cmp c e.0 ≡ o
-    → HaveRows item_of rows (match_ordering o ((c, v) ∷ e ∷ es) ((e.0, v) ∷ es) (e ∷ insert_entry sequence.cmp es c v))) [
-      | Less ↦ λ t. (new, h)
-      | Equal ↦ λ t. (
-        ap (at_name rows) (same_key (nat_cmp c.eto e.0.eto) (text_cmp c.key e.0.key) refl t) ∙ new,
-        h.1,
-      )
-      | Greater ↦ λ t. (h.0, rows-insert item_of rows c v es new h.1)
-    ] refl
+-- lists in order with the same elements are the same
+same_members : (xs ys : List Comp) → PairsByRecursion IsBefore xs → PairsByRecursion IsBefore ys
+    → ((c : Comp) → Contains xs c → Contains ys c) → ((c : Comp) → Contains ys c → Contains xs c) → xs ≡ ys
+same_members [] [] p q f g = refl
+same_members [] (y ∷ ys) p q f g = absurd (none y (g y (first y ys)))
+same_members (x ∷ xs) [] p q f g = absurd (none x (f x (first x xs)))
+same_members (x ∷ xs) (y ∷ ys) p q f g =
+    let head : x ≡ y = heads (either y ys x (f x (first x xs))) (either x xs y (g y (first y ys))) in
+    let tails : xs ≡ ys =
+    same_members xs ys p.1 q.1 (λ c h. rest y x xs ys c (sym head) p.0 h (either y ys c (f c (behind x xs c h))))
+    (λ c h. rest x y ys xs c head q.0 h (either x xs c (g c (behind y ys c h)))) in
+    λ i. head i ∷ tails i
   where
-    same_key : (a b : Ordering) → text_cmp c.key e.0.key ≡ b → ordering_then a b ≡ Equal → e.0.key ≡ c.key
-    same_key Equal Equal q t = sym (same_name c.key e.0.key (ap is_eq q))
-    same_key Equal Less q t = cc
-    same_key Equal Greater q t = cc
-    same_key Less b q t = cc
-    same_key Greater b q t = cc
+    heads : (y ≡ x) ⊎ Contains ys x → (x ≡ y) ⊎ Contains xs y → x ≡ y
+    heads (inl e) w = sym e
+    heads (inr h) (inl e) = e
+    heads (inr h) (inr k) =
+        absurd (both_ways _ (before_one_way x y (later_before x xs y p.0 k)) (later_before y ys x q.0 h))
 
--- what is left to put in once a flight is put in, if it answers
-pub one_put : {V : Type 0} (flights : List (Comp × V)) (key : Text) (answer : Option (ℕ × V)) (rest : List (Text × ℕ))
-    → inserted (keys_of (with_flight flights key answer)) rest
-    ≡ inserted (keys_of flights) (cons_option (option_map (λ (a : ℕ × V). (key, a.0)) answer) rest)
-one_put flights key None rest = refl
-one_put flights key (Some a) rest =
-    ap (λ (cs : List Comp). inserted cs rest) (keys-insert (record { eto = a.0; key = key }) a.1 flights)
+    rest : (a b : Comp) (bs cs : List Comp) (c : Comp) → a ≡ b → AllByRecursion (IsBefore b) bs → Contains bs c
+        → (a ≡ c) ⊎ Contains cs c → Contains cs c
+    rest a b bs cs c same above h (inr k) = k
+    rest a b bs cs c same above h (inl e) =
+        let less : IsBefore c c = subst (λ (d : Comp). IsBefore d c) (sym same ∙ e) (later_before b bs c above h) in
+        absurd (both_ways _ (before_one_way c c less) less)
 
-pub rows_put : {V : Type 0} (item_of : V → Item) (rows : List (Text × Row)) (flights : List (Comp × V)) (key : Text)
-    (answer : Option (ℕ × V)) → ((a : ℕ × V) → answer ≡ Some a → at_name rows key ≡ row_of (item_of a.1))
-    → HaveRows item_of rows flights → HaveRows item_of rows (with_flight flights key answer)
-rows_put item_of rows flights key None new h = h
-rows_put item_of rows flights key (Some a) new h =
-    rows-insert item_of rows (record { eto = a.0; key = key }) a.1 flights (new a refl) h
+abbrev comp_at : Text → ℕ → Comp
+comp_at key eto = record { eto = eto; key = key }
+
+-- who is subject to a regulation, of the flights with some keys
+module _ (r : Regulation) (rows : List (Text × Row)) where
+  abbrev IsOver : Comp → Type 0
+  IsOver c = comp_over r c.key (at_name rows c.key) ≡ Some c
+
+  its_key : (key : Text) (row : Option Row) (c : Comp) → comp_over r key row ≡ Some c → c.key ≡ key
+  its_key key row c h = by (option_and_then (over_row r) row) h
+    where
+      by : (o : Option ℕ) → option_map (comp_at key) o ≡ Some c → c.key ≡ key
+      by None h = cc
+      by (Some eto) h = sym (ap (λ (w : Option Comp). option_map_or (λ (d : Comp). d.key) w key) h)
+
+  each_over : (keys : List Text) → AllByRecursion IsOver (comps_under r rows keys)
+  each_over [] = tt
+  each_over (k ∷ keys) =
+      elim (comp_over r k (at_name rows k)) as (λ (o : Option Comp). comp_over r k (at_name rows k) ≡ o
+      → AllByRecursion IsOver (cons_option o (comps_under r rows keys))) [
+        | None ↦ λ t. each_over keys
+        | Some c ↦ λ t. (
+          subst (λ (q : Text). comp_over r q (at_name rows q) ≡ Some c) (sym (its_key k (at_name rows k) c t)) t,
+          each_over keys,
+        )
+      ] refl
+
+  named_over : (keys : List Text) (c : Comp) → is_named keys c.key ≡ true → IsOver c → Contains (comps_under r rows keys) c
+  named_over [] c named over = cc
+  named_over (k ∷ keys) c named over =
+      elim (is_eq (text_cmp c.key k)) as (λ b. is_eq (text_cmp c.key k) ≡ b → (b || is_named keys c.key) ≡ true
+      → Contains (comps_under r rows (k ∷ keys)) c) [
+        | true ↦ λ t h.
+            let its : comp_over r k (at_name rows k) ≡ Some c =
+            subst (λ (q : Text). comp_over r q (at_name rows q) ≡ Some c) (same_name c.key k t) over in
+            subst (λ (o : Option Comp). Contains (cons_option o (comps_under r rows keys)) c) (sym its)
+            (first c (comps_under r rows keys))
+        | false ↦ λ t h. further (comp_over r k (at_name rows k)) (named_over keys c h over)
+      ] refl named
+    where
+      further : (o : Option Comp) → Contains (comps_under r rows keys) c
+          → Contains (cons_option o (comps_under r rows keys)) c
+      further None h = h
+      further (Some d) h = behind d (comps_under r rows keys) c h
+
+  abbrev IsThere : Comp → Type 0
+  IsThere c = (row : Row) × (at_name rows c.key ≡ Some row) × (true ≡ true) × (subject row.plan r ≡ Some c.eto)
+
+  there_over : (c : Comp) → IsThere c → IsOver c
+  there_over c h =
+      ap (comp_over r c.key) h.1 ∙ ap (option_map (comp_at c.key)) h.3
+
+  over_there : (c : Comp) → IsOver c → IsThere c
+  over_there c h = by (at_name rows c.key) refl h
+    where
+      time : (o : Option ℕ) → option_map (comp_at c.key) o ≡ Some c → o ≡ Some c.eto
+      time None h = cc
+      time (Some eto) h = ap (option_map (λ (d : Comp). d.eto)) h
+
+      by : (o : Option Row) → at_name rows c.key ≡ o → comp_over r c.key o ≡ Some c → IsThere c
+      by None found h = cc
+      by (Some row) found h = (row, found, refl, time (subject row.plan r) h)
+
+  over_named : (c : Comp) → IsOver c → option_and_then (over_row r) (at_name rows c.key) ≡ Some c.eto
+  over_named c h = let k = over_there c h in ap (option_and_then (over_row r)) k.1 ∙ k.3
+
+  -- so these are all, where no key is left out of a flight that is subject to the regulation
+  pub over_is : (keys : List Text) (cs : List Comp) → AreInOrder rows
+      → ((q : Text) (y : ℕ) → option_and_then (over_row r) (at_name rows q) ≡ Some y → is_named keys q ≡ true)
+      → IsStrictlySortedBy sequence.cmp cs
+      → ((c : Comp) → Contains cs c ↔ Contains (comps_under r rows keys) c)
+      → cs ≡ flights_over (λ (row : Row). true) r rows
+  over_is keys cs sorted found ordered same =
+      same_members cs (flights_over (λ (row : Row). true) r rows) (pairs_before cs ordered)
+      (recursion_from_pairs IsBefore (flights_over (λ (row : Row). true) r rows) (over_order (λ (row : Row). true) r rows sorted))
+      (λ c h. (over_who (λ (row : Row). true) r rows c sorted).1
+      (over_there c (All-contains IsOver (comps_under r rows keys) c (All-from_recursion IsOver (comps_under r rows keys) (each_over keys)) ((same c).0 h))))
+      (λ c h.
+      let over : IsOver c = there_over c ((over_who (λ (row : Row). true) r rows c sorted).0 h) in
+      (same c).1 (named_over keys c (found c.key c.eto (over_named c over)) over))

@@ -1,44 +1,37 @@
--- inner contracts: what rows of flights answer, found by their keys
-use Rattle.std.specs.Prelude.{◌≡◌, ℕ, List, map, Option, None, Some}
+-- inner contracts: which flights are due, and which are subject to a regulation, as they are found by their keys
+use Rattle.std.specs.Prelude.{◌≡◌, ℕ, List, ◌++◌, map, Option, Some}
 use Rattle.std.specs.Option.{option_map, option_and_then}
-use Rattle.std.specs.List.{AllByRecursion}
-use Rattle.std.specs.BTreeMap.{insert_entry}
+use Rattle.std.specs.List.{AllByRecursion, filter_map}
 use Rattle.casa_flight.specs.declared.comp.Comp.{Comp}
-use Rattle.casa_flight.specs.contracts.comp.CompOrd.TheImpl.{ghosts as sequence}
+use Rattle.casa_filing.specs.declared.regulation.Regulation.{Regulation}
 use Rattle.casa_flight.specs.declared.row.Row.{Row}
 use Rattle.casa_filing.specs.Text.{Text, at_name}
-use Rattle.casa_table.specs.declared.asking.Question.{Question}
-use Rattle.casa_table.specs.declared.asking.Question.TheVariants.{Due, Over}
 use Rattle.casa_item.specs.declared.item.Item.{Item}
 use Rattle.casa_item.specs.Versions.{row_of}
+use Rattle.casa_table.specs.declared.asking.FlightOver.{FlightOver}
 use Rattle.casa_table.specs.Waiting.{due_row}
 use Rattle.casa_table.specs.Passing.{over_row}
 
--- what the row of a flight answers
-abbrev pub answer : Question → Row → Option ℕ
-answer (Due at) row = due_row at row
-answer (Over r) row = over_row r row
+-- the off-block time in the row that a version shows, if the flight is to be issued at this time
+abbrev pub due_version : {V : Type 0} → (V → Item) → ℕ → V → Option ℕ
+due_version item_of at v = option_and_then (due_row at) (row_of (item_of v))
 
--- the same of the row that a version shows, with the version
-abbrev pub answer_with_version : {V : Type 0} → (V → Item) → Question → V → Option (ℕ × V)
-answer_with_version item_of question v =
-    option_map (λ (t : ℕ). (t, v)) (option_and_then (answer question) (row_of (item_of v)))
+-- to believe: each of these flights has its row
+abbrev pub HaveRows : List (Text × Row) → List FlightOver → Type 0
+HaveRows rows flights = AllByRecursion (λ (f : FlightOver). at_name rows f.comp.key ≡ Some f.row.now) flights
 
--- the times that flights answer
-abbrev pub times : {V : Type 0} → List (Text × (ℕ × V)) → List (Text × ℕ)
-times {V} found = map (λ (e : Text × (ℕ × V)). (e.0, e.1.0)) found
+-- to believe: their times over and keys
+abbrev pub comps_of : List FlightOver → List Comp
+comps_of flights = map (λ (f : FlightOver). f.comp) flights
 
--- the versions that are found under keys show the rows there
-abbrev pub AreOf : {V : Type 0} → (V → Item) → List (Text × Row) → List (Text × (ℕ × V)) → Type 0
-AreOf {V} item_of rows found =
-    AllByRecursion (λ (e : Text × (ℕ × V)). at_name rows e.0 ≡ row_of (item_of e.1.1)) found
+-- the time over and key of a flight with this row, if it is subject to a regulation, and those of the flights with these keys
+abbrev pub comp_over : Regulation → Text → Option Row → Option Comp
+comp_over r key row = option_map (λ (eto : ℕ). record { eto = eto; key = key }) (option_and_then (over_row r) row)
 
--- to believe: each of these flights has a version of its row
-abbrev pub HaveRows : {V : Type 0} → (V → Item) → List (Text × Row) → List (Comp × V) → Type 0
-HaveRows {V} item_of rows flights =
-    AllByRecursion (λ (e : Comp × V). at_name rows e.0.key ≡ row_of (item_of e.1)) flights
+abbrev pub comps_under : Regulation → List (Text × Row) → List Text → List Comp
+comps_under r rows keys = filter_map (λ (key : Text). comp_over r key (at_name rows key)) keys
 
--- the flights with one more, by time over and key, if it answers
-abbrev pub with_flight : {V : Type 0} → List (Comp × V) → Text → Option (ℕ × V) → List (Comp × V)
-with_flight flights key None = flights
-with_flight flights key (Some a) = insert_entry sequence.cmp flights (record { eto = a.0; key = key }) a.1
+-- there are those flights now behind the earlier ones, with their rows
+pub record AreBehind (r : Regulation) (rows : List (Text × Row)) (keys : List Text) (before now : List FlightOver) : Type 0 where
+  pub comps : comps_of now ≡ comps_of before ++ comps_under r rows keys
+  pub have_rows : HaveRows rows before → HaveRows rows now

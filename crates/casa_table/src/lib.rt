@@ -7,7 +7,7 @@ mod index;
 mod table;
 mod validation;
 
-pub use asking::{due_named, flights_over_named};
+pub use asking::{FlightOver, due_named, flights_over_named};
 pub use casa_item::{Catalogue, Copied, Copies, Crossings, Item, Spare, Store, Version, row_in};
 pub use flights::FlightIndex;
 pub use index::{Index, NoIndex};

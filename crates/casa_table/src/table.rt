@@ -352,6 +352,9 @@ impl<Kind: Copy, V: Version, I: Index<Kind, V>> Table<Kind, V, I> {
         ensures same { self.new.entries ≡ self.old.entries }
         ensures next { OnOk result (self.new.next ≡ with_changes changes.entries self.new.entries) }
     {
+        if changes.is_empty() && self.recent.is_empty() && self.coming.is_empty() {
+            return Ok(());
+        }
         let mut changes = changes;
         keep_others(&mut changes, &self.recent)?;
         put_shared(self.alloc, &mut self.coming, changes)

@@ -1,5 +1,5 @@
 -- what is noted of entries
-use Rattle.std.proofs.Common.{◌≡◌, List, [], ◌∷◌, ◌++◌, map, Bool, true, false, cond, ◌||◌, is_some, refl, sym, ap, ◌∙◌}
+use Rattle.std.proofs.Common.{◌≡◌, List, [], ◌∷◌, ◌++◌, Bool, true, false, cond, ◌||◌, is_some, refl, sym, ap, ◌∙◌}
 use Rattle.std.proofs.Common.{Option, None, Some}
 use Rattle.std.proofs.Math.Bool.{or-false, or-true}
 use Rattle.std.specs.Prelude.{if◌then◌else◌}
@@ -39,22 +39,20 @@ pub sees_last : {V : Type 0} (es : List (Text × V)) (t : Text → Bool) (noted 
     Sees es (λ q. t q || false) noted → Sees es t noted
 sees_last es t noted h = sees_same es (λ q. t q || false) t noted (λ q. or-false (t q)) h
 
-pub some-push : {X Y : Type 0} (f : X → Text × Y) (xs : List X) (x : X) (q : Text) (b : Bool) →
-    (same_text (f x).0 q || (is_some (at_name (map f xs) q) || b)) ≡ (is_some (at_name (map f (xs ++ x ∷ [])) q) || b)
-some-push {X} {Y} f [] x q b =
-    ap (λ (t : Bool). t || b) (sym (same_test (f x).0 q)) ∙ one (is_eq (text_cmp q (f x).0))
+pub some-push : {X : Type 0} (es : List (Text × X)) (e : Text × X) (q : Text) (b : Bool) →
+    (same_text e.0 q || (is_some (at_name es q) || b)) ≡ (is_some (at_name (es ++ e ∷ []) q) || b)
+some-push {X} [] e q b = ap (λ (t : Bool). t || b) (sym (same_test e.0 q)) ∙ one (is_eq (text_cmp q e.0))
   where
-    one : (t : Bool) → (t || b) ≡ (is_some (cond t (Some (f x).1) None) || b)
+    one : (t : Bool) → (t || b) ≡ (is_some (cond t (Some e.1) None) || b)
     one true = refl
     one false = refl
-some-push {X} {Y} f (y ∷ xs) x q b = more (is_eq (text_cmp q (f y).0)) (some-push f xs x q b)
+some-push {X} (f ∷ es) e q b = more (is_eq (text_cmp q f.0)) (some-push es e q b)
   where
     more : (t : Bool) →
-        (same_text (f x).0 q || (is_some (at_name (map f xs) q) || b))
-        ≡ (is_some (at_name (map f (xs ++ x ∷ [])) q) || b) →
-        (same_text (f x).0 q || (is_some (cond t (Some (f y).1) (at_name (map f xs) q)) || b))
-        ≡ (is_some (cond t (Some (f y).1) (at_name (map f (xs ++ x ∷ [])) q)) || b)
-    more true h = or-true (same_text (f x).0 q)
+        (same_text e.0 q || (is_some (at_name es q) || b)) ≡ (is_some (at_name (es ++ e ∷ []) q) || b) →
+        (same_text e.0 q || (is_some (cond t (Some f.1) (at_name es q)) || b))
+        ≡ (is_some (cond t (Some f.1) (at_name (es ++ e ∷ []) q)) || b)
+    more true h = or-true (same_text e.0 q)
     more false h = h
 
 pub any-push : {X : Type 0} (p : X → Bool) (xs : List X) (x : X) (b : Bool) →

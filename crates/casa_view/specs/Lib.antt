@@ -1,3 +1,4 @@
+pub mod Seen
 pub mod Change
 pub mod Board
 pub mod Next

@@ -1,19 +1,17 @@
 //! What is asked of the rows of a view at once: which flights are to be issued, and which are subject to a regulation.
 
 ghost use Rattle.std.specs.Prelude.{◌≡◌, true, IfOk};
-ghost use Rattle.std.specs.Map.{keys_of};
 ghost use Rattle.casa_flight.specs.declared.row.Row.{Row};
 ghost use Rattle.casa_flight.specs.Steps.{flights_over};
 ghost use Rattle.casa_footprint.specs.Finding.{due_keys};
-ghost use Rattle.casa_table.specs.Asking.{HaveRows};
+ghost use Rattle.casa_table.specs.Asking.{HaveRows, comps_of};
 ghost use Rattle.casa_view.specs.Shown.{rows_shown, HasRowsInOrder};
 
 use crate::view::{Part, View};
-use casa_flight::{Comp, Key, Regulation};
-use casa_table::{Version, due_named, flights_over_named};
+use casa_flight::{Key, Regulation};
+use casa_table::{FlightOver, Version, due_named, flights_over_named};
 use casa_time::Moment;
 use std::alloc::{AllocError, Global};
-use std::collections::BTreeMap;
 
 impl<V: Version> View<V> {
     /// The keys of the flights that are governed, due at this time and not issued, in their order, among the rows that the
@@ -31,18 +29,18 @@ impl<V: Version> View<V> {
         }
     }
 
-    /// The flights that are subject to a regulation, by time over and key, with the versions of their rows, among the rows
-    /// that the view holds. Of a view of all rows it looks at those alone that pass the location in the regulation's span,
+    /// The flights that are subject to a regulation, by time over and key, with their rows, among the rows that the view
+    /// holds. Of a view of all rows it looks at those alone that pass the location in the regulation's span,
     /// or that changed of late. `AllocError` where there is no memory for the flights.
     pub fn flights_over(
         &self,
         alloc: Global,
         regulation: &Regulation,
-    ) -> Result<BTreeMap<Comp, V>, AllocError>
-        ensures over { IfOk result (λ flights. keys_of flights.entries ≡
+    ) -> Result<Vec<FlightOver<'_>>, AllocError>
+        ensures over { IfOk result (λ flights. comps_of flights.items ≡
             flights_over (λ (row : Row). true) regulation.now (rows_shown V.item_of self.now)) }
         ensures rows { IfOk result (λ flights.
-            HaveRows V.item_of (rows_shown V.item_of self.now) flights.entries) }
+            HaveRows (rows_shown V.item_of self.now) flights.items) }
         ensures ordered { HasRowsInOrder self.now }
     {
         self.rows.in_order();

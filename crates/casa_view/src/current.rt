@@ -4,6 +4,7 @@ ghost use Rattle.std.specs.Prelude.{◌≡◌, ◌↔◌, IsTrue, MatchOption};
 ghost use Rattle.casa_view.specs.Board.{versions};
 ghost use Rattle.casa_view.specs.View.{same_held, IsSamePart, ShowsPart, IsCurrent, ShowsSame};
 
+use crate::catalogue_seen::CatalogueSeen;
 use crate::items::Items;
 use crate::view::{Part, View};
 use casa_table::{Index, Table, Version, same_all, same_named};
@@ -16,6 +17,18 @@ fn same_held<V: Version>(version: &V, held: &Option<V>) -> bool
 {
     match held {
         Some(held) => version.same(held),
+        None => true,
+    }
+}
+
+/// Whether a version of the catalogue is the one that a view holds, if it holds one.
+fn same_catalogue<V: Version>(version: &V, held: &Option<CatalogueSeen<V>>) -> bool
+    ensures same { result ≡ same_held V.is_same version.now held.now }
+    ensures shows { IsTrue result → MatchOption held.now (Unit {0})
+        (λ w. V.item_of version.now ≡ V.item_of w) }
+{
+    match held {
+        Some(held) => version.same(held.version()),
         None => true,
     }
 }
@@ -42,7 +55,7 @@ pub(crate) fn same_items<V: Version>(items: &Items<V>, view: &View<V>) -> bool
     if !same_held(&items.clock, &view.clock) {
         return false;
     }
-    if !same_held(&items.catalogue, &view.catalogue) {
+    if !same_catalogue(&items.catalogue, &view.catalogue) {
         return false;
     }
     if !same_part(&items.lists, &view.lists) {

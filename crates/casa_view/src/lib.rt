@@ -4,6 +4,7 @@
 
 mod asking;
 mod board;
+mod catalogue_seen;
 mod change;
 mod contents;
 mod current;
@@ -15,7 +16,8 @@ mod staging;
 mod view;
 
 pub use board::Board;
-pub use casa_table::{Catalogue, Copied, Copies, Crossings, Item, Store, Version};
+pub use casa_table::{Catalogue, Copied, Copies, Crossings, FlightOver, Item, Store, Version};
+pub use catalogue_seen::CatalogueSeen;
 pub use change::Change;
 pub use laws::rows_are_those_shown;
 pub use rows::Rows;

@@ -13,6 +13,7 @@ ghost use Rattle.casa_view.specs.Taking.{Sees, SeesAlso, meets_if, meets_either,
 ghost use Rattle.casa_view.specs.Taking.{plan_at, governing_at, has_forced, forced_at, governs_forced_at};
 ghost use Rattle.casa_view.specs.Taking.{extends_in, read_by_rates};
 
+use crate::catalogue_seen::{CatalogueSeen, crossed};
 use crate::contents::list_in;
 use crate::items::Items;
 use crate::rows::row_of;
@@ -56,14 +57,17 @@ fn version_again<V: Version>(version: Option<&V>) -> Result<Option<V>, AllocErro
     }
 }
 
-/// The regulations to which a plan is subject, among those of a catalogue.
-fn crossed(alloc: Global, catalogue: &Item, plan: &Plan) -> Result<Crossings, AllocError>
-    ensures { IfOk result (λ found. (id : Text) →
-        is_some (at_name found id) ≡ meets (regulations_of catalogue.now) plan.now id) }
+/// The catalogue as a call sees it, if it is wanted.
+fn catalogue_if<V: Version>(
+    alloc: Global,
+    version: &V,
+    wanted: bool,
+) -> Result<Option<CatalogueSeen<V>>, AllocError>
+    ensures { IfOk result (λ seen. seen ≡ (if wanted then Some version.now else None)) }
 {
-    match catalogue {
-        Item::Catalogue(catalogue) => catalogue.crossed(alloc, plan),
-        _ => Ok(Few::new(alloc)),
+    match version_if(version, wanted)? {
+        Some(version) => Ok(Some(CatalogueSeen::new(alloc, version))),
+        None => Ok(None),
     }
 }
 
@@ -153,45 +157,52 @@ impl<V: Version> Items<V> {
             (λ q. is_some (at_name ids.now q))
             noted.old noted.new) }
     {
-        for (id, _) in ids.iter() {
+        for (id, _) in ids.as_slice() {
             self.see_list(noted, id)?;
         }
         Ok(())
     }
 
-    /// Notes the lists of a plan, if there is one.
+    /// Notes the lists of a plan, if there is one, and keeps which they are with the catalogue.
     fn see_lists_of(
         &self,
         alloc: Global,
         noted: &mut Noted<OfRegulation, V>,
+        catalogue: &mut CatalogueSeen<V>,
         plan: Option<&Plan>,
     ) -> Result<(), AllocError>
-        ensures { OnOk result (SeesAlso (versions self.now).lists
+        requires { catalogue.old ≡ self.now.catalogue }
+        ensures kept { catalogue.new ≡ catalogue.old }
+        ensures seen { OnOk result (SeesAlso (versions self.now).lists
             (meets_if (regulations_of (V.item_of self.now.catalogue)) (option_copied plan.entry))
             noted.old noted.new) }
     {
         if let Some(plan) = plan {
             let ids = crossed(alloc, self.catalogue.item(), plan)?;
             self.see_lists(noted, &ids)?;
+            catalogue.keep(plan, ids)?;
         }
         Ok(())
     }
 
-    /// The lists of two plans.
+    /// The lists of two plans, which are kept with the catalogue.
     fn lists_of(
         &self,
         alloc: Global,
+        catalogue: &mut CatalogueSeen<V>,
         old: Option<&Plan>,
         new: Option<&Plan>,
     ) -> Result<Noted<OfRegulation, V>, AllocError>
-        ensures { IfOk result (λ noted. Sees (versions self.now).lists
+        requires { catalogue.old ≡ self.now.catalogue }
+        ensures kept { catalogue.new ≡ catalogue.old }
+        ensures seen { IfOk result (λ noted. Sees (versions self.now).lists
             (meets_either (regulations_of (V.item_of self.now.catalogue)) (option_copied old.entry)
             (option_copied new.entry))
             noted) }
     {
         let mut noted = Few::new(alloc);
-        self.see_lists_of(alloc, &mut noted, new)?;
-        self.see_lists_of(alloc, &mut noted, old)?;
+        self.see_lists_of(alloc, &mut noted, catalogue, new)?;
+        self.see_lists_of(alloc, &mut noted, catalogue, old)?;
         Ok(noted)
     }
 
@@ -226,6 +237,7 @@ impl<V: Version> Items<V> {
     /// The view with these rows and lists, and the clock and the catalogue where they are wanted.
     fn view_with(
         &self,
+        alloc: Global,
         clock: bool,
         catalogue: bool,
         rows: Noted<OfFlight, V>,
@@ -237,7 +249,28 @@ impl<V: Version> Items<V> {
     {
         Ok(View {
             clock: version_if(&self.clock, clock)?,
-            catalogue: version_if(&self.catalogue, catalogue)?,
+            catalogue: catalogue_if(alloc, &self.catalogue, catalogue)?,
+            rows: Part::Named(rows),
+            lists: Part::Named(lists),
+        })
+    }
+
+    /// The view with the catalogue, these rows and lists, and the clock where it is wanted.
+    fn view_of_plans(
+        &self,
+        clock: bool,
+        catalogue: CatalogueSeen<V>,
+        rows: Noted<OfFlight, V>,
+        lists: Noted<OfRegulation, V>,
+    ) -> Result<View<V>, AllocError>
+        requires { catalogue ≡ self.now.catalogue }
+        ensures { IfOk result (λ v. (t u : Text → Bool) →
+            Sees (versions self.now).rows t rows → Sees (versions self.now).lists u lists →
+            IsTaken (versions self.now) (name_test clock true t u) v) }
+    {
+        Ok(View {
+            clock: version_if(&self.clock, clock)?,
+            catalogue: Some(catalogue),
             rows: Part::Named(rows),
             lists: Part::Named(lists),
         })
@@ -250,9 +283,10 @@ impl<V: Version> Items<V> {
             (meets_either (regulations_of (V.item_of self.now.catalogue)) None (Some plan.now)))) }
     {
         let key = plan.key();
-        let lists = self.lists_of(alloc, None, Some(plan))?;
+        let mut catalogue = CatalogueSeen::new(alloc, self.catalogue.try_clone()?);
+        let lists = self.lists_of(alloc, &mut catalogue, None, Some(plan))?;
         let row = self.one_row(alloc, &key, self.rows.get(&key))?;
-        self.view_with(true, true, row, lists)
+        self.view_of_plans(true, catalogue, row, lists)
     }
 
     /// What a call reads on a flight that was filed, and gets a new plan if there is one.
@@ -268,9 +302,10 @@ impl<V: Version> Items<V> {
             (plan_at V.item_of (versions self.now) key.now) (option_copied new.entry)))) }
     {
         let version = self.rows.get(key);
-        let lists = self.lists_of(alloc, plan_of(row_of(version)), new)?;
+        let mut catalogue = CatalogueSeen::new(alloc, self.catalogue.try_clone()?);
+        let lists = self.lists_of(alloc, &mut catalogue, plan_of(row_of(version)), new)?;
         let row = self.one_row(alloc, key, version)?;
-        self.view_with(clock, true, row, lists)
+        self.view_of_plans(clock, catalogue, row, lists)
     }
 
     /// The catalogue and the list of a regulation.
@@ -280,7 +315,7 @@ impl<V: Version> Items<V> {
     {
         let lists = self.one_list(alloc, Some(*id))?;
         let none = Few::new(alloc);
-        self.view_with(false, true, none, lists)
+        self.view_with(alloc, false, true, none, lists)
     }
 
     /// What it reads to show a flight.
@@ -292,7 +327,7 @@ impl<V: Version> Items<V> {
         let version = self.rows.get(key);
         let lists = self.one_list(alloc, governing_of(row_of(version)))?;
         let row = self.one_row(alloc, key, version)?;
-        self.view_with(false, false, row, lists)
+        self.view_with(alloc, false, false, row, lists)
     }
 
     /// Notes the row of a flight, and the list that governs it.
@@ -370,7 +405,7 @@ impl<V: Version> Items<V> {
         let mut lists = Few::new(alloc);
         self.see_forced(&mut rows, &mut lists, self.list(id))?;
         self.see_list(&mut lists, id)?;
-        self.view_with(false, true, rows, lists)
+        self.view_with(alloc, false, true, rows, lists)
     }
 
     /// What an exchange of slots between two flights reads.
@@ -384,16 +419,16 @@ impl<V: Version> Items<V> {
         let mut lists = Few::new(alloc);
         self.see_flight(&mut rows, &mut lists, other)?;
         self.see_flight(&mut rows, &mut lists, key)?;
-        self.view_with(true, false, rows, lists)
+        self.view_with(alloc, true, false, rows, lists)
     }
 
     /// All items: a few counts, whatever their number.
-    fn whole_view(&self) -> Result<View<V>, AllocError>
+    fn whole_view(&self, alloc: Global) -> Result<View<V>, AllocError>
         ensures { IfOk result (IsTaken (versions self.now) (λ i. true)) }
     {
         Ok(View {
             clock: Some(self.clock.try_clone()?),
-            catalogue: Some(self.catalogue.try_clone()?),
+            catalogue: Some(CatalogueSeen::new(alloc, self.catalogue.try_clone()?)),
             rows: Part::All(self.rows.share()?),
             lists: Part::All(self.lists.share()?),
         })
@@ -411,7 +446,7 @@ impl<V: Version> Items<V> {
             (extends_in (regulations_of (V.item_of self.now.catalogue)) id.now profile.now))) }
     {
         if extends(self.catalogue.item(), id, profile) {
-            self.whole_view()
+            self.whole_view(alloc)
         } else {
             self.regulation_view(alloc, id)
         }
@@ -428,9 +463,9 @@ impl<V: Version> Items<V> {
             Call::Cancel(key) => self.flight_view(alloc, false, key, None),
             Call::Revise(key) => self.flight_view(alloc, true, key, None),
             Call::Exempt(key) => self.flight_view(alloc, false, key, None),
-            Call::OpenReg(_, _, _) => self.whole_view(),
-            Call::CloseReg(_) => self.whole_view(),
-            Call::Tick(_) => self.whole_view(),
+            Call::OpenReg(_, _, _) => self.whole_view(alloc),
+            Call::CloseReg(_) => self.whole_view(alloc),
+            Call::Tick(_) => self.whole_view(alloc),
             Call::Rates(id, profile) => self.rates_view(alloc, id, profile),
             Call::Show(key) => self.show_view(alloc, key),
             Call::List(id) => self.list_view(alloc, id),

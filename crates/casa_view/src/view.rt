@@ -1,3 +1,4 @@
+use crate::catalogue_seen::CatalogueSeen;
 use crate::contents::{catalogue_in, clock_in, list_in, shared_list_in};
 use casa_flight::{Key, Name, OfFlight, OfRegulation, RegId, Row};
 use casa_list::{SharedList, SlotList};
@@ -17,7 +18,7 @@ pub enum Part<Kind, V: Version, I: Index<Kind, V>> {
 /// What a call reads: items with their versions, and which items were not there.
 pub struct View<V: Version> {
     pub(crate) clock: Option<V>,
-    pub(crate) catalogue: Option<V>,
+    pub(crate) catalogue: Option<CatalogueSeen<V>>,
     pub(crate) rows: Part<OfFlight, V, FlightIndex>,
     pub(crate) lists: Part<OfRegulation, V, NoIndex>,
 }
@@ -80,7 +81,14 @@ impl<V: Version> View<V> {
     pub fn catalogue(&self) -> Option<&Catalogue>
         ensures { option_copied result ≡ catalogue_shown V.item_of self.now }
     {
-        catalogue_in(self.catalogue.as_ref()?.item())
+        catalogue_in(self.catalogue.as_ref()?.version().item())
+    }
+
+    /// The version of the catalogue with what is worked out of it, if the view holds it.
+    pub fn catalogue_seen(&self) -> Option<&CatalogueSeen<V>>
+        ensures { option_copied result ≡ self.now.catalogue }
+    {
+        self.catalogue.as_ref()
     }
 
     /// The row of the flight with this key, if the view holds it and it is there.

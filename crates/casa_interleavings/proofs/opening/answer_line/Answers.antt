@@ -28,7 +28,7 @@ returns-then-not-branch-clause-refused g c =
     let is = entry_found h e c.requires.position (c.history.ensures.same ∙ c.in_ok-next.ensures.history)
     (sym (ap option_copied c.in-Some-entry.is) ∙ c.entry.ensures) in
     let not : script.vouches_for c.args.position line c.in-Some-entry.entry.now.reply → ⊥ = search rules in
-    let said : script.says c.args.position line ≡ Some c.in-Some.call = search rules in
+    let said : script.says c.args.position line ≡ Some c.in-Some.call = sym c.in_ok-call.ensures ∙ c.in-Some.is in
     let other = subst (λ x. script.vouches_for c.args.position line x.reply → ⊥) is not in (
       refl,
       record { call = c.in-Some.call; said = said; other = not_vouched script h c.in-Some.call c.args.position line other },
@@ -43,6 +43,6 @@ returns-clause-said g c =
     let is = entry_found h e c.requires.position (c.history.ensures.same ∙ c.in_ok-next.ensures.history)
     (sym (ap option_copied c.in-Some-entry.is) ∙ c.entry.ensures) in
     let vouched : script.vouches_for c.args.position line c.in-Some-entry.entry.now.reply = search rules in
-    let said : script.says c.args.position line ≡ Some c.in-Some.call = search rules in
+    let said : script.says c.args.position line ≡ Some c.in-Some.call = sym c.in_ok-call.ensures ∙ c.in-Some.is in
     let reply = subst (λ x. script.vouches_for c.args.position line x.reply) is vouched in
     (e, record { call = said; reply = reply }, c.in_ok-next.ensures.history)

@@ -21,11 +21,11 @@ returns g c =
     let free : Row = ungoverned c.in-Some.row.now in
     let new : Row = row_after_entry s key free in
     let row_is : c.in_ok-row.row ≡ free = c.in_ok-row.ensures in
-    let new_is : c.in_ok-new.new ≡ new = c.in_ok-new.ensures ∙ ap (row_after_entry s key) row_is in
+    let new_is : c.row_after_entry-new.result ≡ new = c.row_after_entry-new.ensures ∙ ap (row_after_entry s key) row_is in
     let over : c.in_ok-over.over ≡ crossed free.plan c.args.catalogue.now = c.in_ok-over.ensures ∙ ap (λ (r : Row). crossed r.plan c.args.catalogue.now) row_is in
     let over_now : c.in_ok-over.over ≡ crossed new.plan c.args.catalogue.now = over ∙ ap (λ (p : FlightPlan). crossed p c.args.catalogue.now) (sym (entered_plan s key free)) in
-    on_ok_weaker c.write_flight.result
+    on_ok_weaker c.write_again.result
     (λ h. h
     ∙ (λ i. write_flight v w key (Some (new_is i)) (stances_gone (over i) (over_now i) ++ stances_now (Some (new_is i)) (over_now i)))
     ∙ ap (with_reentry c.args.clock c.args.catalogue.now v w key)
-    (c.in-Some.ensures ∙ ap (unwrap_or (at_name w.rows key)) c.requires)) c.write_flight.ensures
+    (c.in-Some.ensures ∙ ap (unwrap_or (at_name w.rows key)) c.requires)) c.write_again.ensures

@@ -9,4 +9,4 @@ pub returns : goal.returns
 returns g c =
     let v : Sight = c.args.view.now in
     subst (λ (q : Reply × Written). IfOk c.take_offer.result (λ p. p ≡ q))
-    (ap (λ (o : Option Offer). take_offer v c.args.key (option_copied c.args.was) c.args.row o) c.in_ok-offer.ensures) c.take_offer.ensures
+    (ap (λ (o : Option Offer). take_offer v c.args.key (option_copied c.args.was) c.args.row o) c.entry_offer-offer.ensures) c.take_offer.ensures

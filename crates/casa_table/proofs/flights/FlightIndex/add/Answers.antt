@@ -34,7 +34,7 @@ returns-in_ok-add_passings-clause-added c = λ at there h. record {
       added_departure c.args.key c.args.row.now at _ _ c.add_departure.ensures.stays
       c.in_ok-add_departure.ensures.added h.waiting;
   passings = added_passings c.args.key c.args.row.now at _ _ c.add_passings.ensures.stays
-      (subst (HaveVia (passings_at c.add_passings.new.passings.entries) c.args.key) c.via.ensures c.in_ok-add_passings.ensures.added)
+      (subst (HaveVia (passings_at c.add_passings.new.passings.entries) c.args.key) c.via.ensures.crossings c.in_ok-add_passings.ensures.added)
       h.passings;
 }
 

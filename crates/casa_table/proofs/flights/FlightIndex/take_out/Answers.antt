@@ -10,7 +10,7 @@ returns-then-ne c = λ at there h. record {
   passings = taken_passings c.args.key _ at _ _ (λ row found.
       let same : Some c.in-Some.row.now ≡ Some row = sym (there ∙ ap option_copied c.in-Some.is) ∙ found in
       let row_is : c.in-Some.row.now ≡ row = cc in
-      sym (c.via-then-ne.ensures ∙ ap (λ (r : Row). r.plan.via) row_is)) c.take_passings.ensures h.passings;
+      sym (c.via-then-ne.ensures.crossings ∙ ap (λ (r : Row). r.plan.via) row_is)) c.take_passings.ensures h.passings;
 }
 
 pub returns-else-ne : goal.returns-else-ne

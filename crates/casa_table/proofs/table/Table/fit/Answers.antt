@@ -15,5 +15,5 @@ returns-clause-next g c =
     ∙ laid-over c.args.changes.entries (arc_value c.self.inside.recent).entries c.keep_others.new.changes.entries base
     c.keep_others.ensures.were_ordered c.self.invariant.1 c.keep_others.ensures.ordered c.self.invariant.0
     (λ q. c.in_ok-keep_others.ensures.kept q
-    ∙ ap (λ ws. option_or (at_name c.args.changes.entries q) (at_name ws.entries q)) c.deref.ensures))
+    ∙ ap (λ ws. option_or (at_name c.args.changes.entries q) (at_name ws.entries q)) c.deref-2.ensures))
     c.put_shared.ensures.put

@@ -8,8 +8,8 @@ returns g c = λ t u rows lists.
     view_taken (versions c.args.self.now)
     (record {
       clock = c.in_ok-version_if.field-0;
-      catalogue = c.in_ok-version_if-2.field-0;
+      catalogue = c.in_ok-catalogue_if.field-0;
       rows = Named c.args.rows;
       lists = Named c.args.lists;
     })
-    c.args.clock c.args.catalogue c.in_ok-version_if.ensures c.in_ok-version_if-2.ensures t u rows lists
+    c.args.clock c.args.catalogue c.in_ok-version_if.ensures c.in_ok-catalogue_if.ensures t u rows lists

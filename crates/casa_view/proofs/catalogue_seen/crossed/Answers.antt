@@ -5,10 +5,10 @@ use Rattle.casa_item.specs.declared.item.Item.{Item}
 use Rattle.casa_item.specs.Crossed.{meets}
 use Rattle.casa_item.specs.Versions.{regulations_of}
 use Rattle.casa_item.proofs.Listed.{crossed_meets}
-use Rattle.casa_view.proofs.read_set.crossed.Goals as goal
+use Rattle.casa_view.proofs.catalogue_seen.crossed.Goals as goal
 
-pub returns-in-Catalogue : goal.returns-in-Catalogue
-returns-in-Catalogue c =
+pub returns-in-Catalogue-clause-met : goal.returns-in-Catalogue-clause-met
+returns-in-Catalogue-clause-met c =
     let plan = c.args.plan.now in
     IfOk-weaker c.crossed.result _ _
     (λ found are id.
