@@ -40,8 +40,8 @@ fn day_over(loc: &str) -> Option<Regulation> {
 fn push_found(alloc: Global, told: &mut String, view: &View<Copied>) -> Result<(), AllocError> {
     for loc in LOCATIONS {
         if let Some(day) = day_over(loc) {
-            for comp in view.flights_over(alloc, &day)?.keys() {
-                writeln!(told, "{loc} {comp:?}")?;
+            for over in view.flights_over(alloc, &day)?.as_slice() {
+                writeln!(told, "{loc} {:?}", over.comp)?;
             }
         }
     }

@@ -49,6 +49,14 @@ const FIVE: &[Deed] = &[
     Deed::Force("F", 36_060),
 ];
 
+/// Four forced flights: no more fit into the memory that the first one took.
+const FOUR: &[Deed] = &[
+    Deed::Force("C1", 36_010),
+    Deed::Force("C2", 36_020),
+    Deed::Force("C3", 36_030),
+    Deed::Force("C4", 36_040),
+];
+
 /// Four flights of each kind.
 const TWELVE: &[Deed] = &[
     Deed::Enter("A1", 36_010),
@@ -77,7 +85,7 @@ const CASES: &[(&str, Case)] = &[
     ("hold-forced", (FIVE, Deed::Hold("D", 36_000, 36_130))),
     ("force-first", (&[], Deed::Force("A", 36_000))),
     ("force", (FIVE, Deed::Force("A", 36_000))),
-    ("force-thirteenth", (TWELVE, Deed::Force("A", 36_000))),
+    ("force-fifth", (FOUR, Deed::Force("A", 36_000))),
     ("regrid", (FIVE, Deed::Regrid(15))),
     ("regrid-twelve", (TWELVE, Deed::Regrid(60))),
     ("copy-empty", (&[], Deed::Copy)),
