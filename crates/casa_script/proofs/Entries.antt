@@ -1,6 +1,6 @@
 -- the line of an entry says its call at its position
 use Rattle.std.proofs.Common.{◌≡◌, ◌≢◌, ℕ, suc, ◌*◌, ◌%◌, ◌<◌, ◌≤◌, ◌^◌, List, [], ◌∷◌, Bool, true, false, cond, Some, None, Ok, refl, ap, arith}
-use Rattle.std.specs.Prelude.{All, Option, Result, Err, OnOk, bit_xor, option_and_then}
+use Rattle.std.specs.Prelude.{All, Result, Err, OnOk, bit_xor, option_and_then}
 use Rattle.std.specs.List.{fold}
 use Rattle.std.specs.Result.{result_ok}
 use Rattle.std.proofs.lemmas.Bool.Decides.{nat_tests}
@@ -9,17 +9,16 @@ use Rattle.casa_flight.specs.declared.reply.Reply.{Reply}
 use Rattle.casa_history.specs.declared.entry.Entry.{Entry}
 use Rattle.casa_tape.specs.Lines.{IsLine}
 use Rattle.casa_wire.specs.declared.fault.WireFault.{WireFault}
-use Rattle.casa_wire.specs.Commands.{line_call, line_value}
+use Rattle.casa_wire.specs.Commands.{line_call}
 use Rattle.casa_wire.specs.LineTexts.{reply_data}
-use Rattle.serde_json.specs.Data.{Data}
 use Rattle.serde_json.specs.Written.{compact_text}
 use Rattle.casa_script.specs.declared.fault.LineFault.{LineFault}
-use Rattle.casa_script.specs.declared.fault.LineFault.TheVariants.{NoPosition}
 use Rattle.casa_script.specs.declared.line.Label.{Label}
 use Rattle.casa_script.specs.declared.line.Line.{Line}
 use Rattle.casa_script.specs.Sums.{with_byte}
 use Rattle.casa_script.specs.Lines.{entry_label, entry_text}
-use Rattle.casa_script.specs.Sayable.{IsSayable, IsInRange}
+use Rattle.casa_lines.specs.Sayable.{IsSayable}
+use Rattle.casa_script.specs.Sayable.{IsInRange}
 use Rattle.casa_script.specs.Said.{◌>>=◌, call_at, call_if_at, call_or_fault, is_at, label_said, line_said, line_vouches_for, vouches_for}
 use Rattle.casa_script.proofs.Readings.{line_read}
 

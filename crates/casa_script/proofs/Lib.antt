@@ -1,9 +1,3 @@
 pub mod Ordered
-pub mod Kept
-pub mod Saying
-pub mod Again
-pub mod Seen
 pub mod Readings
-pub mod Sayables
-pub mod Joined
 pub mod Entries

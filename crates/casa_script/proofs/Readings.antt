@@ -1,5 +1,5 @@
 -- a line is read as the call and the label that it was written of
-use Rattle.std.proofs.Common.{◌≡◌, ℕ, ◌<◌, ◌^◌, Some, Ok, refl, sym, ◌∙◌, ap, arith, le-leb}
+use Rattle.std.proofs.Common.{◌≡◌, ℕ, ◌<◌, ◌≤◌, ◌^◌, All, Some, Ok, refl, sym, ◌∙◌, ap, arith, le-leb}
 use Rattle.std.specs.Prelude.{Result, codes}
 use Rattle.serde_json.specs.Data.{Data}
 use Rattle.serde_json.specs.Find.{get}
@@ -8,15 +8,15 @@ use Rattle.casa_flight.specs.declared.call.Call.TheVariants.{File, Amend, Cancel
 use Rattle.casa_wire.specs.LineTexts.{count}
 use Rattle.casa_wire.specs.Members.{greatest_number, number_of}
 use Rattle.casa_wire.specs.Commands.{line_call, line_value}
+use Rattle.casa_lines.specs.Sayable.{IsSayable}
+use Rattle.casa_lines.proofs.Plain.{ArePlain}
+use Rattle.casa_lines.proofs.Readings.{read_beside, seen_beside, value_beside}
 use Rattle.casa_script.specs.declared.line.Label.{Label}
 use Rattle.casa_script.specs.declared.line.Line.{Line}
 use Rattle.casa_script.specs.declared.fault.LineFault.{LineFault}
-use Rattle.casa_script.specs.Lines.{line_data, line_text}
-use Rattle.casa_script.specs.Sayable.{IsSayable, IsInRange}
+use Rattle.casa_script.specs.Lines.{label_members, line_data, line_text}
+use Rattle.casa_script.specs.Sayable.{IsInRange}
 use Rattle.casa_script.specs.Said.{label_of, label_said, line_said}
-use Rattle.casa_script.proofs.Saying.{call_again}
-use Rattle.casa_script.proofs.Again.{text_again}
-use Rattle.casa_script.proofs.Seen.{line_utf8}
 
 module _ (label : Label) where
   position_there : (call : Call) → get (codes "n") (line_data label call) ≡ Some (count label.position)
@@ -83,16 +83,24 @@ label_found : (label : Label) (d : Data) → IsInRange label → get (codes "n")
 unfolding label_of
 label_found label d fits n desk rules sum = rw (n, desk, rules, sum, number_again label.desk fits.desk, number_again label.rules fits.rules, number_again label.sum fits.sum) refl
 
+fits_64 : (n : ℕ) → n < 2 ^ 32 → n < 2 ^ 64
+fits_64 n lt = omega (arith, lt)
+
+label_plain : (label : Label) → IsInRange label → ArePlain 2 (label_members label)
+label_plain label fits = ((refl, fits.position), ((refl, fits_64 label.desk fits.desk), ((refl, fits_64 label.rules fits.rules), ((refl, fits_64 label.sum fits.sum), tt))))
+
 module _ (label : Label) (fits : IsInRange label) (call : Call) (is : IsSayable call) where
   value : line_value (line_text label call) ≡ Some (line_data label call)
-  value = rw (line_utf8 label fits call is) (text_again label fits call is)
+  value = value_beside (label_members label) (label_plain label fits) call is
+
+  pub line_seen : All (λ (b : ℕ). (32 ≤ b) × (b ≤ 126)) (line_text label call)
+  line_seen = seen_beside (label_members label) (label_plain label fits) call is
 
   label_again : label_of (line_data label call) ≡ Ok label
   label_again = label_found label (line_data label call) fits (position_there label call) (desk_there label call) (rules_there label call) (sum_there label call)
 
   pub call_read : line_call (line_text label call) ≡ Ok call
-  unfolding line_call
-  call_read = rw value (call_again label call is)
+  call_read = read_beside (label_members label) (label_plain label fits) call is
 
   label_read : label_said (line_text label call) ≡ Ok label
   unfolding label_said

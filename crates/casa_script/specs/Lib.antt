@@ -2,4 +2,3 @@ pub mod Sums
 pub mod Lines
 pub mod Sayable
 pub mod Said
-pub mod Texts

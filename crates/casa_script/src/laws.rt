@@ -7,7 +7,8 @@ ghost use Rattle.casa_history.specs.declared.entry.Entry.{Entry};
 ghost use Rattle.casa_wire.specs.Commands.{line_call};
 ghost use Rattle.casa_script.specs.declared.line.Label.{Label};
 ghost use Rattle.casa_script.specs.Lines.{entry_label, entry_text, line_text};
-ghost use Rattle.casa_script.specs.Sayable.{IsSayable, IsInRange};
+ghost use Rattle.casa_lines.specs.Sayable.{IsSayable};
+ghost use Rattle.casa_script.specs.Sayable.{IsInRange};
 ghost use Rattle.casa_script.specs.Said.{call_at, line_said, vouches_for};
 
 /// A line says the call and the label that it was written of, and it is a command line that is read as the call. It has
@@ -48,9 +49,4 @@ pub fn lines_tell_calls_apart()
     ensures { (label other : Label) (call another : Call) →
         IsInRange label → IsSayable call → IsInRange other → IsSayable another →
         line_text label call ≡ line_text other another → (label ≡ other) × (call ≡ another) }
-{}
-
-/// A call that is read from a line is as its type keeps it.
-pub fn read_calls_are_sayable()
-    ensures { (line : List ℕ) (call : Call) → line_call line ≡ Ok call → IsSayable call }
 {}

@@ -1,21 +1,19 @@
 //! The lines of a journal: the text of a call with what stands beside it, and what such a text says.
 #![tactic(auto)]
 
-mod calls;
 mod fault;
 mod laws;
 mod line;
-mod object;
 mod reading;
 mod script;
 mod sum;
 mod writing;
 
-pub use calls::sayable;
+pub use casa_lines::{read_calls_are_sayable, sayable};
 pub use fault::LineFault;
 pub use laws::{
     calls_at_positions_are_read, entries_are_read_again, lines_are_read_again,
-    lines_tell_calls_apart, read_calls_are_sayable,
+    lines_tell_calls_apart,
 };
 pub use line::{Label, Line, RULES};
 pub use reading::{call_at, line_vouches_for, read_line};

@@ -1,3 +1,6 @@
+ghost use Rattle.std.specs.Prelude.{◌≡◌};
+ghost use Rattle.casa_script.specs.Sayable.{IsInRange};
+
 use casa_flight::Call;
 
 /// The version of the rules by which this program answers. Another one may give other replies to the same calls.
@@ -14,6 +17,16 @@ pub struct Label {
     pub rules: u32,
     /// The sum of the bytes of the reply's line.
     pub sum: u32,
+}
+
+impl Label {
+    /// The same label. Its numbers are in the range of their types.
+    pub(crate) fn in_range(self) -> Label
+        ensures same { result ≡ self }
+        ensures in_range { IsInRange self }
+    {
+        self
+    }
 }
 
 /// What a line of a journal says: a call with its label.

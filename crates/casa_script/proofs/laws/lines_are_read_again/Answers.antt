@@ -1,5 +1,4 @@
-use Rattle.casa_script.proofs.Readings.{call_read, line_read}
-use Rattle.casa_script.proofs.Seen.{line_seen}
+use Rattle.casa_script.proofs.Readings.{call_read, line_read, line_seen}
 use Rattle.casa_script.proofs.laws.lines_are_read_again.Goals as goal
 
 pub returns-clause-line : goal.returns-clause-line

@@ -1,0 +1,18 @@
+use Rattle.std.proofs.Common.{append_assoc, refl}
+use Rattle.serde_json.proofs.OnLiterals.{serde_json_on_literals}
+use Rattle.casa_lines.proofs.object.PeriodTexts.push.Goals as goal
+
+pub returns : goal.returns
+unfolding serde_json_on_literals
+returns c =
+    rw (
+      c.in_ok-push.ensures.items,
+      c.in_ok-push_number-3.ensures,
+      c.in_ok-extend_from_slice-3.ensures.items,
+      c.in_ok-push_number-2.ensures,
+      c.in_ok-extend_from_slice-2.ensures.items,
+      c.in_ok-push_number.ensures,
+      c.in_ok-extend_from_slice.ensures.items,
+      c.secs.ensures.value,
+      c.secs-2.ensures.value,
+    ) (simp append_assoc refl)

@@ -1,5 +1,0 @@
-use Rattle.casa_script.proofs.Sayables.{read_is_sayable}
-use Rattle.casa_script.proofs.laws.read_calls_are_sayable.Goals as goal
-
-pub returns : goal.returns
-returns c = λ line call is. read_is_sayable line call is
