@@ -4,3 +4,13 @@ pub mod Table
 pub mod LoadTable
 pub mod SummaryTable
 pub mod WhyText
+pub mod Moments
+pub mod Csv
+pub mod ReportCsv
+pub mod SummaryCsv
+pub mod Values
+pub mod LoadCsv
+pub mod WhyCsv
+pub mod Json
+pub mod WhyJson
+pub mod CsvReading

@@ -1,0 +1,63 @@
+-- JSON texts, part by part
+use Rattle.std.proofs.Common.{◌≡◌, List, ◌++◌, append_assoc, append-nil, refl}
+use Rattle.std.specs.Prelude.{[], codes}
+use Rattle.serde_json.specs.Data.{string}
+use Rattle.serde_json.specs.Written.{compact_text}
+use Rattle.serde_json.proofs.OnLiterals.{serde_json_on_literals}
+use Rattle.jiff_core.specs.declared.civil.date.Date.{Date}
+use Rattle.casa_filing.specs.Text.{Text}
+use Rattle.casa_flight.specs.declared.reply.ListReply.{ListReply}
+use Rattle.casa_inquiry.specs.declared.load.Step.{Step}
+use Rattle.casa_inquiry.specs.declared.why.Holding.{Holding}
+use Rattle.casa_inquiry.specs.declared.why.Reasons.{Reasons}
+use Rattle.casa_inquiry.specs.Summary.{cost_of, mean_delay}
+use Rattle.casa_wire.specs.LineTexts.{count, flight_data, list_data, list_of, or_null}
+use Rattle.casa_report.specs.Json.{cost_data, day_data, load_json, report_json, step_data, summary_json}
+use Rattle.casa_report.specs.WhyJson.{holder_members, holding_data, offer_data, rule_name, why_data}
+
+pub whole_report : (day : Date) (reg : Text) (list : ListReply)
+    → (codes "{\"day\":" ++ compact_text (day_data day))
+    ++ (codes ",\"list\":" ++ (compact_text (list_data list) ++ (codes ",\"reg\":" ++ (compact_text (string reg) ++ codes "}\n")))) ≡ report_json day reg list
+unfolding serde_json_on_literals
+whole_report day reg list = simp append_assoc refl
+
+pub whole_load : (day : Date) (reg : Text) (steps : List Step)
+    → (codes "{\"day\":" ++ compact_text (day_data day))
+    ++ ((codes ",\"reg\":" ++ (compact_text (string reg) ++ codes ",\"steps\":")) ++ (compact_text (list_of step_data steps) ++ codes "}\n")) ≡ load_json day reg steps
+unfolding serde_json_on_literals
+whole_load day reg steps = simp append_assoc refl
+
+pub whole_summary : (day : Date) (lists : List ListReply)
+    → (codes "{\"day\":" ++ compact_text (day_data day))
+    ++ (codes ",\"regs\":" ++ (compact_text (list_of cost_data lists) ++ codes "}\n")) ≡ summary_json day lists
+unfolding serde_json_on_literals
+whole_summary day lists = simp append_assoc refl
+
+pub cost_text : (l : ListReply)
+    → (codes "{\"delay\":" ++ compact_text (count (cost_of l).delay))
+    ++ ((codes ",\"forced\":" ++ compact_text (count (cost_of l).forced))
+    ++ ((codes ",\"from\":" ++ compact_text (count l.start))
+    ++ ((codes ",\"governed\":" ++ compact_text (count (cost_of l).governed))
+    ++ ((codes ",\"issued\":" ++ compact_text (count (cost_of l).issued))
+    ++ ((codes ",\"loc\":" ++ compact_text (string l.loc))
+    ++ ((codes ",\"longest\":" ++ compact_text (count (cost_of l).longest))
+    ++ ((codes ",\"mean\":" ++ compact_text (or_null count (mean_delay (cost_of l))))
+    ++ ((codes ",\"over\":" ++ compact_text (count (cost_of l).over))
+    ++ ((codes ",\"reg\":" ++ compact_text (string l.reg))
+    ++ ((codes ",\"slots\":" ++ compact_text (count (cost_of l).slots))
+    ++ ((codes ",\"to\":" ++ compact_text (count l.end)) ++ codes "}"))))))))))) ≡ compact_text (cost_data l)
+unfolding serde_json_on_literals
+cost_text l = refl
+
+pub holding_text : (h : Holding)
+    → (codes "{\"begin\":" ++ (compact_text (count h.begin) ++ []))
+    ++ (holder_members h.holder ++ (codes ",\"slot\":" ++ (compact_text (count h.slot) ++ codes "}"))) ≡ compact_text (holding_data h)
+unfolding serde_json_on_literals
+holding_text h = simp (append_assoc, append-nil) refl
+
+pub reasons_text : (day : Date) (why : Reasons)
+    → (codes "{\"day\":" ++ compact_text (day_data day))
+    ++ (codes ",\"flight\":" ++ (compact_text (flight_data why.flight) ++ (codes ",\"holdings\":" ++ (compact_text (list_of holding_data why.holdings)
+    ++ (codes ",\"offers\":" ++ (compact_text (list_of offer_data why.offers) ++ (codes ",\"rule\":" ++ (compact_text (string (rule_name why.rule)) ++ codes "}")))))))) ≡ compact_text (why_data day why)
+unfolding serde_json_on_literals
+reasons_text day why = simp append_assoc refl

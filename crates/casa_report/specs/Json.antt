@@ -1,0 +1,60 @@
+-- to believe: what a flow manager reads, as JSON: times are seconds from midnight UTC
+use Rattle.std.specs.Prelude.{List, [], ◌∷◌, codes}
+use Rattle.serde_json.specs.Data.{Data, string}
+use Rattle.jiff.specs.Words.{date_text}
+use Rattle.jiff_core.specs.declared.civil.date.Date.{Date}
+use Rattle.casa_filing.specs.Text.{Text}
+use Rattle.casa_flight.specs.declared.reply.ListReply.{ListReply}
+use Rattle.casa_inquiry.specs.declared.load.Step.{Step}
+use Rattle.casa_inquiry.specs.Summary.{cost_of, mean_delay}
+use Rattle.casa_wire.specs.LineTexts.{count, line_of, list_data, list_of, object_of, or_null}
+
+-- a day, as "2025-06-01"
+abbrev pub day_data : Date → Data
+day_data day = string (date_text day)
+
+-- the list as a reply to `list` has it
+abbrev pub report_data : Date → Text → ListReply → Data
+report_data day reg list = object_of (
+    (codes "day", day_data day) ∷ (codes "list", list_data list) ∷ (codes "reg", string reg) ∷ [])
+
+abbrev pub step_data : Step → Data
+step_data s = object_of (
+    (codes "calculated", count s.calculated) ∷
+    (codes "from", count s.span.from) ∷
+    (codes "planned", count s.planned) ∷
+    (codes "slots", count s.slots) ∷
+    (codes "to", or_null count s.span.until) ∷ [])
+
+abbrev pub load_data : Date → Text → List Step → Data
+load_data day reg steps = object_of (
+    (codes "day", day_data day) ∷ (codes "reg", string reg) ∷ (codes "steps", list_of step_data steps) ∷ [])
+
+-- what a regulation costs, by its list
+abbrev pub cost_data : ListReply → Data
+cost_data list = object_of (
+    (codes "delay", count (cost_of list).delay) ∷
+    (codes "forced", count (cost_of list).forced) ∷
+    (codes "from", count list.start) ∷
+    (codes "governed", count (cost_of list).governed) ∷
+    (codes "issued", count (cost_of list).issued) ∷
+    (codes "loc", string list.loc) ∷
+    (codes "longest", count (cost_of list).longest) ∷
+    (codes "mean", or_null count (mean_delay (cost_of list))) ∷
+    (codes "over", count (cost_of list).over) ∷
+    (codes "reg", string list.reg) ∷
+    (codes "slots", count (cost_of list).slots) ∷
+    (codes "to", count list.end) ∷ [])
+
+abbrev pub summary_data : Date → List ListReply → Data
+summary_data day lists = object_of ((codes "day", day_data day) ∷ (codes "regs", list_of cost_data lists) ∷ [])
+
+-- each text is one line
+abbrev pub report_json : Date → Text → ListReply → Text
+report_json day reg list = line_of (report_data day reg list)
+
+abbrev pub load_json : Date → Text → List Step → Text
+load_json day reg steps = line_of (load_data day reg steps)
+
+abbrev pub summary_json : Date → List ListReply → Text
+summary_json day lists = line_of (summary_data day lists)
