@@ -7,8 +7,9 @@ use Rattle.std.proofs.lemmas.Bool.Decides.{nat_tests}
 use Rattle.jiff_fmt.specs.Temporal.{DateParts}
 use Rattle.clap.specs.Words.{Row, fault_of, first_of, subcommand_of}
 use Rattle.casa_filing.specs.Text.{Text}
-use Rattle.casa_cli.specs.Words.{Clash, Request, WrongValue, needs, no_port, clashing, run, report, load, summary, why, page, serve, stay, check_journal, wrong_reg, wrong_key, wrong_day, wrong_action, whole_app, request_of, named_request, serve_at, stay_at, or_wrong, ◌>>=◌, number_of, day_in, day_of, named_in, step_of, turns_of, connections_of, page_port_of, seats_of, socket_of, every_of, is_given, is_strict, journal_of, word_of, checked_day, clock_for, clash_of}
-use Rattle.casa_cli.specs.Checks.{AreRead, AreServed, first_wrong, run_checks, run_request, report_checks, report_request, load_request, summary_checks, summary_request, page_request, why_checks, why_request, serve_checks, serve_request, stay_checks, stay_request, journal_checks, journal_request, unless_wrong}
+use Rattle.casa_cli.specs.Words.{Clash, Request, WrongValue, needs, no_port, clashing, run, report, load, summary, why, page, serve, stay, check_journal, wrong_reg, wrong_key, wrong_day, wrong_word, whole_app, request_of, named_request, serve_at, stay_at, or_wrong, ◌>>=◌, number_of, day_in, day_of, named_in, format_of, step_of, turns_of, connections_of, page_port_of, seats_of, socket_of, every_of, is_given, is_strict, journal_of, word_of, checked_day, clock_for, clash_of}
+use Rattle.casa_cli.specs.declared.tasks.Format.{Format}
+use Rattle.casa_cli.specs.Checks.{AreRead, AreServed, first_wrong, run_checks, run_request, report_checks, report_request, load_request, summary_checks, summary_request, page_checks, page_request, why_checks, why_request, serve_checks, serve_request, stay_checks, stay_request, journal_checks, journal_request, unless_wrong}
 use Rattle.casa_cli.proofs.Served.{journal_checked}
 
 pub nothing_asked : (words : List Text) → (fault_of whole_app words ≡ [] → ⊥) → request_of words ≡ None
@@ -36,8 +37,8 @@ run_asked words rows read =
 
 -- `journal`, by whether it is to check, and by the file, which is there
 by_action : (checks : Bool) (path : Option Text) → is_some path ≡ true
-    → Some (cond checks (Ok (check_journal (unwrap_or path []))) (Err wrong_action))
-    ≡ unless_wrong (first_wrong ((not checks, wrong_action) ∷ [])) (option_and_then (λ p. Some (check_journal p)) path)
+    → Some (cond checks (Ok (check_journal (unwrap_or path []))) (Err (wrong_word (codes "action"))))
+    ≡ unless_wrong (first_wrong ((not checks, wrong_word (codes "action")) ∷ [])) (option_and_then (λ p. Some (check_journal p)) path)
 by_action true None there = absurd (true≢false (sym there))
 by_action false None there = refl
 by_action true (Some p) there = refl
@@ -50,32 +51,45 @@ journal_asked words rows read =
     ∙ by_action (bytes_eq (word_of (codes "action") rows) (codes "check")) (first_of (codes "file") rows)
     (journal_checked words (codes "journal") rows read.0 read.1 refl).1
 
--- a subcommand with a name and a day, by these
-named_and_day : (wrong : WrongValue) (name : Option Text) (day : Option DateParts) (make : Text → DateParts → Request)
-    → Some (or_wrong wrong name >>= (λ n. or_wrong wrong_day day >>= (λ d. Ok (make n d))))
-    ≡ unless_wrong (first_wrong ((is_none name, wrong) ∷ (is_none day, wrong_day) ∷ []))
-    (option_and_then (λ n. option_and_then (λ d. Some (make n d)) day) name)
-named_and_day wrong None day make = refl
-named_and_day wrong (Some n) None make = refl
-named_and_day wrong (Some n) (Some d) make = refl
+-- a subcommand with a form, a name and a day, by these
+named_and_day : (wrong : WrongValue) (format : Option Format) (name : Option Text) (day : Option DateParts)
+    (make : Format → Text → DateParts → Request)
+    → Some (or_wrong (wrong_word (codes "format")) format
+    >>= (λ f. or_wrong wrong name >>= (λ n. or_wrong wrong_day day >>= (λ d. Ok (make f n d)))))
+    ≡ unless_wrong (first_wrong ((is_none format, wrong_word (codes "format")) ∷ (is_none name, wrong) ∷
+    (is_none day, wrong_day) ∷ []))
+    (option_and_then (λ f. option_and_then (λ n. option_and_then (λ d. Some (make f n d)) day) name) format)
+named_and_day wrong None name day make = refl
+named_and_day wrong (Some f) None day make = refl
+named_and_day wrong (Some f) (Some n) None make = refl
+named_and_day wrong (Some f) (Some n) (Some d) make = refl
 
 pub report_asked : (words : List Text) (rows : List Row) → AreRead words (codes "report") rows
     → request_of words ≡ unless_wrong (first_wrong (report_checks rows)) (report_request rows)
 report_asked words rows read =
-    asked_of words (codes "report") rows read ∙ named_and_day wrong_reg (named_in (codes "reg") rows) (day_in rows)
-    (λ reg day. report reg day (is_strict rows))
+    asked_of words (codes "report") rows read ∙ named_and_day wrong_reg (format_of rows) (named_in (codes "reg") rows) (day_in rows)
+    (λ format reg day. report reg day format (is_strict rows))
 
 pub load_asked : (words : List Text) (rows : List Row) → AreRead words (codes "load") rows
     → request_of words ≡ unless_wrong (first_wrong (report_checks rows)) (load_request rows)
 load_asked words rows read =
     asked_of words (codes "load") rows read
-    ∙ named_and_day wrong_reg (named_in (codes "reg") rows) (day_in rows) (λ reg day. load reg day (step_of rows) (is_strict rows))
+    ∙ named_and_day wrong_reg (format_of rows) (named_in (codes "reg") rows) (day_in rows)
+    (λ format reg day. load reg day (step_of rows) format (is_strict rows))
 
 pub why_asked : (words : List Text) (rows : List Row) → AreRead words (codes "why") rows
     → request_of words ≡ unless_wrong (first_wrong (why_checks rows)) (why_request rows)
 why_asked words rows read =
-    asked_of words (codes "why") rows read ∙ named_and_day wrong_key (named_in (codes "key") rows) (day_in rows)
-    (λ key day. why key day (is_strict rows))
+    asked_of words (codes "why") rows read ∙ named_and_day wrong_key (format_of rows) (named_in (codes "key") rows) (day_in rows)
+    (λ format key day. why key day format (is_strict rows))
+
+formatted_day : (format : Option Format) (day : Option DateParts) (make : Format → DateParts → Request)
+    → Some (or_wrong (wrong_word (codes "format")) format >>= (λ f. or_wrong wrong_day day >>= (λ d. Ok (make f d))))
+    ≡ unless_wrong (first_wrong ((is_none format, wrong_word (codes "format")) ∷ (is_none day, wrong_day) ∷ []))
+    (option_and_then (λ f. option_and_then (λ d. Some (make f d)) day) format)
+formatted_day None day make = refl
+formatted_day (Some f) None make = refl
+formatted_day (Some f) (Some d) make = refl
 
 day_alone : (day : Option DateParts) (make : DateParts → Request)
     → Some (or_wrong wrong_day day >>= (λ d. Ok (make d)))
@@ -86,10 +100,11 @@ day_alone (Some d) make = refl
 pub summary_asked : (words : List Text) (rows : List Row) → AreRead words (codes "summary") rows
     → request_of words ≡ unless_wrong (first_wrong (summary_checks rows)) (summary_request rows)
 summary_asked words rows read =
-    asked_of words (codes "summary") rows read ∙ day_alone (day_in rows) (λ day. summary day (is_strict rows))
+    asked_of words (codes "summary") rows read
+    ∙ formatted_day (format_of rows) (day_in rows) (λ format day. summary day format (is_strict rows))
 
 pub page_asked : (words : List Text) (rows : List Row) → AreRead words (codes "page") rows
-    → request_of words ≡ unless_wrong (first_wrong (summary_checks rows)) (page_request rows)
+    → request_of words ≡ unless_wrong (first_wrong (page_checks rows)) (page_request rows)
 page_asked words rows read =
     asked_of words (codes "page") rows read ∙ day_alone (day_in rows) (λ day. page day (is_strict rows))
 

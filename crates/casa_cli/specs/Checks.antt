@@ -3,7 +3,7 @@ use Rattle.std.specs.Prelude.{◌≡◌, Bool, false, not, ◌&&◌, ◌==◌, i
 use Rattle.std.specs.Option.{option_map_or}
 use Rattle.clap.specs.Words.{Row, fault_of, first_of, subcommand_of}
 use Rattle.casa_filing.specs.Text.{Text}
-use Rattle.casa_cli.specs.Words.{Request, WrongValue, needs, no_port, clashing, run, report, load, summary, why, page, serve, stay, check_journal, wrong_reg, wrong_key, wrong_day, wrong_action, whole_app, clash_of, connections_of, day_in, day_of, every_of, is_given, is_strict, journal_of, named_in, number_of, page_port_of, seats_of, socket_of, step_of, turns_of, word_of}
+use Rattle.casa_cli.specs.Words.{Request, WrongValue, needs, no_port, clashing, run, report, load, summary, why, page, serve, stay, check_journal, wrong_reg, wrong_key, wrong_day, wrong_word, whole_app, clash_of, connections_of, day_in, day_of, every_of, format_of, is_given, is_strict, journal_of, named_in, number_of, page_port_of, seats_of, socket_of, step_of, turns_of, word_of}
 
 -- clap finds no fault in the words, and they are this subcommand with these options
 abbrev pub AreRead : List Text → Text → List Row → Type 0
@@ -29,21 +29,32 @@ run_checks rows = (
   clashing (needs (codes "force") (codes "journal")),
 ) ∷ []
 
--- of `report` and `load`: what stands after `--reg` is no identifier; what stands after `--day` is no day
+-- what stands after `--format` is no form
+abbrev pub format_check : List Row → Check
+format_check rows = (is_none (format_of rows), wrong_word (codes "format"))
+
+-- of `report` and `load`: this; what stands after `--reg` is no identifier; what stands after `--day` is no day
 abbrev pub report_checks : List Row → List Check
-report_checks rows = (is_none (named_in (codes "reg") rows), wrong_reg) ∷ (is_none (day_in rows), wrong_day) ∷ []
+report_checks rows =
+    format_check rows ∷ (is_none (named_in (codes "reg") rows), wrong_reg) ∷ (is_none (day_in rows), wrong_day) ∷ []
 
--- of `summary` and `page`: what stands after `--day` is no day
+-- of `summary`: the same of `--format`; what stands after `--day` is no day
 abbrev pub summary_checks : List Row → List Check
-summary_checks rows = (is_none (day_in rows), wrong_day) ∷ []
+summary_checks rows = format_check rows ∷ (is_none (day_in rows), wrong_day) ∷ []
 
--- of `why`: what stands after `--key` is no key of a flight; what stands after `--day` is no day
+-- of `page`: what stands after `--day` is no day
+abbrev pub page_checks : List Row → List Check
+page_checks rows = (is_none (day_in rows), wrong_day) ∷ []
+
+-- of `why`: what stands after `--format` is no form; what stands after `--key` is no key of a flight; what stands after
+-- `--day` is no day
 abbrev pub why_checks : List Row → List Check
-why_checks rows = (is_none (named_in (codes "key") rows), wrong_key) ∷ (is_none (day_in rows), wrong_day) ∷ []
+why_checks rows =
+    format_check rows ∷ (is_none (named_in (codes "key") rows), wrong_key) ∷ (is_none (day_in rows), wrong_day) ∷ []
 
 -- of `journal`: what stands first is not `check`
 abbrev pub journal_checks : List Row → List Check
-journal_checks rows = (not (bytes_eq (word_of (codes "action") rows) (codes "check")), wrong_action) ∷ []
+journal_checks rows = (not (bytes_eq (word_of (codes "action") rows) (codes "check")), wrong_word (codes "action")) ∷ []
 
 -- what stands after `--day` is no day
 abbrev pub day_check : List Row → Check
@@ -72,26 +83,30 @@ run_request rows = Some (run (journal_of rows))
 
 abbrev pub report_request : List Row → Option Request
 report_request rows = do
+  format ← format_of rows
   reg ← named_in (codes "reg") rows
   day ← day_in rows
-  Some (report reg day (is_strict rows))
+  Some (report reg day format (is_strict rows))
 
 abbrev pub load_request : List Row → Option Request
 load_request rows = do
+  format ← format_of rows
   reg ← named_in (codes "reg") rows
   day ← day_in rows
-  Some (load reg day (step_of rows) (is_strict rows))
+  Some (load reg day (step_of rows) format (is_strict rows))
 
 abbrev pub summary_request : List Row → Option Request
 summary_request rows = do
+  format ← format_of rows
   day ← day_in rows
-  Some (summary day (is_strict rows))
+  Some (summary day format (is_strict rows))
 
 abbrev pub why_request : List Row → Option Request
 why_request rows = do
+  format ← format_of rows
   key ← named_in (codes "key") rows
   day ← day_in rows
-  Some (why key day (is_strict rows))
+  Some (why key day format (is_strict rows))
 
 abbrev pub page_request : List Row → Option Request
 page_request rows = do

@@ -8,7 +8,7 @@ use Rattle.clap.specs.declared.error.kind.ErrorKind.TheVariants.{ArgumentConflic
 use Rattle.clap.specs.declared.parser.matches.ArgMatches.{ArgMatches}
 use Rattle.jiff_fmt.specs.Temporal.{date_parts}
 use Rattle.casa_filing.specs.Text.{Text}
-use Rattle.casa_cli.specs.Words.{Clash, Request, Service, WrongValue, needs, excludes, no_port, no_address, too_many_seats, clashing, run, report, load, summary, why, page, serve, stay, check_journal, wrong_reg, wrong_key, wrong_day, wrong_action, whole_app, request_of}
+use Rattle.casa_cli.specs.Words.{Clash, Request, Service, WrongValue, needs, excludes, no_port, no_address, too_many_seats, clashing, run, report, load, summary, why, page, serve, stay, check_journal, wrong_reg, wrong_key, wrong_day, wrong_word, whole_app, request_of}
 use Rattle.casa_cli.specs.declared.clashes.Clash.{Clash as FoundClash}
 use Rattle.casa_cli.specs.declared.clashes.Clash.TheVariants.{Needs, Excludes, NoPort, NoAddress, TooManySeats}
 use Rattle.casa_cli.specs.declared.tasks.Journal.{Journal}
@@ -43,10 +43,10 @@ service task = record {
 -- to believe: the request that a task is, as the words tell it
 abbrev pub request : Task → Request
 request (Run kept) = run (journal kept)
-request (Report reg day strict) = report reg (date_parts day) strict
-request (Load reg day step strict) = load reg (date_parts day) step strict
-request (Summary day strict) = summary (date_parts day) strict
-request (Why key day strict) = why key (date_parts day) strict
+request (Report reg day format strict) = report reg (date_parts day) format strict
+request (Load reg day step format strict) = load reg (date_parts day) step format strict
+request (Summary day format strict) = summary (date_parts day) format strict
+request (Why key day format strict) = why key (date_parts day) format strict
 request (Page day strict) = page (date_parts day) strict
 request (Serve port connections turns day kept) =
     serve port connections turns (option_map date_parts day) (journal kept)
@@ -65,10 +65,10 @@ kind_of_clash no_port = MissingRequiredArgument
 kind_of_clash no_address = MissingRequiredArgument
 kind_of_clash too_many_seats = ArgumentConflict
 
--- to believe: that of what is wrong, if it is such a clash, or an action that there is not
+-- to believe: that of what is wrong, if it is such a clash, or a word that is not possible
 abbrev pub wrong_kinds : Result Request WrongValue → Kinds
 wrong_kinds (Err (clashing clash)) = kind_of_clash clash ∷ []
-wrong_kinds (Err wrong_action) = InvalidValue ∷ []
+wrong_kinds (Err (wrong_word argument)) = InvalidValue ∷ []
 wrong_kinds _ = []
 
 -- to believe: the kinds of fault of the words: clap's own, or where it has none that of such a wrong

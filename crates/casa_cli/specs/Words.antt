@@ -11,6 +11,8 @@ use Rattle.clap.specs.declared.parser.matches.ValueSource.{ValueSource}
 use Rattle.clap.specs.declared.parser.matches.ValueSource.TheVariants.{CommandLine}
 use Rattle.jiff_fmt.specs.Temporal.{DateParts, parse_date}
 use Rattle.casa_filing.specs.Text.{Text, is_name}
+use Rattle.casa_cli.specs.declared.tasks.Format.{Format}
+use Rattle.casa_cli.specs.declared.tasks.Format.TheVariants.{Table, Csv, Json}
 
 -- `--name VALUE`
 abbrev pub option_rule : Text → Rule
@@ -33,8 +35,8 @@ abbrev pub number_between : ℕ → ℕ → Rule → Rule
 number_between low high rule = record rule { parser = Some (Signed (pos low) (pos high)) }
 
 -- `run` may take `--journal` and `--force`; `report` takes `--reg` and `--day`, `load` the same, and it may take
--- `--step`; `summary` and `page` take `--day`, and `why` takes `--key` and `--day`; these five may take `--strict`; `serve`
--- may take each of its options; `journal` takes an action and a file
+-- `--step`; `summary` and `page` take `--day`, and `why` takes `--key` and `--day`; these five may take `--strict`, and all
+-- but `page` may take `--format`; `serve` may take each of its options; `journal` takes an action and a file
 
 -- a subcommand that may keep a journal
 abbrev pub maybe_journal : App → App
@@ -47,23 +49,32 @@ run_app = maybe_journal (new_app (codes "run"))
 abbrev pub taking_day : App → App
 taking_day app = with_rule app (needed (option_rule (codes "day")))
 
+-- one that may print in another form
+abbrev pub maybe_formatted : App → App
+maybe_formatted app = with_rule app (option_rule (codes "format"))
+
 -- and one that may be strict
 abbrev pub maybe_strict : App → App
 maybe_strict app = with_rule app (flag_rule (codes "strict"))
 
 abbrev pub report_app : App
-report_app = maybe_strict (taking_day (with_rule (new_app (codes "report")) (needed (option_rule (codes "reg")))))
+report_app =
+    maybe_strict (maybe_formatted (taking_day (with_rule (new_app (codes "report")) (needed (option_rule (codes "reg"))))))
+
+-- `load` with what it must take, and the length of its steps
+abbrev pub load_stepping : App
+load_stepping =
+    with_rule (taking_day (with_rule (new_app (codes "load")) (needed (option_rule (codes "reg")))))
+    (number_between 1 1440 (option_rule (codes "step")))
 
 abbrev pub load_app : App
-load_app =
-    maybe_strict (with_rule (taking_day (with_rule (new_app (codes "load")) (needed (option_rule (codes "reg")))))
-    (number_between 1 1440 (option_rule (codes "step"))))
+load_app = maybe_strict (maybe_formatted load_stepping)
 
 abbrev pub summary_app : App
-summary_app = maybe_strict (taking_day (new_app (codes "summary")))
+summary_app = maybe_strict (maybe_formatted (taking_day (new_app (codes "summary"))))
 
 abbrev pub why_app : App
-why_app = maybe_strict (taking_day (with_rule (new_app (codes "why")) (needed (option_rule (codes "key")))))
+why_app = maybe_strict (maybe_formatted (taking_day (with_rule (new_app (codes "why")) (needed (option_rule (codes "key"))))))
 
 abbrev pub page_app : App
 page_app = maybe_strict (taking_day (new_app (codes "page")))
@@ -156,10 +167,10 @@ pub record Service : Type 0 where
 -- what the words can ask for
 pub data Request : Type 0 where
   run : (journal : Option (Text × Bool)) → Request
-  report : Text → DateParts → (strict : Bool) → Request
-  load : Text → DateParts → (step : ℕ) → (strict : Bool) → Request
-  summary : DateParts → (strict : Bool) → Request
-  why : Text → DateParts → (strict : Bool) → Request
+  report : Text → DateParts → Format → (strict : Bool) → Request
+  load : Text → DateParts → (step : ℕ) → Format → (strict : Bool) → Request
+  summary : DateParts → Format → (strict : Bool) → Request
+  why : Text → DateParts → Format → (strict : Bool) → Request
   page : DateParts → (strict : Bool) → Request
   serve : (port connections turns : ℕ) → (day : Option DateParts) → (journal : Option (Text × Bool)) → Request
   stay : Service → Request
@@ -174,13 +185,13 @@ pub data Clash : Type 0 where
   no_address : Clash
   too_many_seats : Clash
 
--- and what can be wrong, in the order of the checks
+-- and what can be wrong, in the order of the checks; last a word that is not possible for an argument
 pub data WrongValue : Type 0 where
   clashing : Clash → WrongValue
   wrong_reg : WrongValue
   wrong_key : WrongValue
   wrong_day : WrongValue
-  wrong_action : WrongValue
+  wrong_word : (argument : Text) → WrongValue
 
 abbrev pub is_digit : ℕ → Bool
 is_digit c = nat_le 48 c && nat_le c 57
@@ -239,32 +250,51 @@ is_given name rows = is_of_words (option_and_then (λ row. row.source) (find (λ
 abbrev pub is_strict : List Row → Bool
 is_strict rows = is_given (codes "strict") rows
 
+-- the form that a word names
+abbrev pub format_named : Text → Option Format
+format_named word =
+    if bytes_eq word (codes "table") then Some Table
+    else if bytes_eq word (codes "csv") then Some Csv
+    else if bytes_eq word (codes "json") then Some Json
+    else None
+
+-- the form in which to print: a table, where none is given
+abbrev pub format_of : List Row → Option Format
+format_of rows = option_map_or format_named (first_of (codes "format") rows) (Some Table)
+
+abbrev pub formatted : List Row → Result Format WrongValue
+formatted rows = or_wrong (wrong_word (codes "format")) (format_of rows)
+
 -- the minutes of a step
 abbrev pub step_of : List Row → ℕ
 step_of rows = unwrap_or (number_of (codes "step") rows) 20
 
 abbrev pub report_of : List Row → Result Request WrongValue
 report_of rows = do
+  format ← formatted rows
   reg ← or_wrong wrong_reg (named_in (codes "reg") rows)
   day ← or_wrong wrong_day (day_in rows)
-  Ok (report reg day (is_strict rows))
+  Ok (report reg day format (is_strict rows))
 
 abbrev pub load_of : List Row → Result Request WrongValue
 load_of rows = do
+  format ← formatted rows
   reg ← or_wrong wrong_reg (named_in (codes "reg") rows)
   day ← or_wrong wrong_day (day_in rows)
-  Ok (load reg day (step_of rows) (is_strict rows))
+  Ok (load reg day (step_of rows) format (is_strict rows))
 
 abbrev pub summary_of : List Row → Result Request WrongValue
 summary_of rows = do
+  format ← formatted rows
   day ← or_wrong wrong_day (day_in rows)
-  Ok (summary day (is_strict rows))
+  Ok (summary day format (is_strict rows))
 
 abbrev pub why_of : List Row → Result Request WrongValue
 why_of rows = do
+  format ← formatted rows
   key ← or_wrong wrong_key (named_in (codes "key") rows)
   day ← or_wrong wrong_day (day_in rows)
-  Ok (why key day (is_strict rows))
+  Ok (why key day format (is_strict rows))
 
 abbrev pub page_of : List Row → Result Request WrongValue
 page_of rows = do
@@ -386,7 +416,7 @@ serve_of rows =
 abbrev pub check_of : List Row → Result Request WrongValue
 check_of rows =
     if bytes_eq (word_of (codes "action") rows) (codes "check")
-    then Ok (check_journal (word_of (codes "file") rows)) else Err wrong_action
+    then Ok (check_journal (word_of (codes "file") rows)) else Err (wrong_word (codes "action"))
 
 abbrev pub named_request : Text × List Row → Result Request WrongValue
 named_request (name, rows) =

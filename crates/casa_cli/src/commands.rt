@@ -3,7 +3,7 @@
 ghost use Rattle.std.specs.Prelude.{◌≡◌, ℕ, false, codes, IfOk};
 ghost use Rattle.clap.specs.Words.{app_of, new_app, rule_of};
 ghost use Rattle.clap.specs.declared.builder.command.Command.TheViews.{out-Command as fields_of};
-ghost use Rattle.casa_cli.specs.Words.{casa_alone, casa_of_inquiries, casa_of_lists, flag_rule, journal_app, load_app, needed, number_between, option_rule, page_app, report_app, run_app, serve_app, serve_ending, serve_keeping, serve_listening, serve_noting, serve_paging, serve_without_clock, summary_app, whole_app, why_app, word_rule};
+ghost use Rattle.casa_cli.specs.Words.{casa_alone, casa_of_inquiries, casa_of_lists, flag_rule, journal_app, load_app, load_stepping, needed, number_between, option_rule, page_app, report_app, run_app, serve_app, serve_ending, serve_keeping, serve_listening, serve_noting, serve_paging, serve_without_clock, summary_app, whole_app, why_app, word_rule};
 
 use crate::help;
 use clap::{Arg, ArgAction, Command, value_parser};
@@ -67,30 +67,40 @@ pub fn run_command<'a>(alloc: Global) -> Result<Command<'a>, AllocError>
 }
 
 /// `casa report` with its options.
-fn report_command<'a>(alloc: Global) -> Result<Command<'a>, AllocError>
+pub fn report_command<'a>(alloc: Global) -> Result<Command<'a>, AllocError>
     ensures app { IfOk result (λ command. app_of command ≡ report_app) }
     ensures local { IfOk result (λ command. (fields_of command).has_globals ≡ false) }
 {
     subcommand(alloc, "report", help::REPORT_ABOUT, help::REPORT_AFTER_HELP)
         .arg(reg_option(alloc))?
         .arg(day_option(alloc))?
+        .arg(format_option(alloc))?
         .arg(strict_flag(alloc))
 }
 
 /// `casa load` with its options.
-fn load_command<'a>(alloc: Global) -> Result<Command<'a>, AllocError>
+pub fn load_command<'a>(alloc: Global) -> Result<Command<'a>, AllocError>
     ensures app { IfOk result (λ command. app_of command ≡ load_app) }
+    ensures local { IfOk result (λ command. (fields_of command).has_globals ≡ false) }
+{
+    load_stepping(alloc)?
+        .arg(format_option(alloc))?
+        .arg(strict_flag(alloc))
+}
+
+/// `casa load` with what it must take, and the length of its steps.
+fn load_stepping<'a>(alloc: Global) -> Result<Command<'a>, AllocError>
+    ensures app { IfOk result (λ command. app_of command ≡ load_stepping) }
     ensures local { IfOk result (λ command. (fields_of command).has_globals ≡ false) }
 {
     subcommand(alloc, "load", help::LOAD_ABOUT, help::LOAD_AFTER_HELP)
         .arg(reg_option(alloc))?
         .arg(day_option(alloc))?
-        .arg(step_option(alloc))?
-        .arg(strict_flag(alloc))
+        .arg(step_option(alloc))
 }
 
 /// `casa summary` with its options.
-fn summary_command<'a>(alloc: Global) -> Result<Command<'a>, AllocError>
+pub fn summary_command<'a>(alloc: Global) -> Result<Command<'a>, AllocError>
     ensures app { IfOk result (λ command. app_of command ≡ summary_app) }
     ensures local { IfOk result (λ command. (fields_of command).has_globals ≡ false) }
 {
@@ -100,11 +110,14 @@ fn summary_command<'a>(alloc: Global) -> Result<Command<'a>, AllocError>
         help::SUMMARY_ABOUT,
         help::SUMMARY_AFTER_HELP,
     );
-    summary.arg(day_option(alloc))?.arg(strict_flag(alloc))
+    summary
+        .arg(day_option(alloc))?
+        .arg(format_option(alloc))?
+        .arg(strict_flag(alloc))
 }
 
 /// `casa why` with its options.
-fn why_command<'a>(alloc: Global) -> Result<Command<'a>, AllocError>
+pub fn why_command<'a>(alloc: Global) -> Result<Command<'a>, AllocError>
     ensures app { IfOk result (λ command. app_of command ≡ why_app) }
     ensures local { IfOk result (λ command. (fields_of command).has_globals ≡ false) }
 {
@@ -112,6 +125,7 @@ fn why_command<'a>(alloc: Global) -> Result<Command<'a>, AllocError>
     subcommand(alloc, "why", help::WHY_ABOUT, help::WHY_AFTER_HELP)
         .arg(key)?
         .arg(day_option(alloc))?
+        .arg(format_option(alloc))?
         .arg(strict_flag(alloc))
 }
 
@@ -316,6 +330,14 @@ fn day_option<'a>(alloc: Global) -> Arg<'a>
     ensures local { result.global ≡ false }
 {
     value_option(alloc, "day", "YYYY-MM-DD", help::DAY_HELP).required(true)
+}
+
+/// `--format`.
+fn format_option<'a>(alloc: Global) -> Arg<'a>
+    ensures rule { rule_of result ≡ option_rule (codes "format") }
+    ensures local { result.global ≡ false }
+{
+    value_option(alloc, "format", "FORMAT", help::FORMAT_HELP)
 }
 
 /// `--journal`.

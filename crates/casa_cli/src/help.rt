@@ -39,16 +39,16 @@ Examples:
 A command is a line of JSON, and so is its reply; docs/COMMANDS.md describes each.";
 
 /// What `report` does.
-pub const REPORT_ABOUT: &str =
-    "Prints a regulation's list as a table, as it stands after the command lines";
+pub const REPORT_ABOUT: &str = "Prints a regulation's list, as it stands after the command lines";
 
 /// What stands below the options of `report`.
 pub const REPORT_AFTER_HELP: &str = "\
-Example:
+Examples:
   casa report --reg R1 --day 2025-06-01 < examples/first.jsonl
+  casa report --reg R1 --day 2025-06-01 --format csv < examples/first.jsonl
 
 The command lines come on standard input, as those of `casa run`, and their replies are not printed;
-docs/COMMANDS.md describes them and the table.";
+docs/COMMANDS.md describes them and what is printed.";
 
 /// What `load` does.
 pub const LOAD_ABOUT: &str =
@@ -213,6 +213,9 @@ pub const ACTION_HELP: &str = "What is to be done with the journal: check";
 
 /// What stands after the file of `journal`.
 pub const FILE_HELP: &str = "The journal, as it was given to --journal";
+
+/// What stands after `--format`.
+pub const FORMAT_HELP: &str = "The form of what is printed: table, csv or json, table if not given";
 
 /// What stands after `--strict`.
 pub const STRICT_HELP: &str =

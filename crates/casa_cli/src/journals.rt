@@ -1,17 +1,17 @@
 //! What `casa run` and `casa journal` ask for, and the journal that a server may keep too.
 
-ghost use Rattle.std.specs.Prelude.{◌≡◌, Err, IfOk, is_some, option_map, true};
-ghost use Rattle.clap.specs.Words.{first_of, found_of, kind_of, rows_of};
+ghost use Rattle.std.specs.Prelude.{◌≡◌, is_some, option_map, true};
+ghost use Rattle.clap.specs.Words.{first_of, found_of, rows_of};
 ghost use Rattle.casa_cli.specs.Tasks.{AreThere, IsOutcome, clash_found, journal};
-ghost use Rattle.casa_cli.specs.Words.{check_of, clash_of_journal, journal_of, run_of, word_of, wrong_action};
+ghost use Rattle.casa_cli.specs.Words.{check_of, clash_of_journal, journal_of, run_of, word_of};
 
+use crate::choices::word_fault;
 use crate::clashes::{Clash, clash_fault};
 use crate::commands::{journal_command, run_command};
 use crate::tasks::{Journal, Task, TaskFault};
 use crate::values::{is_given, value_of};
 use clap::ArgMatches;
-use clap::error::ErrorKind;
-use std::alloc::{AllocError, Global};
+use std::alloc::Global;
 
 /// The task of `casa run` with the values of its options.
 pub fn run_task<'a>(alloc: Global, values: &ArgMatches<'a>) -> Result<Task<'a>, TaskFault>
@@ -32,7 +32,7 @@ pub fn journal_task<'a>(alloc: Global, values: &ArgMatches<'a>) -> Result<Task<'
 {
     let action = word_in(values, "action");
     if action != "check" {
-        return Err(action_fault(alloc, action));
+        return Err(word_fault(alloc, journal_command(alloc), "action", action));
     }
     Ok(Task::CheckJournal {
         path: word_in(values, "file"),
@@ -67,36 +67,5 @@ fn word_in<'a>(values: &ArgMatches<'a>, name: &str) -> &'a str
     match value_of(values, name) {
         Some(word) => word,
         None => unreachable!(),
-    }
-}
-
-/// The fault for what cannot be done with a journal, as clap's own.
-fn action_fault(alloc: Global, action: &str) -> TaskFault
-    ensures { IsOutcome (Err wrong_action) (Err result) }
-{
-    match action_error(alloc, action) {
-        Ok(error) => TaskFault::Words(error),
-        Err(refused) => TaskFault::Words(clap::Error::from(refused)),
-    }
-}
-
-/// clap's error for it, with the usage of `casa journal`.
-fn action_error(alloc: Global, action: &str) -> Result<clap::Error, AllocError>
-    ensures { IfOk result (λ error. kind_of error ≡ ErrorKind.InvalidValue) }
-{
-    let text = action_text(alloc, action)?;
-    let mut command = journal_command(alloc)?;
-    command.error(ErrorKind::InvalidValue, text.as_str())
-}
-
-/// What it says.
-fn action_text(alloc: Global, action: &str) -> Result<String, AllocError> {
-    if action.is_empty() {
-        String::from_str(
-            alloc,
-            "a value is required for '<ACTION>' but none was supplied\n  [possible values: check]",
-        )
-    } else {
-        format!(in alloc; "invalid value '{action}' for '<ACTION>'\n  [possible values: check]")
     }
 }

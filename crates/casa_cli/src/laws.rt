@@ -3,7 +3,7 @@
 ghost use Rattle.std.specs.Prelude.{◌≡◌, List, [], Err, None, Some, true, false, codes};
 ghost use Rattle.clap.specs.Words.{Row, fault_of};
 ghost use Rattle.casa_filing.specs.Text.{Text};
-ghost use Rattle.casa_cli.specs.Checks.{AreRead, AreServed, first_wrong, journal_checks, journal_request, load_request, page_request, report_checks, report_request, run_checks, run_request, serve_checks, serve_request, stay_checks, stay_request, summary_checks, summary_request, unless_wrong, why_checks, why_request};
+ghost use Rattle.casa_cli.specs.Checks.{AreRead, AreServed, first_wrong, journal_checks, journal_request, load_request, page_checks, page_request, report_checks, report_request, run_checks, run_request, serve_checks, serve_request, stay_checks, stay_request, summary_checks, summary_request, unless_wrong, why_checks, why_request};
 ghost use Rattle.casa_cli.specs.Words.{Clash, clash_of, clashing, whole_app, request_of};
 
 /// Words in which clap finds a fault ask for nothing. Of words that it reads, what is wrong is a clash of options;
@@ -23,7 +23,7 @@ pub fn words_have_the_first_wrong_value()
     ensures why { (words : List Text) (rows : List Row) → AreRead words (codes "why") rows →
         request_of words ≡ unless_wrong (first_wrong (why_checks rows)) (why_request rows) }
     ensures page { (words : List Text) (rows : List Row) → AreRead words (codes "page") rows →
-        request_of words ≡ unless_wrong (first_wrong (summary_checks rows)) (page_request rows) }
+        request_of words ≡ unless_wrong (first_wrong (page_checks rows)) (page_request rows) }
     ensures clash { (words : List Text) (rows : List Row) (clash : Clash) → AreRead words (codes "serve") rows
         → clash_of rows ≡ Some clash → request_of words ≡ Some (Err (clashing clash)) }
     ensures serve { (words : List Text) (rows : List Row) → AreServed words false rows →

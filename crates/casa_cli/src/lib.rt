@@ -1,6 +1,7 @@
 //! The words of the command line: what they ask for, and what the program ends with.
 #![tactic(auto)]
 
+mod choices;
 mod clashes;
 mod commands;
 mod help;
@@ -12,5 +13,5 @@ mod values;
 mod words;
 
 pub use laws::words_have_the_first_wrong_value;
-pub use tasks::{Journal, PagePort, Service, Socket, Task, TaskFault, Ticking};
+pub use tasks::{Format, Journal, PagePort, Service, Socket, Task, TaskFault, Ticking};
 pub use words::task;

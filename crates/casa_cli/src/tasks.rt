@@ -10,12 +10,14 @@ pub enum Task<'a> {
         /// The journal to keep, if one is given.
         journal: Option<Journal<'a>>,
     },
-    /// `casa report`: the list of a regulation as a table, under a heading with the day.
+    /// `casa report`: the list of a regulation, under a heading with the day.
     Report {
         /// The regulation.
         reg: RegId,
         /// The day, for the heading.
         day: Date,
+        /// The form in which it is printed.
+        format: Format,
         /// Whether `--strict` was given.
         strict: bool,
     },
@@ -27,6 +29,8 @@ pub enum Task<'a> {
         day: Date,
         /// The length of a step in minutes, 1 to 1,440.
         step: u32,
+        /// The form in which it is printed.
+        format: Format,
         /// Whether `--strict` was given.
         strict: bool,
     },
@@ -34,6 +38,8 @@ pub enum Task<'a> {
     Summary {
         /// The day, for the heading.
         day: Date,
+        /// The form in which it is printed.
+        format: Format,
         /// Whether `--strict` was given.
         strict: bool,
     },
@@ -50,6 +56,8 @@ pub enum Task<'a> {
         key: Key,
         /// The day, for the heading.
         day: Date,
+        /// The form in which it is printed.
+        format: Format,
         /// Whether `--strict` was given.
         strict: bool,
     },
@@ -73,6 +81,17 @@ pub enum Task<'a> {
         /// The path of its file, as it was given.
         path: &'a str,
     },
+}
+
+/// The form in which something is printed.
+#[derive(Clone, Copy, PartialEq, Eq, Debug)]
+pub enum Format {
+    /// A table for readers.
+    Table,
+    /// CSV, as RFC 4180 has it.
+    Csv,
+    /// JSON.
+    Json,
 }
 
 /// What a server that stays is to do. It has a port or a socket, or both; with both at most 500 seats.

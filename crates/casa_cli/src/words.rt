@@ -4,7 +4,8 @@ ghost use Rattle.clap.specs.declared.error.Error.{Error};
 ghost use Rattle.casa_cli.specs.Tasks.{AreRefused, Asks, HasRead, IsOutcome, IsStepped};
 ghost use Rattle.casa_cli.specs.Words.{whole_app, load_of, page_of, report_of, summary_of, why_of};
 
-use crate::commands::casa_command;
+use crate::choices::{format_in, word_fault};
+use crate::commands::{casa_command, load_command, report_command, summary_command, why_command};
 use crate::journals::{journal_task, run_task};
 use crate::serving::serve_task;
 use crate::tasks::{Task, TaskFault};
@@ -15,10 +16,11 @@ use std::alloc::Global;
 /// What the words ask for; the first is the program's name.
 ///
 /// `Words` where clap refuses them, or where they ask for help or the version; then too, with a fault as clap's own,
-/// where options of `run` or `serve` do not go together, where `serve` then lacks its port, and where `journal` is
-/// given another action than `check`. Then `BadReg` where what stands after `--reg` is no identifier, and `BadKey`
-/// where what stands after `--key` is none; then `BadDay` where what stands after `--day` is not four digits, a hyphen,
-/// two digits, a hyphen and two digits, or no date, and where `serve` is to move the clock and no day is given.
+/// where options of `run` or `serve` do not go together, where `serve` then lacks its port, where `journal` is given
+/// another action than `check`, and where what stands after `--format` is no form. Then `BadReg` where what stands
+/// after `--reg` is no identifier, and `BadKey` where what stands after `--key` is none; then `BadDay` where what stands
+/// after `--day` is not four digits, a hyphen, two digits, a hyphen and two digits, or no date, and where `serve` is to
+/// move the clock and no day is given.
 pub fn task<'a>(alloc: Global, words: &'a [&'a str]) -> Result<Task<'a>, TaskFault>
     ensures ok { IfOk result (Asks (map (λ word. word.now) words.entry.now)) }
     ensures err { IfErr result (AreRefused (map (λ word. word.now) words.entry.now)) }
@@ -33,15 +35,15 @@ pub fn task<'a>(alloc: Global, words: &'a [&'a str]) -> Result<Task<'a>, TaskFau
             } else if name == "journal" {
                 journal_task(alloc, values)
             } else if name == "load" {
-                load_task(values)
+                load_task(alloc, values)
             } else if name == "summary" {
-                summary_task(values)
+                summary_task(alloc, values)
             } else if name == "why" {
-                why_task(values)
+                why_task(alloc, values)
             } else if name == "page" {
                 page_task(values)
             } else {
-                report_task(values)
+                report_task(alloc, values)
             }
         }
         None => unreachable!(),
@@ -65,20 +67,33 @@ fn matches_in<'a>(alloc: Global, words: &'a [&'a str]) -> Result<ArgMatches<'a>,
 }
 
 /// The task of `casa report` with the values of its options.
-fn report_task<'a>(values: &ArgMatches<'_>) -> Result<Task<'a>, TaskFault>
+fn report_task<'a>(alloc: Global, values: &ArgMatches<'_>) -> Result<Task<'a>, TaskFault>
     ensures { IsOutcome (report_of (rows_of (found_of values.now))) result }
 {
+    let format = match format_in(values) {
+        Ok(format) => format,
+        Err(word) => return Err(word_fault(alloc, report_command(alloc), "format", word)),
+    };
     let reg = name_in(values, "reg").ok_or(TaskFault::BadReg)?;
     let day = day_in(values).ok_or(TaskFault::BadDay)?;
     let strict = is_given(values, "strict");
-    Ok(Task::Report { reg, day, strict })
+    Ok(Task::Report {
+        reg,
+        day,
+        format,
+        strict,
+    })
 }
 
 /// The task of `casa load` with the values of its options.
-fn load_task<'a>(values: &ArgMatches<'_>) -> Result<Task<'a>, TaskFault>
+fn load_task<'a>(alloc: Global, values: &ArgMatches<'_>) -> Result<Task<'a>, TaskFault>
     requires { IsStepped (rows_of (found_of values.now)) }
     ensures { IsOutcome (load_of (rows_of (found_of values.now))) result }
 {
+    let format = match format_in(values) {
+        Ok(format) => format,
+        Err(word) => return Err(word_fault(alloc, load_command(alloc), "format", word)),
+    };
     let reg = name_in(values, "reg").ok_or(TaskFault::BadReg)?;
     let day = day_in(values).ok_or(TaskFault::BadDay)?;
     let step = number_in(values, "step").unwrap_or(20);
@@ -87,27 +102,45 @@ fn load_task<'a>(values: &ArgMatches<'_>) -> Result<Task<'a>, TaskFault>
         reg,
         day,
         step,
+        format,
         strict,
     })
 }
 
 /// The task of `casa summary` with the values of its options.
-fn summary_task<'a>(values: &ArgMatches<'_>) -> Result<Task<'a>, TaskFault>
+fn summary_task<'a>(alloc: Global, values: &ArgMatches<'_>) -> Result<Task<'a>, TaskFault>
     ensures { IsOutcome (summary_of (rows_of (found_of values.now))) result }
 {
+    let format = match format_in(values) {
+        Ok(format) => format,
+        Err(word) => return Err(word_fault(alloc, summary_command(alloc), "format", word)),
+    };
     let day = day_in(values).ok_or(TaskFault::BadDay)?;
     let strict = is_given(values, "strict");
-    Ok(Task::Summary { day, strict })
+    Ok(Task::Summary {
+        day,
+        format,
+        strict,
+    })
 }
 
 /// The task of `casa why` with the values of its options.
-fn why_task<'a>(values: &ArgMatches<'_>) -> Result<Task<'a>, TaskFault>
+fn why_task<'a>(alloc: Global, values: &ArgMatches<'_>) -> Result<Task<'a>, TaskFault>
     ensures { IsOutcome (why_of (rows_of (found_of values.now))) result }
 {
+    let format = match format_in(values) {
+        Ok(format) => format,
+        Err(word) => return Err(word_fault(alloc, why_command(alloc), "format", word)),
+    };
     let key = name_in(values, "key").ok_or(TaskFault::BadKey)?;
     let day = day_in(values).ok_or(TaskFault::BadDay)?;
     let strict = is_given(values, "strict");
-    Ok(Task::Why { key, day, strict })
+    Ok(Task::Why {
+        key,
+        day,
+        format,
+        strict,
+    })
 }
 
 /// The task of `casa page` with the values of its options.
