@@ -1,17 +1,19 @@
 -- what is written behind bytes, one text after the other
-use Rattle.std.proofs.Common.{◌≡◌, ℕ, ◌+◌, ◌<◌, List, [], ◌∷◌, ◌++◌, length, take, get_or, append_assoc, append-nil, refl, ap, sym, ◌∙◌, true}
-use Rattle.std.specs.Prelude.{Result, Ok, Err, IsErr, map, codes}
+use Rattle.std.proofs.Common.{◌≡◌, ℕ, ◌+◌, ◌<◌, Bool, List, [], ◌∷◌, ◌++◌, length, take, get_or, append_assoc, append-nil, refl, ap, sym, ◌∙◌, true}
+use Rattle.std.specs.Prelude.{Result, Ok, Err, IsErr, if◌then◌else◌, map, codes}
 use Rattle.std.proofs.lemmas.Grind.{flat_map-append}
 use Rattle.std.proofs.lemmas.List.{take_more}
-use Rattle.serde_json.specs.Data.{Data}
+use Rattle.serde_json.specs.Data.{Data, boolean, string}
 use Rattle.serde_json.specs.View.{items_of}
 use Rattle.serde_json.specs.Written.{compact_text, items_text}
 use Rattle.serde_json.proofs.OnLiterals.{serde_json_on_literals}
 use Rattle.casa_flight.specs.declared.reply.Answer.{Answer}
 use Rattle.casa_flight.specs.declared.reply.Answer.TheVariants.{Done, Flight, List as Listing}
+use Rattle.casa_flight.specs.declared.reply.FlightReply.{FlightReply}
 use Rattle.casa_flight.specs.declared.reply.ListReply.{ListReply}
+use Rattle.casa_flight.specs.declared.reply.ListRow.{ListRow}
 use Rattle.casa_flight.specs.declared.reply.Message.{Message}
-use Rattle.casa_wire.specs.LineTexts.{count, list_of, messages_data, flight_data, list_data, row_data, answer_data}
+use Rattle.casa_wire.specs.LineTexts.{count, or_null, kind_name, list_of, messages_data, flight_data, list_data, row_data, answer_data}
 use Rattle.casa_wire.specs.Parts.{Writes, answer_opening, list_opening, more_text}
 
 pub both : (a b c t u : List ℕ) → b ≡ a ++ t → c ≡ b ++ u → c ≡ a ++ (t ++ u)
@@ -65,3 +67,19 @@ pub list_reply_text : (l : ListReply)
     ++ (codes ",\"start\":" ++ (compact_text (count l.start) ++ codes "}"))))) ≡ compact_text (list_data l)
 unfolding serde_json_on_literals
 list_reply_text l = simp append_assoc refl
+
+-- a row, behind the bracket or a comma
+pub row_text : (is_first : Bool) (r : ListRow)
+    → ((if is_first then 91 else 44) ∷ codes "{\"cto\":") ++ (compact_text (count r.cto) ++ (codes ",\"eto\":" ++ (compact_text (count r.eto)
+    ++ (codes ",\"key\":" ++ (compact_text (string r.key) ++ ((codes ",\"kind\":" ++ (compact_text (string (kind_name r.kind)) ++ codes ",\"slot\":"))
+    ++ (compact_text (or_null count r.slot) ++ codes "}"))))))) ≡ (if is_first then 91 else 44) ∷ compact_text (row_data r)
+unfolding serde_json_on_literals
+row_text is_first r = simp append_assoc refl
+
+-- a flight reply
+pub flight_text : (f : FlightReply)
+    → codes "{\"ctot\":" ++ (compact_text (count f.ctot) ++ (codes ",\"delay\":" ++ (compact_text (count f.delay) ++ (codes ",\"eobt\":" ++ (compact_text (count f.eobt)
+    ++ (codes ",\"etot\":" ++ (compact_text (count f.etot) ++ ((codes ",\"exempt\":" ++ (compact_text (boolean f.exempt) ++ (codes ",\"issued\":" ++ (compact_text (boolean f.issued) ++ codes ",\"key\":"))))
+    ++ (compact_text (string f.key) ++ (codes ",\"reg\":" ++ (compact_text (or_null string f.reg) ++ codes "}"))))))))))) ≡ compact_text (flight_data f)
+unfolding serde_json_on_literals
+flight_text f = simp append_assoc refl

@@ -1,16 +1,16 @@
 //! The lines of replies and faults, written behind the bytes of a vector.
 
-ghost use Rattle.std.specs.Prelude.{◌≡◌, ◌++◌, IfOk, OnOk, OnErr};
+ghost use Rattle.std.specs.Prelude.{◌≡◌, ◌∷◌, ◌++◌, if◌then◌else◌, codes, IfOk, OnOk, OnErr};
 ghost use Rattle.serde_json.specs.Data.{boolean, string};
 ghost use Rattle.serde_json.specs.Written.{compact_text};
-ghost use Rattle.casa_wire.specs.LineTexts.{count, fault_line, fault_text, flight_data, list_data, list_of, message_data, messages_data, or_null, reply_data, reply_line, row_data, slot_data};
+ghost use Rattle.casa_wire.specs.LineTexts.{count, fault_line, fault_text, flight_data, kind_name, list_data, list_of, message_data, messages_data, or_null, reply_data, reply_line, row_data, slot_data};
 ghost use Rattle.casa_wire.specs.Parts.{Writes, answer_opening, list_opening, more_text, part_text};
 
 use crate::fault::WireFault;
 use crate::parts::{Part, push_parts, push_text};
-use crate::reply_values::{fault_text, kind_name};
+use crate::reply_values::fault_text;
 use casa_flight::{
-    Answer, Call, FlightReply, Key, ListReply, ListRow, Message, Refusal, RegId, Reply,
+    Answer, Call, FlightReply, Key, Kind, ListReply, ListRow, Message, Refusal, RegId, Reply,
 };
 use casa_history::Receipt;
 use std::alloc::{AllocError, Global};
@@ -277,11 +277,7 @@ pub fn push_flight(out: &mut Vec<u8>, flight: &FlightReply) -> Result<(), AllocE
             Part::Number(flight.eobt.secs() as u64),
             Part::Text(b",\"etot\":"),
             Part::Number(flight.etot as u64),
-            Part::Text(b",\"exempt\":"),
-            Part::Text(truth_text(flight.exempt)),
-            Part::Text(b",\"issued\":"),
-            Part::Text(truth_text(flight.issued)),
-            Part::Text(b",\"key\":"),
+            Part::Text(standing_text(flight.exempt, flight.issued)),
             Part::Name(flight.key.as_bytes()),
             Part::Text(b",\"reg\":"),
             name_or_null(&flight.reg),
@@ -334,7 +330,7 @@ fn push_rows(out: &mut Vec<u8>, rows: &[ListRow]) -> Result<(), AllocError>
     let Some((first, rest)) = rows.split_first() else {
         return push_text(out, b"[]");
     };
-    push_row(out, b"[", first)?;
+    push_row(out, true, first)?;
     push_more_rows(out, rest)?;
     push_text(out, b"]")
 }
@@ -343,33 +339,47 @@ fn push_more_rows(out: &mut Vec<u8>, rows: &[ListRow]) -> Result<(), AllocError>
     ensures { Writes result out.old.items out.new.items (more_text row_data rows.now) }
 {
     for row in rows {
-        push_row(out, b",", row)?;
+        push_row(out, false, row)?;
     }
     Ok(())
 }
 
-/// Writes a row, behind a text.
-fn push_row(out: &mut Vec<u8>, before: &'static [u8], row: &ListRow) -> Result<(), AllocError>
+/// Writes a row behind the bracket that opens the list, if it is the first, else behind a comma.
+fn push_row(out: &mut Vec<u8>, is_first: bool, row: &ListRow) -> Result<(), AllocError>
     ensures { Writes result out.old.items out.new.items
-        (before.now ++ compact_text (row_data row.now)) }
+        ((if is_first then 91 else 44) ∷ compact_text (row_data row.now)) }
 {
+    let opening: &'static [u8] = if is_first {
+        b"[{\"cto\":"
+    } else {
+        b",{\"cto\":"
+    };
     push_parts(
         out,
         &[
-            Part::Text(before),
-            Part::Text(b"{\"cto\":"),
+            Part::Text(opening),
             Part::Number(row.cto as u64),
             Part::Text(b",\"eto\":"),
             Part::Number(row.eto.secs() as u64),
             Part::Text(b",\"key\":"),
             Part::Name(row.key.as_bytes()),
-            Part::Text(b",\"kind\":"),
-            Part::Name(kind_name(row.kind).as_bytes()),
-            Part::Text(b",\"slot\":"),
+            Part::Text(kind_text(row.kind)),
             number_or_null(row.slot.get()),
             Part::Text(b"}"),
         ],
     )
+}
+
+/// What stands between the key and the slot of a row of this kind.
+fn kind_text(kind: Kind) -> &'static [u8]
+    ensures { result.now ≡ codes ",\"kind\":"
+        ++ (compact_text (string (kind_name kind)) ++ codes ",\"slot\":") }
+{
+    match kind {
+        Kind::Pre => b",\"kind\":\"pre\",\"slot\":",
+        Kind::Issued => b",\"kind\":\"issued\",\"slot\":",
+        Kind::Forced => b",\"kind\":\"forced\",\"slot\":",
+    }
 }
 
 fn number_or_null(number: Option<usize>) -> Part<'static>
@@ -390,8 +400,15 @@ fn name_or_null(name: &Option<RegId>) -> Part<'_>
     }
 }
 
-fn truth_text(is_true: bool) -> &'static [u8]
-    ensures { result.now ≡ compact_text (boolean is_true) }
+/// What stands between a flight's take-off time and its key: whether it is exempt, and whether it is issued.
+fn standing_text(is_exempt: bool, is_issued: bool) -> &'static [u8]
+    ensures { result.now ≡ codes ",\"exempt\":" ++ (compact_text (boolean is_exempt)
+        ++ (codes ",\"issued\":" ++ (compact_text (boolean is_issued) ++ codes ",\"key\":"))) }
 {
-    if is_true { b"true" } else { b"false" }
+    match (is_exempt, is_issued) {
+        (false, false) => b",\"exempt\":false,\"issued\":false,\"key\":",
+        (false, true) => b",\"exempt\":false,\"issued\":true,\"key\":",
+        (true, false) => b",\"exempt\":true,\"issued\":false,\"key\":",
+        (true, true) => b",\"exempt\":true,\"issued\":true,\"key\":",
+    }
 }
