@@ -103,18 +103,11 @@ fn carry_out<
             Ok(ended?)
         }
         Task::Run { journal: None } => answer_lines(alloc, input, writer),
-        Task::Report { reg, day, strict } => {
-            report(alloc, reg, *day, *strict, input, writer, errors)
-        }
-        Task::Load {
-            reg,
-            day,
-            step,
-            strict,
-        } => load(alloc, reg, *day, *step, *strict, input, writer, errors),
-        Task::Summary { day, strict } => summary(alloc, *day, *strict, input, writer, errors),
-        Task::Page { day, strict } => page(alloc, *day, *strict, input, writer, errors),
-        Task::Why { key, day, strict } => why(alloc, key, *day, *strict, input, writer, errors),
+        Task::Report { .. }
+        | Task::Load { .. }
+        | Task::Summary { .. }
+        | Task::Page { .. }
+        | Task::Why { .. } => tell(alloc, task, input, writer, errors),
         Task::Serve {
             port,
             connections,
@@ -132,6 +125,46 @@ fn carry_out<
             Ok(stay_desks(rt, alloc, service)?)
         }
         Task::CheckJournal { path } => Ok(check_journal(rt, alloc, path, writer)?),
+    }
+}
+
+/// Writes the text that a task asks for. One that asks for none writes nothing.
+fn tell<R: Read + Drop, W: Write, E: Write>(
+    alloc: Global,
+    task: &Task,
+    input: &mut Input<R>,
+    writer: &mut W,
+    errors: &mut E,
+) -> Result<(), ProgramFault> {
+    match task {
+        Task::Report {
+            reg,
+            day,
+            format,
+            strict,
+        } => report(alloc, reg, *day, *format, *strict, input, writer, errors),
+        Task::Load {
+            reg,
+            day,
+            step,
+            format,
+            strict,
+        } => load(
+            alloc, reg, *day, *step, *format, *strict, input, writer, errors,
+        ),
+        Task::Summary {
+            day,
+            format,
+            strict,
+        } => summary(alloc, *day, *format, *strict, input, writer, errors),
+        Task::Page { day, strict } => page(alloc, *day, *strict, input, writer, errors),
+        Task::Why {
+            key,
+            day,
+            format,
+            strict,
+        } => why(alloc, key, *day, *format, *strict, input, writer, errors),
+        _ => Ok(()),
     }
 }
 

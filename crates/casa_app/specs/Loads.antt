@@ -8,7 +8,12 @@ use Rattle.casa_filing.specs.Text.{Text}
 use Rattle.casa_flight.specs.declared.call.Call.{Call}
 use Rattle.casa_flight.specs.declared.reply.ListReply.{ListReply}
 use Rattle.casa_flight.specs.Listing.{Listing, list_of}
+use Rattle.casa_inquiry.specs.declared.load.Step.{Step}
 use Rattle.casa_inquiry.specs.Load.{steps}
+use Rattle.casa_cli.specs.declared.tasks.Format.{Format}
+use Rattle.casa_cli.specs.declared.tasks.Format.TheVariants.{Table, Csv, Json}
+use Rattle.casa_report.specs.Json.{load_json}
+use Rattle.casa_report.specs.LoadCsv.{load_csv}
 use Rattle.casa_report.specs.LoadTable.{load_text}
 use Rattle.casa_session.specs.Played.{state_after_calls}
 use Rattle.casa_app.specs.declared.fault.ProgramFault.{ProgramFault}
@@ -19,12 +24,19 @@ use Rattle.casa_app.specs.Reports.{list_after}
 abbrev pub periods_after : List Call → Text → Option (List Period)
 periods_after answered reg = option_map (λ (kept : Listing). kept.profile) (list_of (state_after_calls answered) reg)
 
--- the text for a regulation with these periods and this list, by steps of so many minutes
-abbrev pub load_of : Text → Date → ℕ → List Period → ListReply → Text
-load_of reg day minutes periods list =
-    load_text reg day (steps periods list.rows minutes) (length list.rows) (length (slots periods))
+-- demand and capacity of a regulation, step by step, in a form: a table, which adds up these flights and slots,
+-- comma-separated values, or JSON
+abbrev pub load_as : Format → Text → Date → List Step → ℕ → ℕ → Text
+load_as Table reg day taken flights offered = load_text reg day taken flights offered
+load_as Csv reg day taken flights offered = load_csv day taken
+load_as Json reg day taken flights offered = load_json day reg taken
+
+-- the text in a form for a regulation with these periods and this list, by steps of so many minutes
+abbrev pub load_of : Format → Text → Date → ℕ → List Period → ListReply → Text
+load_of format reg day minutes periods list =
+    load_as format reg day (steps periods list.rows minutes) (length list.rows) (length (slots periods))
 
 -- the same for the regulation as it is after these calls
-abbrev pub load_after : Text → Date → ℕ → List Call → Result Text ProgramFault
-load_after reg day minutes answered =
-    ok_or (option_and_then (λ periods. option_map (load_of reg day minutes periods) (list_after answered reg)) (periods_after answered reg)) NoRegulation
+abbrev pub load_after : Text → Date → ℕ → Format → List Call → Result Text ProgramFault
+load_after reg day minutes format answered =
+    ok_or (option_and_then (λ periods. option_map (load_of format reg day minutes periods) (list_after answered reg)) (periods_after answered reg)) NoRegulation

@@ -6,6 +6,10 @@ use Rattle.casa_filing.specs.Text.{Text}
 use Rattle.casa_flight.specs.declared.call.Call.{Call}
 use Rattle.casa_inquiry.specs.Why.{why_of}
 use Rattle.casa_inquiry.specs.declared.why.Reasons.{Reasons}
+use Rattle.casa_cli.specs.declared.tasks.Format.{Format}
+use Rattle.casa_cli.specs.declared.tasks.Format.TheVariants.{Table, Csv, Json}
+use Rattle.casa_report.specs.WhyCsv.{why_csv}
+use Rattle.casa_report.specs.WhyJson.{why_json}
 use Rattle.casa_report.specs.WhyText.{why_text}
 use Rattle.casa_session.specs.Played.{state_after_calls}
 use Rattle.casa_app.specs.declared.fault.ProgramFault.{ProgramFault}
@@ -16,6 +20,13 @@ use Rattle.casa_app.specs.declared.fault.ProgramFault.TheVariants.{NoFlight}
 abbrev pub reasons_after : List Call → Text → Option Reasons
 reasons_after answered key = why_of (state_after_calls answered) key
 
--- the same as a text
-abbrev pub why_after : Text → Date → List Call → Result Text ProgramFault
-why_after key day answered = ok_or (option_map (why_text day) (reasons_after answered key)) NoFlight
+-- why a flight waits, in a form: a text with tables, who has the slots that it waits for as comma-separated values, or all of
+-- it as JSON
+abbrev pub why_as : Format → Date → Reasons → Text
+why_as Table day why = why_text day why
+why_as Csv day why = why_csv day why
+why_as Json day why = why_json day why
+
+-- the same after these calls
+abbrev pub why_after : Text → Date → Format → List Call → Result Text ProgramFault
+why_after key day format answered = ok_or (option_map (why_as format day) (reasons_after answered key)) NoFlight

@@ -11,45 +11,59 @@ use crate::fault::ProgramFault;
 use crate::input::Input;
 use crate::printing::{Question, print};
 use crate::reports::ask_list;
+use casa_cli::Format;
 use casa_flight::ListReply;
-use casa_report::summary_text;
+use casa_report::{summary_csv, summary_json, summary_text};
 use casa_session::Lone;
 use jiff::civil::Date;
 use std::alloc::Global;
 use std::io::{Read, Write};
 
 /// Answers the command lines of the input as a session does, without its replies, says at `errors` which lines had
-/// faults or were refused, and then writes what each open regulation costs as a table under a heading with the day, and
-/// what all of them cost together. It ends as `report` does, but never by `NoRegulation`.
+/// faults or were refused, and then writes what each open regulation costs, in this form. A table has a heading with the
+/// day, and what all of them cost together. It ends as `report` does, but never by `NoRegulation`.
 pub fn summary<R: Read + Drop, W: Write, E: Write>(
     alloc: Global,
     day: Date,
+    format: Format,
     strict: bool,
     input: &mut Input<R>,
     writer: &mut W,
     errors: &mut E,
 ) -> Result<(), ProgramFault>
-    ensures ends { PrintEnds (summary_after day) result (R.remaining input.old.source)
+    ensures ends { PrintEnds (summary_after day format) result (R.remaining input.old.source)
         (R.remaining input.new.source) (W.contents writer.old) (W.contents writer.new) }
     ensures says { Says strict (is_marked input.new.first.items) result
         (R.remaining input.old.source) (R.remaining input.new.source)
         (E.contents errors.old) (E.contents errors.new) }
 {
-    print(alloc, &SummaryOf { day }, strict, input, writer, errors)
+    print(
+        alloc,
+        &SummaryOf { day, format },
+        strict,
+        input,
+        writer,
+        errors,
+    )
 }
 
 /// Asks for what all open regulations cost.
 #[derive(Drop)]
 struct SummaryOf {
     day: Date,
+    format: Format,
 }
 
 impl Question for SummaryOf {
-    ghost text_after = { λ question. summary_after question.day };
+    ghost text_after = { λ question. summary_after question.day question.format };
 
     fn text(&self, alloc: Global, lone: &mut Lone) -> Result<Vec<u8>, ProgramFault> {
         let lists = ask_all_lists(alloc, lone)?;
-        Ok(summary_text(alloc, self.day, lists.as_slice())?)
+        Ok(match self.format {
+            Format::Table => summary_text(alloc, self.day, lists.as_slice())?,
+            Format::Csv => summary_csv(alloc, self.day, lists.as_slice())?,
+            Format::Json => summary_json(alloc, self.day, lists.as_slice())?,
+        })
     }
 }
 

@@ -11,10 +11,11 @@ ghost use Rattle.casa_app.specs.Whys.{reasons_after, why_after};
 use crate::fault::ProgramFault;
 use crate::input::Input;
 use crate::printing::{Question, print};
+use casa_cli::Format;
 use casa_flight::{Key, RegId, Regulation, Row};
 use casa_inquiry::{Reasons, Shown, explain};
 use casa_list::SlotList;
-use casa_report::why_text;
+use casa_report::{why_csv, why_json, why_text};
 use casa_session::Lone;
 use casa_time::Moment;
 use jiff::civil::Date;
@@ -24,23 +25,29 @@ use std::io::{Read, Write};
 /// Answers the command lines of the input as a session does, without its replies, says at `errors` which lines had
 /// faults or were refused, and then writes why the flight with this key stands as it does: what it is shown with, the
 /// rule by which a regulation governs it, what each regulation to which it is subject would offer it, and who holds the
-/// slots that it waits for. It ends as `report` does, by `NoFlight` where there is no such flight after all lines.
+/// slots that it waits for; as comma-separated values the last of these alone. It ends as `report` does, by `NoFlight`
+/// where there is no such flight after all lines.
 pub fn why<R: Read + Drop, W: Write, E: Write>(
     alloc: Global,
     key: &Key,
     day: Date,
+    format: Format,
     strict: bool,
     input: &mut Input<R>,
     writer: &mut W,
     errors: &mut E,
 ) -> Result<(), ProgramFault>
-    ensures ends { PrintEnds (why_after key.now day) result (R.remaining input.old.source)
+    ensures ends { PrintEnds (why_after key.now day format) result (R.remaining input.old.source)
         (R.remaining input.new.source) (W.contents writer.old) (W.contents writer.new) }
     ensures says { Says strict (is_marked input.new.first.items) result
         (R.remaining input.old.source) (R.remaining input.new.source)
         (E.contents errors.old) (E.contents errors.new) }
 {
-    let question = WhyOf { key: *key, day };
+    let question = WhyOf {
+        key: *key,
+        day,
+        format,
+    };
     print(alloc, &question, strict, input, writer, errors)
 }
 
@@ -49,14 +56,19 @@ pub fn why<R: Read + Drop, W: Write, E: Write>(
 struct WhyOf {
     key: Key,
     day: Date,
+    format: Format,
 }
 
 impl Question for WhyOf {
-    ghost text_after = { λ question. why_after question.key question.day };
+    ghost text_after = { λ question. why_after question.key question.day question.format };
 
     fn text(&self, alloc: Global, lone: &mut Lone) -> Result<Vec<u8>, ProgramFault> {
         let reasons = reasons(alloc, lone, &self.key)?;
-        Ok(why_text(alloc, self.day, &reasons)?)
+        Ok(match self.format {
+            Format::Table => why_text(alloc, self.day, &reasons)?,
+            Format::Csv => why_csv(alloc, self.day, &reasons)?,
+            Format::Json => why_json(alloc, self.day, &reasons)?,
+        })
     }
 }
 

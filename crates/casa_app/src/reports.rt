@@ -12,16 +12,17 @@ ghost use Rattle.casa_app.specs.Reports.{list_after, report_after};
 use crate::fault::ProgramFault;
 use crate::input::Input;
 use crate::printing::{Question, print};
+use casa_cli::Format;
 use casa_commit::{CallFault, Desk};
 use casa_flight::{Answer, Call, ListReply, RegId, Reply};
-use casa_report::report_text;
+use casa_report::{report_csv, report_json, report_text};
 use casa_session::{Lone, SessionFault};
 use jiff::civil::Date;
 use std::alloc::Global;
 use std::io::{Read, Write};
 
 /// Answers the command lines of the input as a session does, without its replies, says at `errors` which lines had
-/// faults or were refused, and then writes the regulation's list as a table under a heading with the day.
+/// faults or were refused, and then writes the regulation's list in this form: a table has a heading with the day.
 ///
 /// The session's fault comes first, then `FaultyLines` where there were such lines and `strict` is true, then
 /// `NoRegulation` where the regulation is not open after all lines, and nothing is written at any of them. `NoMemory` where
@@ -31,18 +32,23 @@ pub fn report<R: Read + Drop, W: Write, E: Write>(
     alloc: Global,
     reg: &RegId,
     day: Date,
+    format: Format,
     strict: bool,
     input: &mut Input<R>,
     writer: &mut W,
     errors: &mut E,
 ) -> Result<(), ProgramFault>
-    ensures ends { PrintEnds (report_after reg.now day) result (R.remaining input.old.source)
+    ensures ends { PrintEnds (report_after reg.now day format) result (R.remaining input.old.source)
         (R.remaining input.new.source) (W.contents writer.old) (W.contents writer.new) }
     ensures says { Says strict (is_marked input.new.first.items) result
         (R.remaining input.old.source) (R.remaining input.new.source)
         (E.contents errors.old) (E.contents errors.new) }
 {
-    let question = ReportOf { reg: *reg, day };
+    let question = ReportOf {
+        reg: *reg,
+        day,
+        format,
+    };
     print(alloc, &question, strict, input, writer, errors)
 }
 
@@ -51,14 +57,19 @@ pub fn report<R: Read + Drop, W: Write, E: Write>(
 struct ReportOf {
     reg: RegId,
     day: Date,
+    format: Format,
 }
 
 impl Question for ReportOf {
-    ghost text_after = { λ question. report_after question.reg question.day };
+    ghost text_after = { λ question. report_after question.reg question.day question.format };
 
     fn text(&self, alloc: Global, lone: &mut Lone) -> Result<Vec<u8>, ProgramFault> {
         let list = ask_list(alloc, lone, self.reg)?;
-        Ok(report_text(alloc, self.day, &self.reg, &list)?)
+        Ok(match self.format {
+            Format::Table => report_text(alloc, self.day, &self.reg, &list)?,
+            Format::Csv => report_csv(alloc, self.day, &list)?,
+            Format::Json => report_json(alloc, self.day, &self.reg, &list)?,
+        })
     }
 }
 
