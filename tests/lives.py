@@ -1,4 +1,4 @@
-"""Servers on a journal, the desks that ask them, and what these were told, for tests/crash and tests/journals.py.
+"""Servers on a journal, the desks that ask them, and what these were told, for tests/crash, tests/journals.py and tests/standby.
 
 A journal is a file of lines, one for each committed call, in their order, with its position `n` from 1. What counts are its
 whole lines: those that are ended by a line feed and stand before its first NUL.
@@ -17,10 +17,12 @@ import signal
 import socket
 import struct
 import subprocess
+import sys
 import threading
 import time
 
 HERE = pathlib.Path(__file__).resolve().parent
+TEST = pathlib.Path(sys.argv[0]).name
 WAIT = 20  # seconds
 MOST_TORN = 1 << 20  # bytes, of one batch
 NUMBER = re.compile(rb'"n":(\d+)')
@@ -38,7 +40,7 @@ def check(name, holds, seen=""):
         failed += 1
         told_often[name] += 1
         if told_often[name] <= 3:
-            print(f"crash: {name}: {seen[-600:] if isinstance(seen, str) else repr(seen)[-600:]}", flush=True)
+            print(f"{TEST}: {name}: {seen[-600:] if isinstance(seen, str) else repr(seen)[-600:]}", flush=True)
         return False
 
 
