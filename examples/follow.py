@@ -3,8 +3,8 @@
 
 The whole lines of FILE come to COPY as they are written, and are put on the disk. HOST is asked by ssh, without a password.
 It goes on until it is ended; where HOST can't be reached, or FILE is not there, it says so once and tries again each second.
-COPY is always a beginning of FILE. Where it is none, since FILE went on otherwise, it stays as it is, and this ends with
-status 1. So it does where another program has COPY, as casa does that goes on with it.
+COPY is always a beginning of FILE. Where it is none, since FILE lost calls or went on otherwise, it stays as it is, and this
+ends with status 1. So it does where another program has COPY, as casa does that goes on with it.
 """
 import argparse
 import datetime
@@ -28,6 +28,10 @@ class Broken(Exception):
 
 class Parted(Exception):
     """Why nothing more can ever be put behind COPY."""
+
+
+class Ahead(Exception):
+    """COPY has all calls of FILE, which are so many, and more."""
 
 
 def say(words):
@@ -78,23 +82,29 @@ class Copy:
         return all_count
 
 
-def asked(source, copy, once):
-    """The command that prints the sum of as many bytes of FILE as COPY has, and then what is behind."""
-    host, _, file = source.rpartition(":")
+def asked(source, command):
+    """A command for the machine that has FILE, which stands in it as {}."""
+    host, colon, file = source.partition(":")
+    if not colon or "/" in host:
+        host, file = "", source
     name = shlex.quote(file if file.startswith("/") else "./" + file)
-    tail = f"tail -c +{copy.size + 1}{'' if once else ' -f'} {name}"
-    command = f"[ -f {name} ] || exit {NO_FILE}; head -c {copy.size} {name} | sha256sum && exec {tail}"
+    command = f"[ -f {name} ] || exit {NO_FILE}; {command.format(name)}"
     return [*SSH, host, command] if host else ["sh", "-c", command]
+
+
+def tail(copy, once):
+    """Prints the sum of as many bytes of FILE as COPY has, and then what is behind."""
+    return f"head -c {copy.size} {{0}} | sha256sum && exec tail -c +{copy.size + 1}{'' if once else ' -f'} {{0}}"
 
 
 def follow(source, copy, once):
     """Copies what comes, until nothing more does. The bytes that are behind the last whole line."""
-    process = subprocess.Popen(asked(source, copy, once), bufsize=0, stdin=subprocess.DEVNULL, stdout=subprocess.PIPE,
+    process = subprocess.Popen(asked(source, tail(copy, once)), bufsize=0, stdin=subprocess.DEVNULL, stdout=subprocess.PIPE,
                                stderr=subprocess.PIPE)
     try:
         told, rest = process.stdout.readline().decode().split()[:1], b""
         if told and told != [copy.sum.hexdigest()]:
-            raise Parted(f"{source} does not begin with the {copy.calls} calls of {copy.path}")
+            part(source, copy)
         if told:
             say(f"{copy.path} has {copy.calls} calls, and goes on with those of {source}")
         while told and (piece := os.read(process.stdout.fileno(), PIECE)):
@@ -111,6 +121,19 @@ def follow(source, copy, once):
     return rest
 
 
+def part(source, copy):
+    """Tells how FILE and COPY differ, where FILE does not begin with COPY."""
+    done = subprocess.run(asked(source, "cat {0}"), stdin=subprocess.DEVNULL, capture_output=True, check=False)
+    if done.returncode:
+        raise Broken(f"{source} can't be read")
+    text = done.stdout.partition(b"\0")[0]
+    text = text[:text.rfind(b"\n") + 1]
+    with open(copy.path, "rb") as lines:
+        if lines.read(len(text)) == text:
+            raise Ahead(text.count(b"\n"))
+    raise Parted(f"{source} does not begin with the {copy.calls} calls of {copy.path}")
+
+
 def keep(source, copy, once):
     """Follows until it is ended, or once; tries again where that is of use."""
     said = None
@@ -120,6 +143,11 @@ def keep(source, copy, once):
             rest = follow(source, copy, once)
             say(f"{copy.path} has all {copy.calls} calls of {source}" + (f", and not the {len(rest)} bytes behind" if rest else ""))
             return
+        except Ahead as left:
+            if once:
+                say(f"{copy.path} has all {left} calls of {source}, and {copy.calls - left.args[0]} more")
+                return
+            raise Parted(f"{source} has only the first {left} of the {copy.calls} calls of {copy.path}") from None
         except Broken as why:
             if once:
                 raise
@@ -135,6 +163,8 @@ def main():
     words.add_argument("source", metavar="[HOST:]FILE", help="the journal that casa writes")
     words.add_argument("copy", metavar="COPY", help="the copy, which is made if it is not there")
     given = words.parse_args()
+    if given.source.startswith(":"):
+        words.error("no HOST stands before the colon")
     try:
         keep(given.source, Copy(given.copy), given.once)
     except (Broken, Parted, OSError) as why:
