@@ -117,7 +117,9 @@ def follow(source, copy, once):
     finally:
         why = process.communicate()[1].decode(errors="replace").strip().splitlines()[-1:]
     if process.returncode or not once:
-        raise Broken(f"there is no {source}" if process.returncode == NO_FILE else ": ".join([f"{source} can't be read", *why]))
+        if process.returncode == NO_FILE:
+            raise Broken(f"there is no {source}")
+        raise Broken(": ".join([f"{source} can't be read", *why]))
     return rest
 
 
@@ -141,7 +143,8 @@ def keep(source, copy, once):
         calls = copy.calls
         try:
             rest = follow(source, copy, once)
-            say(f"{copy.path} has all {copy.calls} calls of {source}" + (f", and not the {len(rest)} bytes behind" if rest else ""))
+            torn = f", and not the {len(rest)} bytes behind" if rest else ""
+            say(f"{copy.path} has all {copy.calls} calls of {source}{torn}")
             return
         except Ahead as left:
             if once:
