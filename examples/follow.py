@@ -93,8 +93,9 @@ def asked(source, command):
 
 
 def tail(copy, once):
-    """Prints the sum of as many bytes of FILE as COPY has, and then what is behind."""
-    return f"head -c {copy.size} {{0}} | sha256sum && exec tail -c +{copy.size + 1}{'' if once else ' -f'} {{0}}"
+    """Prints the sum of as many bytes of FILE as COPY has, and then what is behind; the whole file anew, where FILE becomes
+    another one, so that this is seen."""
+    return f"head -c {copy.size} {{0}} | sha256sum && exec tail -c +{copy.size + 1}{'' if once else ' -F'} {{0}}"
 
 
 def follow(source, copy, once):
