@@ -7,7 +7,8 @@ use Rattle.std.proofs.lemmas.Bool.Decides.{nat_tests}
 use Rattle.jiff_fmt.specs.Temporal.{DateParts}
 use Rattle.clap.specs.Words.{Row, fault_of, first_of, subcommand_of}
 use Rattle.casa_filing.specs.Text.{Text}
-use Rattle.casa_cli.specs.Words.{Clash, Request, WrongValue, needs, no_port, clashing, run, report, load, summary, why, page, serve, stay, check_journal, wrong_reg, wrong_key, wrong_day, wrong_word, whole_app, request_of, named_request, serve_at, stay_at, or_wrong, ◌>>=◌, number_of, day_in, day_of, named_in, format_of, step_of, turns_of, connections_of, page_port_of, seats_of, socket_of, every_of, is_given, is_strict, journal_of, word_of, checked_day, clock_for, clash_of}
+use Rattle.casa_usage.specs.Usage.{whole_app}
+use Rattle.casa_cli.specs.Words.{Clash, Request, WrongValue, needs, no_port, clashing, run, report, load, summary, why, page, serve, stay, check_journal, wrong_reg, wrong_key, wrong_day, wrong_word, request_of, named_request, serve_at, stay_at, or_wrong, ◌>>=◌, number_of, day_in, day_of, named_in, format_of, step_of, turns_of, connections_of, page_port_of, seats_of, socket_of, every_of, is_given, is_strict, journal_of, word_of, checked_day, clock_for, clash_of}
 use Rattle.casa_cli.specs.declared.tasks.Format.{Format}
 use Rattle.casa_cli.specs.Checks.{AreRead, AreServed, first_wrong, run_checks, run_request, report_checks, report_request, load_request, summary_checks, summary_request, page_checks, page_request, why_checks, why_request, serve_checks, serve_request, stay_checks, stay_request, journal_checks, journal_request, unless_wrong}
 use Rattle.casa_cli.proofs.Served.{journal_checked}

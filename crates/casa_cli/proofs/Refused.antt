@@ -6,7 +6,7 @@ use Rattle.clap.specs.Words.{fault_of}
 use Rattle.clap.specs.declared.error.Error.{Error}
 use Rattle.casa_filing.specs.Text.{Text}
 use Rattle.casa_cli.specs.Tasks.{AreRefused}
-use Rattle.casa_cli.specs.Words.{whole_app}
+use Rattle.casa_usage.specs.Usage.{whole_app}
 use Rattle.casa_cli.specs.declared.tasks.Task.{Task}
 use Rattle.casa_cli.specs.declared.tasks.TaskFault.{TaskFault}
 use Rattle.casa_cli.specs.declared.tasks.TaskFault.TheVariants.{Words}

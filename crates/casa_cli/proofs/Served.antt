@@ -16,7 +16,7 @@ use Rattle.clap.specs.declared.builder.action.ArgAction.TheVariants.{Set}
 use Rattle.clap.specs.declared.builder.value_parser.ValueParser.TheVariants.{Signed}
 use Rattle.clap.specs.declared.error.kind.ErrorKind.TheVariants.{MissingRequiredArgument}
 use Rattle.clap.proofs.ValueTestLemmas.{accepts-Accepts}
-use Rattle.casa_cli.specs.Words.{whole_app}
+use Rattle.casa_usage.specs.Usage.{whole_app}
 use Rattle.casa_cli.specs.Tasks.{AreChecked, AreThere, IsNumber, IsStepped}
 use Rattle.casa_cli.proofs.Walks.{AreBeside, ArePassed, IsValued, beside_at, level-passed, or_else-left, or_else-right, row-passed}
 

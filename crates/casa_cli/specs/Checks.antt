@@ -3,7 +3,8 @@ use Rattle.std.specs.Prelude.{◌≡◌, Bool, false, not, ◌&&◌, ◌==◌, i
 use Rattle.std.specs.Option.{option_map_or}
 use Rattle.clap.specs.Words.{Row, fault_of, first_of, subcommand_of}
 use Rattle.casa_filing.specs.Text.{Text}
-use Rattle.casa_cli.specs.Words.{Request, WrongValue, needs, no_port, clashing, run, report, load, summary, why, page, serve, stay, check_journal, wrong_reg, wrong_key, wrong_day, wrong_word, whole_app, clash_of, connections_of, day_in, day_of, every_of, format_of, is_given, is_strict, journal_of, named_in, number_of, page_port_of, seats_of, socket_of, step_of, turns_of, word_of}
+use Rattle.casa_usage.specs.Usage.{whole_app}
+use Rattle.casa_cli.specs.Words.{Request, WrongValue, needs, no_port, clashing, run, report, load, summary, why, page, serve, stay, check_journal, wrong_reg, wrong_key, wrong_day, wrong_word, clash_of, connections_of, day_in, day_of, every_of, format_of, is_given, is_strict, journal_of, named_in, number_of, page_port_of, seats_of, socket_of, step_of, turns_of, word_of}
 
 -- clap finds no fault in the words, and they are this subcommand with these options
 abbrev pub AreRead : List Text → Text → List Row → Type 0

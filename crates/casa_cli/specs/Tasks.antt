@@ -8,7 +8,8 @@ use Rattle.clap.specs.declared.error.kind.ErrorKind.TheVariants.{ArgumentConflic
 use Rattle.clap.specs.declared.parser.matches.ArgMatches.{ArgMatches}
 use Rattle.jiff_fmt.specs.Temporal.{date_parts}
 use Rattle.casa_filing.specs.Text.{Text}
-use Rattle.casa_cli.specs.Words.{Clash, Request, Service, WrongValue, needs, excludes, no_port, no_address, too_many_seats, clashing, run, report, load, summary, why, page, serve, stay, check_journal, wrong_reg, wrong_key, wrong_day, wrong_word, whole_app, request_of}
+use Rattle.casa_usage.specs.Usage.{whole_app}
+use Rattle.casa_cli.specs.Words.{Clash, Request, Service, WrongValue, needs, excludes, no_port, no_address, too_many_seats, clashing, run, report, load, summary, why, page, serve, stay, check_journal, wrong_reg, wrong_key, wrong_day, wrong_word, request_of}
 use Rattle.casa_cli.specs.declared.clashes.Clash.{Clash as FoundClash}
 use Rattle.casa_cli.specs.declared.clashes.Clash.TheVariants.{Needs, Excludes, NoPort, NoAddress, TooManySeats}
 use Rattle.casa_cli.specs.declared.tasks.Journal.{Journal}

@@ -7,9 +7,9 @@ ghost use Rattle.casa_cli.specs.Words.{check_of, clash_of_journal, journal_of, r
 
 use crate::choices::word_fault;
 use crate::clashes::{Clash, clash_fault};
-use crate::commands::{journal_command, run_command};
 use crate::tasks::{Journal, Task, TaskFault};
 use crate::values::{is_given, value_of};
+use casa_usage::{journal_command, run_command};
 use clap::ArgMatches;
 use std::alloc::Global;
 

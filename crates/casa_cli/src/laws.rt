@@ -4,7 +4,8 @@ ghost use Rattle.std.specs.Prelude.{◌≡◌, List, [], Err, None, Some, true, 
 ghost use Rattle.clap.specs.Words.{Row, fault_of};
 ghost use Rattle.casa_filing.specs.Text.{Text};
 ghost use Rattle.casa_cli.specs.Checks.{AreRead, AreServed, first_wrong, journal_checks, journal_request, load_request, page_checks, page_request, report_checks, report_request, run_checks, run_request, serve_checks, serve_request, stay_checks, stay_request, summary_checks, summary_request, unless_wrong, why_checks, why_request};
-ghost use Rattle.casa_cli.specs.Words.{Clash, clash_of, clashing, whole_app, request_of};
+ghost use Rattle.casa_usage.specs.Usage.{whole_app};
+ghost use Rattle.casa_cli.specs.Words.{Clash, clash_of, clashing, request_of};
 
 /// Words in which clap finds a fault ask for nothing. Of words that it reads, what is wrong is a clash of options;
 /// where there is none, it is that of the first check that holds, in the order of the subcommand's list; where none

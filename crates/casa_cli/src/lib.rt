@@ -3,8 +3,6 @@
 
 mod choices;
 mod clashes;
-mod commands;
-mod help;
 mod journals;
 mod laws;
 mod serving;

@@ -6,10 +6,10 @@ ghost use Rattle.casa_cli.specs.Tasks.{AreChecked, IsNumber, IsOutcome, clash_fo
 ghost use Rattle.casa_cli.specs.Words.{clash_by_stay, clash_of, clash_of_ending, clash_of_staying, is_given, page_port_of, seats_of, serve_at, serve_of, socket_of, stay_at, staying_options};
 
 use crate::clashes::{Clash, clash_fault};
-use crate::commands::serve_command;
 use crate::journals::{journal_clash, journal_in};
 use crate::tasks::{PagePort, Service, Socket, Task, TaskFault, Ticking};
 use crate::values::{checked_day, is_given, number_in, port_in, value_of};
+use casa_usage::serve_command;
 use clap::ArgMatches;
 use std::alloc::Global;
 

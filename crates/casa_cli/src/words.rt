@@ -2,14 +2,15 @@ ghost use Rattle.std.specs.Prelude.{◌≡◌, IfErr, IfOk, map};
 ghost use Rattle.clap.specs.Words.{HasKind, fault_of, found_of, rows_of};
 ghost use Rattle.clap.specs.declared.error.Error.{Error};
 ghost use Rattle.casa_cli.specs.Tasks.{AreRefused, Asks, HasRead, IsOutcome, IsStepped};
-ghost use Rattle.casa_cli.specs.Words.{whole_app, load_of, page_of, report_of, summary_of, why_of};
+ghost use Rattle.casa_usage.specs.Usage.{whole_app};
+ghost use Rattle.casa_cli.specs.Words.{load_of, page_of, report_of, summary_of, why_of};
 
 use crate::choices::{format_in, word_fault};
-use crate::commands::{casa_command, load_command, report_command, summary_command, why_command};
 use crate::journals::{journal_task, run_task};
 use crate::serving::serve_task;
 use crate::tasks::{Task, TaskFault};
 use crate::values::{day_in, is_given, name_in, number_in};
+use casa_usage::{casa_command, load_command, report_command, summary_command, why_command};
 use clap::ArgMatches;
 use std::alloc::Global;
 

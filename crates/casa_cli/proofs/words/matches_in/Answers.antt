@@ -1,6 +1,6 @@
 use Rattle.std.proofs.Common.{rules, ◌≡◌, List, [], ℕ, Bor, refl, sym, subst, ap, map, is_some, true, ◌∙◌}
 use Rattle.clap.specs.Words.{App, HasKind, fault_of, is_simple, is_simple_and_free, subcommand_of, subcommand_rows_of}
-use Rattle.casa_cli.specs.Words.{whole_app}
+use Rattle.casa_usage.specs.Usage.{whole_app}
 use Rattle.casa_cli.proofs.words.matches_in.Goals as goal
 
 pub returns-in-Ok-try_get_matches_from-clause-ok :

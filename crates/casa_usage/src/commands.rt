@@ -3,7 +3,7 @@
 ghost use Rattle.std.specs.Prelude.{◌≡◌, ℕ, false, codes, IfOk};
 ghost use Rattle.clap.specs.Words.{app_of, new_app, rule_of};
 ghost use Rattle.clap.specs.declared.builder.command.Command.TheViews.{out-Command as fields_of};
-ghost use Rattle.casa_cli.specs.Words.{casa_alone, casa_of_inquiries, casa_of_lists, flag_rule, journal_app, load_app, load_stepping, needed, number_between, option_rule, page_app, report_app, run_app, serve_app, serve_ending, serve_keeping, serve_listening, serve_noting, serve_paging, serve_without_clock, summary_app, whole_app, why_app, word_rule};
+ghost use Rattle.casa_usage.specs.Usage.{casa_alone, casa_of_inquiries, casa_of_lists, flag_rule, journal_app, load_app, load_stepping, needed, number_between, option_rule, page_app, report_app, run_app, serve_app, serve_ending, serve_keeping, serve_listening, serve_noting, serve_paging, serve_without_clock, summary_app, whole_app, why_app, word_rule};
 
 use crate::help;
 use clap::{Arg, ArgAction, Command, value_parser};

@@ -1,0 +1,10 @@
+//! `casa` with its subcommands and their options, as clap is told of them, and the texts of its help.
+#![tactic(auto)]
+
+mod commands;
+mod help;
+
+pub use commands::{
+    casa_command, journal_command, load_command, report_command, run_command, serve_command,
+    summary_command, why_command,
+};
