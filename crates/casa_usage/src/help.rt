@@ -1,7 +1,7 @@
 //! The texts of `--help`.
 
 /// The version that `casa --version` prints.
-pub const VERSION: &str = "0.1.0";
+pub const VERSION: &str = "0.2.0";
 
 /// What the program is for.
 pub const ABOUT: &str =
