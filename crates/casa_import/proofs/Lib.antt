@@ -1,0 +1,10 @@
+pub mod Lookups
+pub mod Entering
+pub mod More
+pub mod Apart
+pub mod Steps
+pub mod Reading
+pub mod Making
+pub mod Entered
+pub mod Counted
+pub mod Calls

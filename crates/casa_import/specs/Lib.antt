@@ -1,0 +1,15 @@
+pub mod Rows
+pub mod Reasons
+pub mod Times
+pub mod Fields
+pub mod Gives
+pub mod Keyed
+pub mod Crossings
+pub mod Filing
+pub mod Filings
+pub mod Taking
+pub mod Periods
+pub mod Regulations
+pub mod Opened
+pub mod Entered
+pub mod Taken

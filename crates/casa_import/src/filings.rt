@@ -1,0 +1,80 @@
+//! The filings that rows of flights make.
+
+ghost use Rattle.std.specs.Prelude.{◌≡◌, IfOk, OnOk, OnErr};
+ghost use Rattle.casa_import.specs.Filings.{IsByOffBlockTime, outcome, outcome_of};
+ghost use Rattle.casa_import.specs.Keyed.{flown};
+ghost use Rattle.casa_import.specs.Taking.{IsKeyed, TakesFiling};
+
+use crate::columns::{FlightColumns, ImportOptions};
+use crate::crossings::{Crossings, Keys};
+use crate::filing::filing_of;
+use crate::reason::{LeftOut, Reason, RowFault};
+use crate::row::Row;
+use casa_filing::Plan;
+use std::alloc::{AllocError, Global};
+
+/// The filings that rows make, and the rows that are left out, each in the order of the file.
+#[derive(Drop)]
+pub struct Filings {
+    pub plans: Vec<Plan>,
+    pub left_out: Vec<LeftOut>,
+}
+
+/// The filings that rows of flights make, with the crossings of their keys, and the rows that are left out.
+pub fn filings_of(
+    alloc: Global,
+    options: &ImportOptions,
+    columns: &FlightColumns,
+    crossings: &Crossings,
+    rows: &[Row],
+) -> Result<Filings, AllocError>
+    ensures { IfOk result (λ filings. outcome_of filings ≡ outcome options.now columns.now (flown crossings.now) rows.now) }
+{
+    let mut keys = Keys::new(alloc);
+    let mut filings = Filings {
+        plans: Vec::new(alloc),
+        left_out: Vec::new(alloc),
+    };
+    for row in rows {
+        let filing = filing_of(alloc, options, columns, crossings, row);
+        take(&mut filings, &mut keys, row.line, filing)?;
+    }
+    Ok(filings)
+}
+
+/// Takes in what a row makes. The keys are those of the filings.
+fn take(
+    filings: &mut Filings,
+    keys: &mut Keys,
+    line: u64,
+    filing: Result<Plan, RowFault>,
+) -> Result<(), AllocError>
+    requires { IsKeyed filings.old keys.old }
+    ensures outcome { OnOk result (TakesFiling line filing filings.old filings.new) }
+    ensures keys { OnOk result (IsKeyed filings.new keys.new) }
+{
+    let reason = match filing {
+        Ok(plan) => {
+            if !keys.contains(&plan.key()) {
+                keys.insert(plan.key())?;
+                filings.plans.push(plan)?;
+                return Ok(());
+            }
+            Reason::Duplicate
+        }
+        Err(RowFault::LeftOut(reason)) => reason,
+        Err(RowFault::NoMemory) => return Err(AllocError),
+    };
+    filings.left_out.push(LeftOut { line, reason })?;
+    Ok(())
+}
+
+/// Sorts filings by their off-block times; those of one time stay in their order. `AllocError` where there is no memory for
+/// that; the filings are then as they were.
+pub fn order_by_eobt(plans: &mut Vec<Plan>) -> Result<(), AllocError>
+    ensures sorted { OnOk result (IsByOffBlockTime plans.old.items plans.new.items) }
+    ensures unchanged { OnErr result (plans.new.items ≡ plans.old.items) }
+{
+    plans.sort_by_key(|plan| plan.eobt().secs())?;
+    Ok(())
+}

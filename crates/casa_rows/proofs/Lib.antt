@@ -1,0 +1,4 @@
+pub mod Marks
+pub mod Places
+pub mod Records
+pub mod Titles

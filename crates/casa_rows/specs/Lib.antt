@@ -1,0 +1,5 @@
+pub mod Lines
+pub mod Separator
+pub mod Rows
+pub mod Columns
+pub mod Walk
