@@ -11,8 +11,6 @@ mod filings;
 mod laws;
 mod periods;
 mod reason;
-#[cfg(test)]
-mod regulation_tests;
 mod regulations;
 mod row;
 #[cfg(test)]
