@@ -18,7 +18,7 @@ use Rattle.casa_flight.specs.State.{row_of}
 use Rattle.casa_flight.specs.Steps.{after, file, leads, new_row, next, step}
 use Rattle.casa_import.specs.declared.columns.FlightColumns.{FlightColumns}
 use Rattle.casa_import.specs.declared.columns.ImportOptions.{ImportOptions}
-use Rattle.casa_import.specs.declared.row.Row.{Row}
+use Rattle.casa_rows.specs.declared.row.Row.{Row}
 use Rattle.casa_import.specs.Filings.{IsByOffBlockTime, have_one_key, outcome}
 use Rattle.casa_import.specs.Taken.{AreTaken}
 use Rattle.casa_import.proofs.Counted.{keys, keys-sorted}

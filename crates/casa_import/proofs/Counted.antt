@@ -11,7 +11,7 @@ use Rattle.casa_import.specs.declared.columns.FlightColumns.{FlightColumns}
 use Rattle.casa_import.specs.declared.columns.ImportOptions.{ImportOptions}
 use Rattle.casa_import.specs.declared.reason.Reason.{Reason}
 use Rattle.casa_import.specs.declared.reason.Reason.TheVariants.{Duplicate}
-use Rattle.casa_import.specs.declared.row.Row.{Row}
+use Rattle.casa_rows.specs.declared.row.Row.{Row}
 use Rattle.casa_import.specs.Filing.{filing_of}
 use Rattle.casa_import.specs.Filings.{IsByOffBlockTime, Outcome, and_left_out, and_then, have_one_key, is_filed, nothing, outcome}
 

@@ -10,7 +10,7 @@ use Rattle.casa_filing.specs.Text.{Text, same_text}
 use Rattle.casa_filing.specs.declared.plan.Crossing.{Crossing}
 use Rattle.casa_import.specs.declared.columns.CrossingColumns.{CrossingColumns}
 use Rattle.casa_import.specs.declared.crossings.CrossingsRead.{CrossingsRead}
-use Rattle.casa_import.specs.declared.row.Row.{Row}
+use Rattle.casa_rows.specs.declared.row.Row.{Row}
 use Rattle.casa_import.specs.Crossings.{Entry, IsRead, again_behind, entered_again, entries, is_same_entry, left_out_of, made_of, of_flights, of_key, of_no_flight}
 use Rattle.casa_import.specs.Fields.{crossing_of}
 use Rattle.casa_import.specs.Keyed.{flown}

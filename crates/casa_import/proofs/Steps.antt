@@ -8,7 +8,7 @@ use Rattle.casa_import.specs.declared.columns.FlightColumns.{FlightColumns}
 use Rattle.casa_import.specs.declared.columns.ImportOptions.{ImportOptions}
 use Rattle.casa_import.specs.declared.filing.Stated.{Stated}
 use Rattle.casa_import.specs.declared.reason.Reason.{Reason}
-use Rattle.casa_import.specs.declared.row.Row.{Row}
+use Rattle.casa_rows.specs.declared.row.Row.{Row}
 use Rattle.casa_import.specs.Fields.{◌>>=◌}
 use Rattle.casa_import.specs.Filing.{departure_in, earliest, enter, filing_of, own_entries, planned, stated_in}
 use Rattle.casa_import.specs.Taking.{and_entered}

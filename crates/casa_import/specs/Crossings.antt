@@ -8,8 +8,8 @@ use Rattle.casa_import.specs.declared.columns.CrossingColumns.{CrossingColumns}
 use Rattle.casa_import.specs.declared.crossings.CrossingsRead.{CrossingsRead}
 use Rattle.casa_import.specs.declared.reason.LeftOut.{LeftOut}
 use Rattle.casa_import.specs.declared.reason.Reason.{Reason}
-use Rattle.casa_import.specs.declared.row.Row.{Row}
-use Rattle.casa_import.specs.Rows.{text_in}
+use Rattle.casa_rows.specs.declared.row.Row.{Row}
+use Rattle.casa_rows.specs.Fields.{text_in}
 use Rattle.casa_import.specs.Fields.{crossing_of}
 use Rattle.casa_import.specs.Keyed.{flown}
 

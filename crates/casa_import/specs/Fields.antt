@@ -8,9 +8,9 @@ use Rattle.casa_filing.specs.declared.plan.Sts.TheVariants.{Plain, Head, Sar, Me
 use Rattle.casa_import.specs.declared.columns.CrossingColumns.{CrossingColumns}
 use Rattle.casa_import.specs.declared.reason.Reason.{Reason}
 use Rattle.casa_import.specs.declared.reason.Reason.TheVariants.{Uneven, BadKey, Time, BadTaxi, BadSts, BadLocation}
-use Rattle.casa_import.specs.declared.row.Row.{Row}
+use Rattle.casa_rows.specs.declared.row.Row.{Row}
 use Rattle.casa_import.specs.declared.times.TimeFault.{TimeFault}
-use Rattle.casa_import.specs.Rows.{text_in}
+use Rattle.casa_rows.specs.Fields.{text_in}
 use Rattle.casa_import.specs.Times.{digit_at, two_digits_at, four_digits_at, has_shape, moment_on}
 
 -- what a row says, and then this of it; the first reason stands

@@ -14,8 +14,8 @@ use Rattle.casa_import.specs.declared.columns.ImportOptions.{ImportOptions}
 use Rattle.casa_import.specs.declared.filing.Stated.{Stated}
 use Rattle.casa_import.specs.declared.reason.Reason.{Reason}
 use Rattle.casa_import.specs.declared.reason.Reason.TheVariants.{EntersBefore, Plan}
-use Rattle.casa_import.specs.declared.row.Row.{Row}
-use Rattle.casa_import.specs.Rows.{text_in}
+use Rattle.casa_rows.specs.declared.row.Row.{Row}
+use Rattle.casa_rows.specs.Fields.{text_in}
 use Rattle.casa_import.specs.Fields.{◌>>=◌, even, key_in, location_in, moment_in, entry_in, taxi_in, sts_in}
 
 -- what a row says of the flight itself

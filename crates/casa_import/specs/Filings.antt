@@ -12,7 +12,7 @@ use Rattle.casa_import.specs.declared.filings.Filings.{Filings}
 use Rattle.casa_import.specs.declared.reason.LeftOut.{LeftOut}
 use Rattle.casa_import.specs.declared.reason.Reason.{Reason}
 use Rattle.casa_import.specs.declared.reason.Reason.TheVariants.{Duplicate}
-use Rattle.casa_import.specs.declared.row.Row.{Row}
+use Rattle.casa_rows.specs.declared.row.Row.{Row}
 use Rattle.casa_import.specs.Filing.{filing_of}
 
 -- the filings that rows make, and the rows that are left out, each in the order of the file

@@ -1,4 +1,3 @@
-pub mod Rows
 pub mod Reasons
 pub mod Times
 pub mod Fields

@@ -7,8 +7,8 @@ use Rattle.casa_import.specs.declared.periods.RegulationPeriod.{RegulationPeriod
 use Rattle.casa_import.specs.declared.periods.RegulationRow.{RegulationRow}
 use Rattle.casa_import.specs.declared.reason.Reason.{Reason}
 use Rattle.casa_import.specs.declared.reason.Reason.TheVariants.{BadReg, BadRate}
-use Rattle.casa_import.specs.declared.row.Row.{Row}
-use Rattle.casa_import.specs.Rows.{text_in}
+use Rattle.casa_rows.specs.declared.row.Row.{Row}
+use Rattle.casa_rows.specs.Fields.{text_in}
 use Rattle.casa_import.specs.Fields.{◌>>=◌, even, location_in, moment_in, number_of, or_reason}
 
 -- the identifier that a text is

@@ -14,7 +14,7 @@ use Rattle.casa_import.specs.declared.regulations.Opening.{Opening}
 use Rattle.casa_import.specs.declared.reason.LeftOut.{LeftOut}
 use Rattle.casa_import.specs.declared.reason.Reason.{Reason}
 use Rattle.casa_import.specs.declared.reason.Reason.TheVariants.{OtherLocation, NotWhole, Profile, TooManyRegulations}
-use Rattle.casa_import.specs.declared.row.Row.{Row}
+use Rattle.casa_rows.specs.declared.row.Row.{Row}
 use Rattle.casa_import.specs.Crossings.{made_of}
 use Rattle.casa_import.specs.Periods.{said_row}
 

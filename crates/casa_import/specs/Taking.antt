@@ -9,7 +9,7 @@ use Rattle.casa_import.specs.declared.filings.Filings.{Filings}
 use Rattle.casa_import.specs.declared.reason.Reason.{Reason}
 use Rattle.casa_import.specs.declared.reason.RowFault.{RowFault}
 use Rattle.casa_import.specs.declared.reason.RowFault.TheVariants.{LeftOut, NoMemory}
-use Rattle.casa_import.specs.declared.row.Row.{Row}
+use Rattle.casa_rows.specs.declared.row.Row.{Row}
 use Rattle.casa_import.specs.declared.crossings.Keys.{Keys}
 use Rattle.casa_import.specs.Keyed.{flown, has_key}
 use Rattle.casa_import.specs.Filings.{and_then, is_filed, outcome_of}

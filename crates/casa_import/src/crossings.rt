@@ -3,7 +3,7 @@
 ghost use Rattle.std.specs.Prelude.{◌≡◌, ◌||◌, ◌∷◌, ◌++◌, IfOk, OnOk, true, false, [], if◌then◌else◌, ◌<◌, Ok};
 ghost use Rattle.std.specs.List.{list_any};
 ghost use Rattle.casa_filing.specs.Text.{Text, same_text};
-ghost use Rattle.casa_import.specs.declared.row.Row.{Row as FileRow};
+ghost use Rattle.casa_rows.specs.declared.row.Row.{Row as FileRow};
 ghost use Rattle.casa_import.specs.Crossings.{IsRead, is_named};
 ghost use Rattle.casa_import.specs.Fields.{crossing_of};
 ghost use Rattle.casa_import.specs.Keyed.{has_key};
@@ -12,8 +12,8 @@ ghost use Rattle.casa_import.specs.Taking.{Takes};
 use crate::columns::{CrossingColumns, FlightColumns};
 use crate::fields::crossing_of;
 use crate::reason::LeftOut;
-use crate::row::Row;
 use casa_filing::{Crossing, Key, Loc};
+use casa_rows::Row;
 use jiff::civil::Date;
 use std::alloc::{AllocError, Global};
 use std::collections::{BTreeMap, BTreeSet};

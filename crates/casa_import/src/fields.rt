@@ -5,9 +5,9 @@ ghost use Rattle.casa_import.specs.Fields.{crossing_of, entry_in, even, key_in, 
 
 use crate::columns::CrossingColumns;
 use crate::reason::Reason;
-use crate::row::Row;
 use crate::times::{digit_at, four_digits_at, has_shape, moment_on, two_digits_at};
 use casa_filing::{Crossing, Key, Loc, Sts};
+use casa_rows::Row;
 use casa_time::Moment;
 use jiff::civil::Date;
 

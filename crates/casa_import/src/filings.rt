@@ -1,7 +1,7 @@
 //! The filings that rows of flights make.
 
-ghost use Rattle.std.specs.Prelude.{◌≡◌, IfOk, OnOk, OnErr};
-ghost use Rattle.casa_import.specs.Filings.{IsByOffBlockTime, outcome, outcome_of};
+ghost use Rattle.std.specs.Prelude.{◌≡◌, IfOk, OnOk};
+ghost use Rattle.casa_import.specs.Filings.{outcome, outcome_of};
 ghost use Rattle.casa_import.specs.Keyed.{flown};
 ghost use Rattle.casa_import.specs.Taking.{IsKeyed, TakesFiling};
 
@@ -9,8 +9,8 @@ use crate::columns::{FlightColumns, ImportOptions};
 use crate::crossings::{Crossings, Keys};
 use crate::filing::filing_of;
 use crate::reason::{LeftOut, Reason, RowFault};
-use crate::row::Row;
 use casa_filing::Plan;
+use casa_rows::Row;
 use std::alloc::{AllocError, Global};
 
 /// The filings that rows make, and the rows that are left out, each in the order of the file.
@@ -66,15 +66,5 @@ fn take(
         Err(RowFault::NoMemory) => return Err(AllocError),
     };
     filings.left_out.push(LeftOut { line, reason })?;
-    Ok(())
-}
-
-/// Sorts filings by their off-block times; those of one time stay in their order. `AllocError` where there is no memory for
-/// that; the filings are then as they were.
-pub fn order_by_eobt(plans: &mut Vec<Plan>) -> Result<(), AllocError>
-    ensures sorted { OnOk result (IsByOffBlockTime plans.old.items plans.new.items) }
-    ensures unchanged { OnErr result (plans.new.items ≡ plans.old.items) }
-{
-    plans.sort_by_key(|plan| plan.eobt().secs())?;
     Ok(())
 }

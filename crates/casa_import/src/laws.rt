@@ -10,7 +10,7 @@ ghost use Rattle.casa_flight.specs.declared.call.Call.TheVariants.{File};
 ghost use Rattle.casa_flight.specs.declared.state.State.{State};
 ghost use Rattle.casa_import.specs.declared.columns.FlightColumns.{FlightColumns};
 ghost use Rattle.casa_import.specs.declared.columns.ImportOptions.{ImportOptions};
-ghost use Rattle.casa_import.specs.declared.row.Row.{Row};
+ghost use Rattle.casa_rows.specs.declared.row.Row.{Row};
 ghost use Rattle.casa_import.specs.Entered.{first_named, least_at, time_at};
 ghost use Rattle.casa_import.specs.Filing.{earliest};
 ghost use Rattle.casa_import.specs.Filings.{IsByOffBlockTime, have_one_key, outcome};

@@ -12,19 +12,15 @@ mod laws;
 mod periods;
 mod reason;
 mod regulations;
-mod row;
-#[cfg(test)]
-mod tests;
 mod times;
 
 pub use columns::{CrossingColumns, EntryColumns, FlightColumns, ImportOptions, RegulationColumns};
 pub use crossings::{Crossings, CrossingsRead, Keys, named, read_crossings};
 pub use filing::filing_of;
-pub use filings::{Filings, filings_of, order_by_eobt};
+pub use filings::{Filings, filings_of};
 pub use laws::{
     filings_are_taken, locations_stand_once, openings_may_stand, rows_are_filed_or_left_out,
 };
 pub use reason::{LeftOut, Reason, RowFault};
 pub use regulations::{Opening, Regulations, regulations_of};
-pub use row::Row;
 pub use times::{TimeFault, moment_on};

@@ -6,9 +6,9 @@ ghost use Rattle.casa_import.specs.Periods.{period_of, rate_in, reg_in, said_row
 use crate::columns::RegulationColumns;
 use crate::fields::{even, location_in, moment_in, number_of};
 use crate::reason::Reason;
-use crate::row::Row;
 use casa_filing::{Loc, RegId};
 use casa_grid::Period;
+use casa_rows::Row;
 use jiff::civil::Date;
 use std::alloc::{AllocError, Global};
 

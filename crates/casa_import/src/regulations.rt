@@ -12,9 +12,9 @@ ghost use Rattle.casa_import.specs.Regulations.{and_reg, at_its_location, first_
 use crate::columns::RegulationColumns;
 use crate::periods::{RegulationPeriod, RegulationRow, said_rows};
 use crate::reason::{LeftOut, Reason, RowFault};
-use crate::row::Row;
 use casa_filing::{Loc, MAX_REGULATIONS, RegId};
 use casa_grid::{Period, Profile, ProfileFault};
+use casa_rows::Row;
 use jiff::civil::Date;
 use std::alloc::{AllocError, Global};
 

@@ -1,5 +1,5 @@
+pub mod Fields
 pub mod Lines
 pub mod Separator
 pub mod Rows
-pub mod Columns
 pub mod Walk

@@ -10,7 +10,7 @@ mod table;
 mod walk;
 
 pub use row::Row;
-pub use table::{ColumnFault, Table, read_table};
+pub use table::{Table, read_table};
 
 #[cfg(test)]
 mod tests;

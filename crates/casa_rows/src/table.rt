@@ -1,13 +1,12 @@
 //! Tables: a header, and rows with their lines.
 
-ghost use Rattle.std.specs.Prelude.{◌≡◌, ◌<◌, [], drop, length, slice_index_or, IfOk, IfSome, true};
+ghost use Rattle.std.specs.Prelude.{◌≡◌, ◌<◌, [], drop, length, slice_index_or, IfOk, true};
 ghost use Rattle.csv.specs.Reading.{Ready, is_flexible, reader_config, reader_state, reader_trim, source_of, strip_bom};
 ghost use Rattle.csv.specs.declared.parser.State.TheVariants as st;
 ghost use Rattle.csv.specs.declared.reader.Trim.TheVariants as trim;
 ghost use Rattle.csv.specs.Records.{fields_of};
-ghost use Rattle.casa_rows.specs.Columns.{IsColumn, IsFirstFrom};
 ghost use Rattle.casa_rows.specs.Lines.{BeginsOnLine, from_first_line};
-ghost use Rattle.casa_rows.specs.Rows.{AreRows, IsTable, config, fields, texts, titles};
+ghost use Rattle.casa_rows.specs.Rows.{AreRows, IsTable, config, fields, texts};
 ghost use Rattle.casa_rows.specs.Walk.{IsPlace};
 
 use crate::row::Row;
@@ -22,15 +21,6 @@ pub struct Table {
     /// The titles of the columns.
     pub header: Vec<Vec<u8>>,
     pub rows: Vec<Row>,
-}
-
-/// Why a name is of no column.
-#[derive(Clone, Copy, PartialEq, Eq, Debug)]
-pub enum ColumnFault {
-    /// No column has it as its title.
-    NoColumn,
-    /// More than one has.
-    TwoColumns,
 }
 
 /// The table of a text: the header and all rows, also those that have more fields than the header, or fewer.
@@ -123,32 +113,4 @@ fn field(read: &ByteRecord, at: usize) -> &[u8]
         Some(field) => field,
         None => &[],
     }
-}
-
-impl Table {
-    /// The column with this title.
-    pub fn column(&self, name: &[u8]) -> Result<usize, ColumnFault>
-        ensures { IsColumn (titles self.now) name.now result }
-    {
-        let Some(at) = first_from(&self.header, name, 0) else {
-            return Err(ColumnFault::NoColumn);
-        };
-        match first_from(&self.header, name, at + 1) {
-            None => Ok(at),
-            Some(_) => Err(ColumnFault::TwoColumns),
-        }
-    }
-}
-
-/// The first of these titles that is the name, from that place on.
-fn first_from(titles: &[Vec<u8>], name: &[u8], from: usize) -> Option<usize>
-    ensures first { IsFirstFrom (texts titles.now) name.now from result }
-    ensures within { IfSome result (λ at. at < length titles.now) }
-{
-    for at in from..titles.len() {
-        if titles[at].as_slice() == name {
-            return Some(at);
-        }
-    }
-    None
 }

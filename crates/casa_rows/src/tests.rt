@@ -1,4 +1,4 @@
-use crate::{ColumnFault, Row, Table, read_table};
+use crate::{Row, Table, read_table};
 use std::process::Abort;
 use std::test::Fail;
 
@@ -42,23 +42,7 @@ fn rows_have_their_lines(rt: HostRuntime) -> Result<(), Fail> {
 }
 
 #[test]
-fn columns_have_one_title(rt: HostRuntime) -> Result<(), Fail> {
-    let table = read_table(rt.alloc(), b"eobt,key,taxi,key\n".as_slice())?;
-    assert!(rt; table.rows.is_empty());
-    assert_eq!(rt; table.column(b"taxi".as_slice()), Ok(2));
-    assert_eq!(rt;
-        table.column(b"key".as_slice()),
-        Err(ColumnFault::TwoColumns)
-    );
-    assert_eq!(rt;
-        table.column(b"Taxi".as_slice()),
-        Err(ColumnFault::NoColumn)
-    );
-    Ok(())
-}
-
-#[test]
-fn no_text_has_no_column(rt: HostRuntime) -> Result<(), Fail> {
+fn a_text_of_line_ends_has_no_titles(rt: HostRuntime) -> Result<(), Fail> {
     let table: Table = read_table(rt.alloc(), b"\n\r\n".as_slice())?;
     assert!(rt; table.header.is_empty());
     assert!(rt; table.rows.is_empty());

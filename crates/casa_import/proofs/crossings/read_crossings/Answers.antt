@@ -1,6 +1,6 @@
 use Rattle.std.proofs.Common.{◌≡◌, ◌∷◌, [], ◌+◌, ◌++◌, arith, take, subst, sym, ◌∙◌, ap}
 use Rattle.std.proofs.lemmas.List.{take_more, length-take-le}
-use Rattle.casa_import.specs.declared.row.Row.{Row}
+use Rattle.casa_rows.specs.declared.row.Row.{Row}
 use Rattle.casa_import.specs.Crossings.{IsRead}
 use Rattle.casa_import.specs.Keyed.{has_key}
 use Rattle.casa_import.proofs.Reading.{entered_again-le, of_no_flight-le, read-more}

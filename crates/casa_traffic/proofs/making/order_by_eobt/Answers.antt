@@ -1,7 +1,7 @@
 use Rattle.std.proofs.Common.{rules}
 use Rattle.std.proofs.lemmas.List.Sorted.{answers_always}
 use Rattle.casa_filing.specs.FlightPlan.{FlightPlan}
-use Rattle.casa_import.proofs.filings.order_by_eobt.Goals as goal
+use Rattle.casa_traffic.proofs.making.order_by_eobt.Goals as goal
 
 pub returns-clause-sorted : goal.returns-clause-sorted
 returns-clause-sorted c =

@@ -1,0 +1,4 @@
+pub mod More
+pub mod Joined
+pub mod Pairs
+pub mod Taken

@@ -1,0 +1,13 @@
+pub mod Bind
+pub mod Gives
+pub mod Titles
+pub mod Steps
+pub mod Sheets
+pub mod Making
+pub mod Calls
+pub mod Lines
+pub mod Told
+pub mod Parts
+pub mod Imports
+pub mod Faults
+pub mod Laws
