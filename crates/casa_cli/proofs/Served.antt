@@ -1,4 +1,4 @@
--- what clap has checked of the options of `serve` and `load`, and of the words of `journal`
+-- what clap has checked of the options with numbers, and of the words of `journal` and `compare`
 use Rattle.std.proofs.Common.{◌≡◌, ◌∙◌, ◌<◌, ℕ, Bool, true, false, not, cond, refl, suc, sym, ap, subst, arith, codes, List, [], ◌∷◌, ◌++◌, take, drop, length, Option, Some, None, IfSome, is_some, option_map, true≢false, ◌||◌}
 use Rattle.std.specs.Prelude.{find, nat_lt, option_and_then, pos, slice_get, unwrap_or}
 use Rattle.std.specs.List.{list_all}
@@ -11,13 +11,13 @@ use Rattle.clap.specs.Takes.{is_given}
 use Rattle.clap.specs.ValueTests.{accepts}
 use Rattle.clap.specs.Values.{read_as, reading_of, refused_kind}
 use Rattle.clap.specs.Walk.{Row, Rule, Text, action_of, answers_to, nothing_held, reading_by, row_text, rows_after, stop_after}
-use Rattle.clap.specs.Words.{IsSignedIn, first_of, without_minus}
+use Rattle.clap.specs.Words.{IsSignedIn, without_minus}
 use Rattle.clap.specs.declared.builder.action.ArgAction.TheVariants.{Set}
 use Rattle.clap.specs.declared.builder.value_parser.ValueParser.TheVariants.{Signed}
 use Rattle.clap.specs.declared.error.kind.ErrorKind.TheVariants.{MissingRequiredArgument}
 use Rattle.clap.proofs.ValueTestLemmas.{accepts-Accepts}
 use Rattle.casa_usage.specs.Usage.{whole_app}
-use Rattle.casa_cli.specs.Tasks.{AreChecked, AreThere, IsNumber, IsStepped}
+use Rattle.casa_cli.specs.Tasks.{AreChecked, AreCompared, AreThere, IsNumber, IsThere}
 use Rattle.casa_cli.proofs.Walks.{AreBeside, ArePassed, IsValued, beside_at, level-passed, or_else-left, or_else-right, row-passed}
 
 -- the first value of an option with numbers
@@ -54,116 +54,85 @@ number_in_rows q low high rows parser passed = go (find (λ r. bytes_eq r.id q.i
         subst (λ how. IfSome (option_map (read_as how) (slice_get r.values 0)) (λ text. (value : Text)
         × (text ≡ without_minus value) × IsSignedIn (pos low) (pos high) value)) (sym known.2) (valued r.values known.0 known.1)
 
--- ---- the options of `serve`
+-- ---- the places of options
 
-abbrev serve_shape : Shape
-serve_shape = unwrap_or (slice_get (built whole_app).subs 6) (new_shape [])
+-- the subcommand at a place
+abbrev shape_at : ℕ → Shape
+shape_at k = unwrap_or (slice_get (built whole_app).subs k) (new_shape [])
 
 abbrev rule_at : Shape → ℕ → Rule
 rule_at s k = unwrap_or (slice_get s.rules k) (new_rule [])
 
-abbrev before_in : Shape → ℕ → List Rule
-before_in s k = take k s.rules
+abbrev HaveOtherNames : Rule → List Rule → Type 0
+HaveOtherNames q rules = list_all (λ a. not (bytes_eq a.id q.id)) rules ≡ true
 
-abbrev after_in : Shape → ℕ → List Rule
-after_in s k = drop (suc k) s.rules
+-- an option of a subcommand, at its place, takes a value, and no other one has its name
+record StandsAt (s : Shape) (k : ℕ) : Type 0 where
+  splits : take k s.rules ++ rule_at s k ∷ drop (suc k) s.rules ≡ s.rules
+  valued : IsValued (rule_at s k)
+  before : HaveOtherNames (rule_at s k) (take k s.rules)
+  behind : HaveOtherNames (rule_at s k) (drop (suc k) s.rules)
+
+module _ (s : Shape) (k : ℕ) (stands : StandsAt s k) (words : List Text) (e : level_fault s [] nothing_held words false [] ≡ []) where
+  -- its row was checked, and none that must be there is missing
+  level_at : ArePassed (rule_at s k) (rows_after s.rules [] words) × (check_fault s (rows_after s.rules [] words) false ≡ [])
+  level_at =
+      level-passed (rule_at s k) stands.valued s
+      (subst (AreBeside (rule_at s k)) stands.splits
+      (beside_at (rule_at s k) (take k s.rules) (drop (suc k) s.rules) stands.before stands.behind)) words e
+
+  -- a number is in its bounds
+  number_at : (low high : ℕ) → (rule_at s k).parser ≡ Some (Signed (pos low) (pos high))
+      → IsNumber low high (rule_at s k).id (rows_after s.rules [] words)
+  number_at low high parser = number_in_rows (rule_at s k) low high (rows_after s.rules [] words) parser level_at.0
+
+  -- a word that was given has a value
+  there_at : is_given (rule_at s k).id (rows_after s.rules [] words) ≡ true → IsThere (rule_at s k).id (rows_after s.rules [] words)
+  there_at = go (find (λ r. bytes_eq r.id (rule_at s k).id) (rows_after s.rules [] words)) refl
+    where
+      valued : (values : List Text) → 0 < length values → is_some (slice_get values 0) ≡ true
+      valued [] some = absurd (omega arith)
+      valued (v ∷ vs) some = refl
+
+      go : (o : Option Row) → find (λ r. bytes_eq r.id (rule_at s k).id) (rows_after s.rules [] words) ≡ o
+          → option_map_or (λ r. explicit_source r.source) o false ≡ true
+          → is_some (option_and_then (λ r. slice_get r.values 0) o) ≡ true
+      go None found given = absurd (true≢false (sym given))
+      go (Some r) found given = valued r.values (row-passed (rule_at s k) (rows_after s.rules [] words) r level_at.0 found).1
 
 is_valued : (a : Rule) → action_of a ≡ Set → nat_lt 0 (unwrap_or_range a.range).start_inclusive ≡ true → a.defaults ≡ [] → IsValued a
 is_valued a set least none = record { sets = set; takes = least; defaults = none }
 
--- the rows of the option at a place of a subcommand
-rows_passed : (s : Shape) (q : Rule) (before after : List Rule) → before ++ q ∷ after ≡ s.rules → IsValued q
-    → list_all (λ a. not (bytes_eq a.id q.id)) before ≡ true → list_all (λ a. not (bytes_eq a.id q.id)) after ≡ true
-    → (words : List Text) → level_fault s [] nothing_held words false [] ≡ [] → ArePassed q (rows_after s.rules [] words)
-rows_passed s q before after are valued first last words e =
-    (level-passed q valued s (subst (AreBeside q) are (beside_at q before after first last)) words e).0
+-- ---- the options with numbers
 
-served_at : (k : ℕ) (low high : ℕ) → before_in serve_shape k ++ rule_at serve_shape k ∷ after_in serve_shape k ≡ serve_shape.rules
-    → IsValued (rule_at serve_shape k)
-    → list_all (λ a. not (bytes_eq a.id (rule_at serve_shape k).id)) (before_in serve_shape k) ≡ true
-    → list_all (λ a. not (bytes_eq a.id (rule_at serve_shape k).id)) (after_in serve_shape k) ≡ true
-    → (rule_at serve_shape k).parser ≡ Some (Signed (pos low) (pos high))
+abbrev serve_shape : Shape
+serve_shape = shape_at 9
+
+served_at : (k low high : ℕ) → StandsAt serve_shape k → (rule_at serve_shape k).parser ≡ Some (Signed (pos low) (pos high))
     → (words : List Text) → level_fault serve_shape [] nothing_held words false [] ≡ []
     → IsNumber low high (rule_at serve_shape k).id (rows_after serve_shape.rules [] words)
-served_at k low high are valued first last parser words e =
-    number_in_rows (rule_at serve_shape k) low high (rows_after serve_shape.rules [] words) parser
-    (rows_passed serve_shape (rule_at serve_shape k) (before_in serve_shape k) (after_in serve_shape k) are valued first last words e)
+served_at k low high stands parser words e = number_at serve_shape k stands words e low high parser
 
 served : (words : List Text) → level_fault serve_shape [] nothing_held words false [] ≡ []
     → AreChecked (rows_after serve_shape.rules [] words)
 served words e = record {
-  port = served_at 0 1 65535 refl (is_valued _ refl refl refl) refl refl refl words e;
-  connections = served_at 1 0 4294967295 refl (is_valued _ refl refl refl) refl refl refl words e;
-  turns = served_at 3 0 4294967295 refl (is_valued _ refl refl refl) refl refl refl words e;
-  page = served_at 9 1 65535 refl (is_valued _ refl refl refl) refl refl refl words e;
-  seats = served_at 11 1 1000 refl (is_valued _ refl refl refl) refl refl refl words e;
-  idle = served_at 12 1 86400 refl (is_valued _ refl refl refl) refl refl refl words e;
-  every = served_at 15 1 3600 refl (is_valued _ refl refl refl) refl refl refl words e;
+  port = served_at 0 1 65535 (record { splits = refl; valued = is_valued _ refl refl refl; before = refl; behind = refl }) refl words e;
+  connections = served_at 1 0 4294967295 (record { splits = refl; valued = is_valued _ refl refl refl; before = refl; behind = refl }) refl words e;
+  turns = served_at 3 0 4294967295 (record { splits = refl; valued = is_valued _ refl refl refl; before = refl; behind = refl }) refl words e;
+  page = served_at 9 1 65535 (record { splits = refl; valued = is_valued _ refl refl refl; before = refl; behind = refl }) refl words e;
+  seats = served_at 11 1 1000 (record { splits = refl; valued = is_valued _ refl refl refl; before = refl; behind = refl }) refl words e;
+  idle = served_at 12 1 86400 (record { splits = refl; valued = is_valued _ refl refl refl; before = refl; behind = refl }) refl words e;
+  every = served_at 15 1 3600 (record { splits = refl; valued = is_valued _ refl refl refl; before = refl; behind = refl }) refl words e;
 }
 
--- ---- the options of `load`
+-- ---- the words of `journal` and `compare`
 
-abbrev load_shape : Shape
-load_shape = unwrap_or (slice_get (built whole_app).subs 2) (new_shape [])
-
-stepped : (words : List Text) → level_fault load_shape [] nothing_held words false [] ≡ []
-    → IsStepped (rows_after load_shape.rules [] words)
-stepped words e =
-    number_in_rows (rule_at load_shape 2) 1 1440 (rows_after load_shape.rules [] words) refl
-    (rows_passed load_shape (rule_at load_shape 2) (before_in load_shape 2) (after_in load_shape 2) refl
-    (is_valued _ refl refl refl) refl refl words e)
-
--- ---- the words of `journal`
-
-abbrev journal_shape : Shape
-journal_shape = unwrap_or (slice_get (built whole_app).subs 7) (new_shape [])
-
--- a word that was given has a value
-word_there : (q : Rule) (rows : List Row) → ArePassed q rows → is_given q.id rows ≡ true → is_some (first_of q.id rows) ≡ true
-word_there q rows passed = go (find (λ r. bytes_eq r.id q.id) rows) refl
-  where
-    valued : (values : List Text) → 0 < length values → is_some (slice_get values 0) ≡ true
-    valued [] some = absurd (omega arith)
-    valued (v ∷ vs) some = refl
-
-    go : (o : Option Row) → find (λ r. bytes_eq r.id q.id) rows ≡ o → option_map_or (λ r. explicit_source r.source) o false ≡ true
-        → is_some (option_and_then (λ r. slice_get r.values 0) o) ≡ true
-    go None found e = absurd (true≢false (sym e))
-    go (Some r) found e = valued r.values (row-passed q rows r passed found).1
-
--- both words are given where none is missing
-both_given : (action file : Bool) → cond (not action || (not file || false)) (MissingRequiredArgument ∷ []) [] ≡ []
-    → (action ≡ true) × (file ≡ true)
-both_given true true e = (refl, refl)
-both_given true false e = absurd (cc)
-both_given false file e = absurd (cc)
-
-there_at : (k : ℕ) → before_in journal_shape k ++ rule_at journal_shape k ∷ after_in journal_shape k ≡ journal_shape.rules
-    → IsValued (rule_at journal_shape k)
-    → list_all (λ a. not (bytes_eq a.id (rule_at journal_shape k).id)) (before_in journal_shape k) ≡ true
-    → list_all (λ a. not (bytes_eq a.id (rule_at journal_shape k).id)) (after_in journal_shape k) ≡ true
-    → (words : List Text) → level_fault journal_shape [] nothing_held words false [] ≡ []
-    → is_given (rule_at journal_shape k).id (rows_after journal_shape.rules [] words) ≡ true
-    → is_some (first_of (rule_at journal_shape k).id (rows_after journal_shape.rules [] words)) ≡ true
-there_at k are valued first last words e =
-    word_there (rule_at journal_shape k) (rows_after journal_shape.rules [] words)
-    (rows_passed journal_shape (rule_at journal_shape k) (before_in journal_shape k) (after_in journal_shape k) are valued first last words e)
-
--- none is missing
-unmissed : (words : List Text) → level_fault journal_shape [] nothing_held words false [] ≡ []
-    → check_fault journal_shape (rows_after journal_shape.rules [] words) false ≡ []
-unmissed words e =
-    let action = rule_at journal_shape 0 in
-    (level-passed action (is_valued _ refl refl refl) journal_shape (beside_at action [] (after_in journal_shape 0) refl refl) words e).1
-
-there : (words : List Text) → level_fault journal_shape [] nothing_held words false [] ≡ []
-    → AreThere (rows_after journal_shape.rules [] words)
-there words e =
-    let given = both_given (is_given (codes "action") (rows_after journal_shape.rules [] words))
-    (is_given (codes "file") (rows_after journal_shape.rules [] words)) (unmissed words e) in (
-      there_at 0 refl (is_valued _ refl refl refl) refl refl words e given.0,
-      there_at 1 refl (is_valued _ refl refl refl) refl refl words e given.1,
-    )
+-- both are given where none that must be is missing
+both_given : (one other missing : Bool) → cond (not one || (not other || missing)) (MissingRequiredArgument ∷ []) [] ≡ []
+    → (one ≡ true) × (other ≡ true)
+both_given true true missing e = (refl, refl)
+both_given true false missing e = absurd (cc)
+both_given false other missing e = absurd (cc)
 
 -- ---- where only one of the subcommands has a name, and its walk shows that its rows are so
 
@@ -208,30 +177,76 @@ module _ (label : Text) (own : Shape) (IsSo : List Row → Type 0)
       go None f g = absurd (cc)
       go (Some p) f g = at p (find (λ s. answers_to p.0 (label_of s)) (built whole_app).subs) refl f g
 
--- the numbers of `serve` and of `load` are checked, and the words of `journal` are there
+other : {A : Type 0} → false ≡ true → A
+other e = absurd (true≢false (sym e))
+
+-- the numbers of `import`, `report`, `load` and `serve` are checked
+pub import_checked : (words : List Text) (name : Text) (rows : List Row) → fault_of whole_app words ≡ []
+    → subcommand_of whole_app words ≡ Some (name, rows) → bytes_eq name (codes "import") ≡ true
+    → IsNumber 0 3600 (codes "taxi") rows
+import_checked =
+    subcommand_shown (codes "import") (shape_at 1) (IsNumber 0 3600 (codes "taxi"))
+    (λ words e. number_at (shape_at 1) 4 (record { splits = refl; valued = is_valued _ refl refl refl; before = refl; behind = refl }) words e 0 3600 refl)
+    (other, (λ e. refl, (other, (other, (other, (other, (other, (other, (other, (other, (other, (other, tt))))))))))))
+
+pub report_checked : (words : List Text) (name : Text) (rows : List Row) → fault_of whole_app words ≡ []
+    → subcommand_of whole_app words ≡ Some (name, rows) → bytes_eq name (codes "report") ≡ true
+    → IsNumber 1 1000000 (codes "top") rows
+report_checked =
+    subcommand_shown (codes "report") (shape_at 2) (IsNumber 1 1000000 (codes "top"))
+    (λ words e. number_at (shape_at 2) 4 (record { splits = refl; valued = is_valued _ refl refl refl; before = refl; behind = refl }) words e 1 1000000 refl)
+    (other, (other, (λ e. refl, (other, (other, (other, (other, (other, (other, (other, (other, (other, tt))))))))))))
+
+pub load_checked : (words : List Text) (name : Text) (rows : List Row) → fault_of whole_app words ≡ []
+    → subcommand_of whole_app words ≡ Some (name, rows) → bytes_eq name (codes "load") ≡ true
+    → IsNumber 1 1440 (codes "step") rows
+load_checked =
+    subcommand_shown (codes "load") (shape_at 3) (IsNumber 1 1440 (codes "step"))
+    (λ words e. number_at (shape_at 3) 2 (record { splits = refl; valued = is_valued _ refl refl refl; before = refl; behind = refl }) words e 1 1440 refl)
+    (other, (other, (other, (λ e. refl, (other, (other, (other, (other, (other, (other, (other, (other, tt))))))))))))
+
 pub serve_checked : (words : List Text) (name : Text) (rows : List Row) → fault_of whole_app words ≡ []
     → subcommand_of whole_app words ≡ Some (name, rows) → bytes_eq name (codes "serve") ≡ true → AreChecked rows
 serve_checked =
     subcommand_shown (codes "serve") serve_shape AreChecked served
-    (other, (other, (other, (other, (other, (other, (λ e. refl, (other, (other, tt)))))))))
-  where
-    other : {A : Type 0} → false ≡ true → A
-    other e = absurd (true≢false (sym e))
+    (other, (other, (other, (other, (other, (other, (other, (other, (other, (λ e. refl, (other, (other, tt))))))))))))
 
-pub load_checked : (words : List Text) (name : Text) (rows : List Row) → fault_of whole_app words ≡ []
-    → subcommand_of whole_app words ≡ Some (name, rows) → bytes_eq name (codes "load") ≡ true → IsStepped rows
-load_checked =
-    subcommand_shown (codes "load") load_shape IsStepped stepped
-    (other, (other, (λ e. refl, (other, (other, (other, (other, (other, (other, tt)))))))))
+-- the words of `compare` and of `journal` are there
+pub compare_checked : (words : List Text) (name : Text) (rows : List Row) → fault_of whole_app words ≡ []
+    → subcommand_of whole_app words ≡ Some (name, rows) → bytes_eq name (codes "compare") ≡ true → AreCompared rows
+compare_checked =
+    subcommand_shown (codes "compare") (shape_at 7) AreCompared there
+    (other, (other, (other, (other, (other, (other, (other, (λ e. refl, (other, (other, (other, (other, tt))))))))))))
   where
-    other : {A : Type 0} → false ≡ true → A
-    other e = absurd (true≢false (sym e))
+    base : StandsAt (shape_at 7) 0
+    base = record { splits = refl; valued = is_valued _ refl refl refl; before = refl; behind = refl }
+
+    variant : StandsAt (shape_at 7) 1
+    variant = record { splits = refl; valued = is_valued _ refl refl refl; before = refl; behind = refl }
+
+    there : (words : List Text) → level_fault (shape_at 7) [] nothing_held words false [] ≡ []
+        → AreCompared (rows_after (shape_at 7).rules [] words)
+    there words e =
+        let given = both_given (is_given (codes "base") (rows_after (shape_at 7).rules [] words))
+        (is_given (codes "variant") (rows_after (shape_at 7).rules [] words))
+        (not (is_given (codes "day") (rows_after (shape_at 7).rules [] words)) || false) (level_at (shape_at 7) 0 base words e).1 in
+        (there_at (shape_at 7) 0 base words e given.0, there_at (shape_at 7) 1 variant words e given.1)
 
 pub journal_checked : (words : List Text) (name : Text) (rows : List Row) → fault_of whole_app words ≡ []
     → subcommand_of whole_app words ≡ Some (name, rows) → bytes_eq name (codes "journal") ≡ true → AreThere rows
 journal_checked =
-    subcommand_shown (codes "journal") journal_shape AreThere there
-    (other, (other, (other, (other, (other, (other, (other, (λ e. refl, (other, tt)))))))))
+    subcommand_shown (codes "journal") (shape_at 10) AreThere there
+    (other, (other, (other, (other, (other, (other, (other, (other, (other, (other, (λ e. refl, (other, tt))))))))))))
   where
-    other : {A : Type 0} → false ≡ true → A
-    other e = absurd (true≢false (sym e))
+    action : StandsAt (shape_at 10) 0
+    action = record { splits = refl; valued = is_valued _ refl refl refl; before = refl; behind = refl }
+
+    file : StandsAt (shape_at 10) 1
+    file = record { splits = refl; valued = is_valued _ refl refl refl; before = refl; behind = refl }
+
+    there : (words : List Text) → level_fault (shape_at 10) [] nothing_held words false [] ≡ []
+        → AreThere (rows_after (shape_at 10).rules [] words)
+    there words e =
+        let given = both_given (is_given (codes "action") (rows_after (shape_at 10).rules [] words))
+        (is_given (codes "file") (rows_after (shape_at 10).rules [] words)) false (level_at (shape_at 10) 0 action words e).1 in
+        (there_at (shape_at 10) 0 action words e given.0, there_at (shape_at 10) 1 file words e given.1)

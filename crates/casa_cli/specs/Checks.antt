@@ -4,7 +4,7 @@ use Rattle.std.specs.Option.{option_map_or}
 use Rattle.clap.specs.Words.{Row, fault_of, first_of, subcommand_of}
 use Rattle.casa_filing.specs.Text.{Text}
 use Rattle.casa_usage.specs.Usage.{whole_app}
-use Rattle.casa_cli.specs.Words.{Request, WrongValue, needs, no_port, clashing, run, report, load, summary, why, page, serve, stay, check_journal, wrong_reg, wrong_key, wrong_day, wrong_word, clash_of, connections_of, day_in, day_of, every_of, format_of, is_given, is_strict, journal_of, named_in, number_of, page_port_of, seats_of, socket_of, step_of, turns_of, word_of}
+use Rattle.casa_cli.specs.Words.{Request, WrongValue, needs, excludes, no_list, no_table, no_port, clashing, run, import, report, load, summary, why, messages, compare, page, serve, stay, check_journal, wrong_reg, wrong_key, wrong_location, wrong_day, wrong_word, clash_of, connections_of, day_in, day_of, every_of, format_of, is_given, is_strict, journal_of, locations_of, messages_format_of, name_of, named_in, number_of, order_of, page_port_of, seats_of, socket_of, sort_of, step_of, taxi_of, turns_of, word_of}
 
 -- clap finds no fault in the words, and they are this subcommand with these options
 abbrev pub AreRead : List Text → Text → List Row → Type 0
@@ -30,18 +30,45 @@ run_checks rows = (
   clashing (needs (codes "force") (codes "journal")),
 ) ∷ []
 
+-- of `import`: crossings are given, and no flights; neither flights nor regulations are; what stands after `--by` is no
+-- order; what stands after `--locations` is not names with commas between; what stands after `--day` is no day
+abbrev pub import_checks : List Row → List Check
+import_checks rows =
+    (is_given (codes "crossings") rows && not (is_given (codes "flights") rows), clashing (needs (codes "crossings") (codes "flights"))) ∷
+    (not (is_given (codes "flights") rows) && not (is_given (codes "regs") rows), clashing no_table) ∷
+    (is_none (order_of rows), wrong_word (codes "by")) ∷
+    (is_none (locations_of rows), wrong_location) ∷
+    (is_none (day_in rows), wrong_day) ∷ []
+
 -- what stands after `--format` is no form
 abbrev pub format_check : List Row → Check
 format_check rows = (is_none (format_of rows), wrong_word (codes "format"))
 
--- of `report` and `load`: this; what stands after `--reg` is no identifier; what stands after `--day` is no day
+-- of `report`: a regulation and all are given; neither is; what stands after `--format` is no form; what stands after
+-- `--sort` is no order; what stands after `--reg`, where it is given, is no identifier; what stands after `--day` is no day
 abbrev pub report_checks : List Row → List Check
 report_checks rows =
+    (is_given (codes "reg") rows && is_given (codes "all") rows, clashing (excludes (codes "reg") (codes "all"))) ∷
+    (not (is_given (codes "reg") rows) && not (is_given (codes "all") rows), clashing no_list) ∷
+    format_check rows ∷
+    (is_none (sort_of rows), wrong_word (codes "sort")) ∷
+    (option_map_or (λ text. is_none (name_of text)) (first_of (codes "reg") rows) false, wrong_reg) ∷
+    (is_none (day_in rows), wrong_day) ∷ []
+
+-- of `load`: what stands after `--format` is no form; what stands after `--reg` is no identifier; what stands after
+-- `--day` is no day
+abbrev pub load_checks : List Row → List Check
+load_checks rows =
     format_check rows ∷ (is_none (named_in (codes "reg") rows), wrong_reg) ∷ (is_none (day_in rows), wrong_day) ∷ []
 
--- of `summary`: the same of `--format`; what stands after `--day` is no day
+-- of `summary` and `compare`: what stands after `--format` is no form; what stands after `--day` is no day
 abbrev pub summary_checks : List Row → List Check
 summary_checks rows = format_check rows ∷ (is_none (day_in rows), wrong_day) ∷ []
+
+-- of `messages`: what stands after `--format` is no form of theirs; what stands after `--day` is no day
+abbrev pub messages_checks : List Row → List Check
+messages_checks rows =
+    (is_none (messages_format_of rows), wrong_word (codes "format")) ∷ (is_none (day_in rows), wrong_day) ∷ []
 
 -- of `page`: what stands after `--day` is no day
 abbrev pub page_checks : List Row → List Check
@@ -82,12 +109,28 @@ found >>= next = option_and_then next found
 abbrev pub run_request : List Row → Option Request
 run_request rows = Some (run (journal_of rows))
 
+abbrev pub import_request : List Row → Option Request
+import_request rows = do
+  order ← order_of rows
+  locations ← locations_of rows
+  day ← day_in rows
+  Some (import (record {
+    flights = first_of (codes "flights") rows;
+    crossings = first_of (codes "crossings") rows;
+    regs = first_of (codes "regs") rows;
+    day = day;
+    taxi = taxi_of rows;
+    locations = locations;
+    order = order;
+    is_strict = is_strict rows;
+  }))
+
 abbrev pub report_request : List Row → Option Request
 report_request rows = do
   format ← format_of rows
-  reg ← named_in (codes "reg") rows
+  sort ← sort_of rows
   day ← day_in rows
-  Some (report reg day format (is_strict rows))
+  Some (report (named_in (codes "reg") rows) day sort (number_of (codes "top") rows) format (is_strict rows))
 
 abbrev pub load_request : List Row → Option Request
 load_request rows = do
@@ -108,6 +151,20 @@ why_request rows = do
   key ← named_in (codes "key") rows
   day ← day_in rows
   Some (why key day format (is_strict rows))
+
+abbrev pub messages_request : List Row → Option Request
+messages_request rows = do
+  format ← messages_format_of rows
+  day ← day_in rows
+  Some (messages day format (is_strict rows))
+
+abbrev pub compare_request : List Row → Option Request
+compare_request rows = do
+  format ← format_of rows
+  base ← first_of (codes "base") rows
+  variant ← first_of (codes "variant") rows
+  day ← day_in rows
+  Some (compare base variant day format (is_strict rows))
 
 abbrev pub page_request : List Row → Option Request
 page_request rows = do

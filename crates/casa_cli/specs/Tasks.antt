@@ -9,16 +9,17 @@ use Rattle.clap.specs.declared.parser.matches.ArgMatches.{ArgMatches}
 use Rattle.jiff_fmt.specs.Temporal.{date_parts}
 use Rattle.casa_filing.specs.Text.{Text}
 use Rattle.casa_usage.specs.Usage.{whole_app}
-use Rattle.casa_cli.specs.Words.{Clash, Request, Service, WrongValue, needs, excludes, no_port, no_address, too_many_seats, clashing, run, report, load, summary, why, page, serve, stay, check_journal, wrong_reg, wrong_key, wrong_day, wrong_word, request_of}
+use Rattle.casa_cli.specs.Words.{Clash, Import, Request, Service, WrongValue, needs, excludes, no_list, no_table, no_port, no_address, too_many_seats, clashing, run, import, report, load, summary, why, messages, compare, page, serve, stay, check_journal, wrong_reg, wrong_key, wrong_location, wrong_day, wrong_word, request_of}
 use Rattle.casa_cli.specs.declared.clashes.Clash.{Clash as FoundClash}
-use Rattle.casa_cli.specs.declared.clashes.Clash.TheVariants.{Needs, Excludes, NoPort, NoAddress, TooManySeats}
+use Rattle.casa_cli.specs.declared.clashes.Clash.TheVariants.{Needs, Excludes, NoList, NoTable, NoPort, NoAddress, TooManySeats}
+use Rattle.casa_cli.specs.declared.tasks.Import.{Import as TaskImport}
 use Rattle.casa_cli.specs.declared.tasks.Journal.{Journal}
 use Rattle.casa_cli.specs.declared.tasks.PagePort.{PagePort}
 use Rattle.casa_cli.specs.declared.tasks.Service.{Service as TaskService}
 use Rattle.casa_cli.specs.declared.tasks.Task.{Task}
-use Rattle.casa_cli.specs.declared.tasks.Task.TheVariants.{Run, Report, Load, Summary, Page, Why, Serve, Stay, CheckJournal}
+use Rattle.casa_cli.specs.declared.tasks.Task.TheVariants.{Run, Import as ImportTask, Report, Load, Summary, Messages, Compare, Page, Why, Serve, Stay, CheckJournal}
 use Rattle.casa_cli.specs.declared.tasks.TaskFault.{TaskFault}
-use Rattle.casa_cli.specs.declared.tasks.TaskFault.TheVariants.{Words, BadReg, BadKey, BadDay}
+use Rattle.casa_cli.specs.declared.tasks.TaskFault.TheVariants.{Words, BadReg, BadKey, BadLocation, BadDay}
 
 -- to believe: the journal to keep, as the words tell it
 abbrev pub journal : Option Journal → Option (Text × Bool)
@@ -41,13 +42,29 @@ service task = record {
   journal = journal task.journal;
 }
 
+-- to believe: the files of tables, and how lines are made of them, as the words tell it
+abbrev pub tables : TaskImport → Import
+tables task = record {
+  flights = option_map (λ path. path.now) task.flights;
+  crossings = option_map (λ path. path.now) task.crossings;
+  regs = option_map (λ path. path.now) task.regs;
+  day = date_parts task.day;
+  taxi = task.taxi;
+  locations = task.locations.items;
+  order = task.order;
+  is_strict = task.strict;
+}
+
 -- to believe: the request that a task is, as the words tell it
 abbrev pub request : Task → Request
 request (Run kept) = run (journal kept)
-request (Report reg day format strict) = report reg (date_parts day) format strict
+request (ImportTask task) = import (tables task)
+request (Report reg day sort top format strict) = report reg (date_parts day) sort top format strict
 request (Load reg day step format strict) = load reg (date_parts day) step format strict
 request (Summary day format strict) = summary (date_parts day) format strict
 request (Why key day format strict) = why key (date_parts day) format strict
+request (Messages day format strict) = messages (date_parts day) format strict
+request (Compare base variant day format strict) = compare base.now variant.now (date_parts day) format strict
 request (Page day strict) = page (date_parts day) strict
 request (Serve port connections turns day kept) =
     serve port connections turns (option_map date_parts day) (journal kept)
@@ -62,6 +79,8 @@ Asks words task = request_of words ≡ Some (Ok (request task))
 abbrev pub kind_of_clash : Clash → ErrorKind
 kind_of_clash (needs option other) = MissingRequiredArgument
 kind_of_clash (excludes option other) = ArgumentConflict
+kind_of_clash no_list = MissingRequiredArgument
+kind_of_clash no_table = MissingRequiredArgument
 kind_of_clash no_port = MissingRequiredArgument
 kind_of_clash no_address = MissingRequiredArgument
 kind_of_clash too_many_seats = ArgumentConflict
@@ -81,6 +100,7 @@ abbrev pub AreRefused : List Text → TaskFault → Type 0
 AreRefused words (Words error) = HasKind (fault_kinds words) error
 AreRefused words BadReg = request_of words ≡ Some (Err wrong_reg)
 AreRefused words BadKey = request_of words ≡ Some (Err wrong_key)
+AreRefused words BadLocation = request_of words ≡ Some (Err wrong_location)
 AreRefused words BadDay = request_of words ≡ Some (Err wrong_day)
 
 -- the outcome is what the values of a subcommand's options give
@@ -89,12 +109,15 @@ IsOutcome asked (Ok task) = asked ≡ Ok (request task)
 IsOutcome asked (Err (Words error)) = HasKind (wrong_kinds asked) error
 IsOutcome asked (Err BadReg) = asked ≡ Err wrong_reg
 IsOutcome asked (Err BadKey) = asked ≡ Err wrong_key
+IsOutcome asked (Err BadLocation) = asked ≡ Err wrong_location
 IsOutcome asked (Err BadDay) = asked ≡ Err wrong_day
 
 -- the clash that was found, as the words have it
 abbrev pub clash_found : FoundClash → Clash
 clash_found (Needs option other) = needs option.now other.now
 clash_found (Excludes option other) = excludes option.now other.now
+clash_found NoList = no_list
+clash_found NoTable = no_table
 clash_found NoPort = no_port
 clash_found NoAddress = no_address
 clash_found TooManySeats = too_many_seats
@@ -110,13 +133,16 @@ HasRead words matches = (fault_of whole_app words ≡ [])
     × (subcommand_rows_of matches ≡ subcommand_of whole_app words)
     × (is_some (subcommand_rows_of matches) ≡ true)
 
--- what clap has seen to of the option of `load` with a number
-abbrev pub IsStepped : List Row → Type 0
-IsStepped rows = IsNumber 1 1440 (codes "step") rows
+-- a word is there
+abbrev pub IsThere : Text → List Row → Type 0
+IsThere name rows = is_some (first_of name rows) ≡ true
 
--- what clap has seen to of the words of `journal`: they are there
+-- what clap has seen to of the words of `journal` and `compare`: they are there
 abbrev pub AreThere : List Row → Type 0
-AreThere rows = (is_some (first_of (codes "action") rows) ≡ true) × (is_some (first_of (codes "file") rows) ≡ true)
+AreThere rows = IsThere (codes "action") rows × IsThere (codes "file") rows
+
+abbrev pub AreCompared : List Row → Type 0
+AreCompared rows = IsThere (codes "base") rows × IsThere (codes "variant") rows
 
 -- what clap has seen to of the options of `serve`
 pub record AreChecked (rows : List Row) : Type 0 where

@@ -1,6 +1,6 @@
 -- to believe: the words of the command line, and what they ask for
 use Rattle.std.specs.Prelude.{ℕ, ◌==◌, ◌&&◌, ◌||◌, not, Bool, true, false, if◌then◌else◌, List, [], ◌∷◌, length, find, Option, Some, None, is_some, option_and_then, option_map, unwrap_or, codes, bytes_eq, nat_le, nat_lt, slice_index, Result, Ok, Err}
-use Rattle.std.specs.List.{list_all, slice_range}
+use Rattle.std.specs.List.{list_all, slice_range, slice_split}
 use Rattle.std.specs.Option.{option_map_or, option_or}
 use Rattle.std.specs.Str.Parse.{digits_value, without_leading_plus}
 use Rattle.clap.specs.Walk.{is_empty}
@@ -12,6 +12,23 @@ use Rattle.casa_filing.specs.Text.{Text, is_name}
 use Rattle.casa_usage.specs.Usage.{whole_app}
 use Rattle.casa_cli.specs.declared.tasks.Format.{Format}
 use Rattle.casa_cli.specs.declared.tasks.Format.TheVariants.{Table, Csv, Json}
+use Rattle.casa_cli.specs.declared.tasks.Order.{Order}
+use Rattle.casa_cli.specs.declared.tasks.Order.TheVariants.{File, Eobt}
+use Rattle.casa_cli.specs.declared.tasks.Sort.{Sort}
+use Rattle.casa_cli.specs.declared.tasks.Sort.TheVariants.{List as ListOrder, Delay}
+
+-- the files of tables, by their paths, and how lines are made of them
+pub record Import : Type 0 where
+  pub flights : Option Text
+  pub crossings : Option Text
+  pub regs : Option Text
+  pub day : DateParts
+  -- the seconds for flights whose row gives none
+  pub taxi : ℕ
+  -- those that stay in a flight with too many
+  pub locations : List Text
+  pub order : Order
+  pub is_strict : Bool
 
 -- where a server that stays listens and serves a page, how it keeps its desks, and how its clock is moved
 pub record Service : Type 0 where
@@ -33,20 +50,27 @@ pub record Service : Type 0 where
 -- what the words can ask for
 pub data Request : Type 0 where
   run : (journal : Option (Text × Bool)) → Request
-  report : Text → DateParts → Format → (strict : Bool) → Request
+  import : Import → Request
+  -- on one regulation, or on all
+  report : (reg : Option Text) → DateParts → Sort → (top : Option ℕ) → Format → (strict : Bool) → Request
   load : Text → DateParts → (step : ℕ) → Format → (strict : Bool) → Request
   summary : DateParts → Format → (strict : Bool) → Request
   why : Text → DateParts → Format → (strict : Bool) → Request
+  messages : DateParts → Format → (strict : Bool) → Request
+  compare : (base variant : Text) → DateParts → Format → (strict : Bool) → Request
   page : DateParts → (strict : Bool) → Request
   serve : (port connections turns : ℕ) → (day : Option DateParts) → (journal : Option (Text × Bool)) → Request
   stay : Service → Request
   check_journal : (path : Text) → Request
 
--- options that do not go together: one without the one that it needs, two that exclude each other, no port, no port and
--- no socket for a server that stays, or too many seats at two addresses
+-- options that do not go together: one without the one that it needs, two that exclude each other, no regulation and not
+-- all of them for a report, no table for lines that are made of tables, no port, no port and no socket for a server that
+-- stays, or too many seats at two addresses
 pub data Clash : Type 0 where
   needs : (option other : Text) → Clash
   excludes : (option other : Text) → Clash
+  no_list : Clash
+  no_table : Clash
   no_port : Clash
   no_address : Clash
   too_many_seats : Clash
@@ -56,6 +80,7 @@ pub data WrongValue : Type 0 where
   clashing : Clash → WrongValue
   wrong_reg : WrongValue
   wrong_key : WrongValue
+  wrong_location : WrongValue
   wrong_day : WrongValue
   wrong_word : (argument : Text) → WrongValue
 
@@ -101,6 +126,10 @@ named_in option rows = option_and_then name_of (first_of option rows)
 abbrev pub day_in : List Row → Option DateParts
 day_in rows = option_and_then day_of (first_of (codes "day") rows)
 
+-- what stands where a word must
+abbrev pub word_of : Text → List Row → Text
+word_of name rows = unwrap_or (first_of name rows) []
+
 -- the number after an option, where there is one
 abbrev pub number_of : Text → List Row → Option ℕ
 number_of name rows = option_map (λ text. digits_value 10 (without_leading_plus text)) (one_of name rows)
@@ -131,16 +160,66 @@ format_of rows = option_map_or format_named (first_of (codes "format") rows) (So
 abbrev pub formatted : List Row → Result Format WrongValue
 formatted rows = or_wrong (wrong_word (codes "format")) (format_of rows)
 
+-- that of messages: comma-separated values, where none is given; there is no table of them
+abbrev pub messages_format_named : Text → Option Format
+messages_format_named word =
+    if bytes_eq word (codes "csv") then Some Csv else if bytes_eq word (codes "json") then Some Json else None
+
+abbrev pub messages_format_of : List Row → Option Format
+messages_format_of rows = option_map_or messages_format_named (first_of (codes "format") rows) (Some Csv)
+
+-- the order of rows: that of their list, where none is given
+abbrev pub sort_named : Text → Option Sort
+sort_named word =
+    if bytes_eq word (codes "list") then Some ListOrder else if bytes_eq word (codes "delay") then Some Delay else None
+
+abbrev pub sort_of : List Row → Option Sort
+sort_of rows = option_map_or sort_named (first_of (codes "sort") rows) (Some ListOrder)
+
+-- the order of filings: that of the file, where none is given
+abbrev pub order_named : Text → Option Order
+order_named word =
+    if bytes_eq word (codes "file") then Some File else if bytes_eq word (codes "eobt") then Some Eobt else None
+
+abbrev pub order_of : List Row → Option Order
+order_of rows = option_map_or order_named (first_of (codes "by") rows) (Some File)
+
+-- what stands between the commas of a text, the characters 44
+abbrev pub between_commas : Text → List Text
+between_commas text = slice_split (λ c. c == 44) text
+
+-- texts as locations, where all of them are names
+abbrev pub are_locations : List Text → Option (List Text)
+are_locations parts = if list_all is_name parts then Some parts else None
+
+-- the locations that a text names: all that stands between its commas
+abbrev pub locations_named : Text → Option (List Text)
+locations_named text = are_locations (between_commas text)
+
+-- those after the option: none, where it is not given
+abbrev pub locations_of : List Row → Option (List Text)
+locations_of rows = option_map_or locations_named (first_of (codes "locations") rows) (Some [])
+
+-- the seconds of taxi
+abbrev pub taxi_of : List Row → ℕ
+taxi_of rows = unwrap_or (number_of (codes "taxi") rows) 600
+
 -- the minutes of a step
 abbrev pub step_of : List Row → ℕ
 step_of rows = unwrap_or (number_of (codes "step") rows) 20
 
-abbrev pub report_of : List Row → Result Request WrongValue
-report_of rows = do
+-- a regulation that is given must be one
+abbrev pub checked_reg : Option Text → Result (Option Text) WrongValue
+checked_reg None = Ok None
+checked_reg (Some text) = or_wrong wrong_reg (option_map (λ reg. Some reg) (name_of text))
+
+abbrev pub report_at : List Row → Result Request WrongValue
+report_at rows = do
   format ← formatted rows
-  reg ← or_wrong wrong_reg (named_in (codes "reg") rows)
+  sort ← or_wrong (wrong_word (codes "sort")) (sort_of rows)
+  reg ← checked_reg (first_of (codes "reg") rows)
   day ← or_wrong wrong_day (day_in rows)
-  Ok (report reg day format (is_strict rows))
+  Ok (report reg day sort (number_of (codes "top") rows) format (is_strict rows))
 
 abbrev pub load_of : List Row → Result Request WrongValue
 load_of rows = do
@@ -161,6 +240,18 @@ why_of rows = do
   key ← or_wrong wrong_key (named_in (codes "key") rows)
   day ← or_wrong wrong_day (day_in rows)
   Ok (why key day format (is_strict rows))
+
+abbrev pub messages_of : List Row → Result Request WrongValue
+messages_of rows = do
+  format ← or_wrong (wrong_word (codes "format")) (messages_format_of rows)
+  day ← or_wrong wrong_day (day_in rows)
+  Ok (messages day format (is_strict rows))
+
+abbrev pub compare_of : List Row → Result Request WrongValue
+compare_of rows = do
+  format ← formatted rows
+  day ← or_wrong wrong_day (day_in rows)
+  Ok (compare (word_of (codes "base") rows) (word_of (codes "variant") rows) day format (is_strict rows))
 
 abbrev pub page_of : List Row → Result Request WrongValue
 page_of rows = do
@@ -188,9 +279,36 @@ page_port_of rows = option_map (λ port. (port, first_of (codes "page-host") row
 abbrev pub journal_of : List Row → Option (Text × Bool)
 journal_of rows = option_map (λ path. (path, is_given (codes "force") rows)) (first_of (codes "journal") rows)
 
--- what stands where a word must
-abbrev pub word_of : Text → List Row → Text
-word_of name rows = unwrap_or (first_of name rows) []
+abbrev pub import_at : List Row → Result Request WrongValue
+import_at rows = do
+  order ← or_wrong (wrong_word (codes "by")) (order_of rows)
+  locations ← or_wrong wrong_location (locations_of rows)
+  day ← or_wrong wrong_day (day_in rows)
+  Ok (import (record {
+    flights = first_of (codes "flights") rows;
+    crossings = first_of (codes "crossings") rows;
+    regs = first_of (codes "regs") rows;
+    day = day;
+    taxi = taxi_of rows;
+    locations = locations;
+    order = order;
+    is_strict = is_strict rows;
+  }))
+
+-- one of a regulation and all is given, and not both
+abbrev pub clash_of_report : List Row → Option Clash
+clash_of_report rows =
+    if is_given (codes "reg") rows && is_given (codes "all") rows then Some (excludes (codes "reg") (codes "all"))
+    else if not (is_given (codes "reg") rows) && not (is_given (codes "all") rows) then Some no_list
+    else None
+
+-- crossings are those of flights, and flights or regulations are given
+abbrev pub clash_of_import : List Row → Option Clash
+clash_of_import rows =
+    if is_given (codes "crossings") rows && not (is_given (codes "flights") rows)
+    then Some (needs (codes "crossings") (codes "flights"))
+    else if not (is_given (codes "flights") rows) && not (is_given (codes "regs") rows) then Some no_table
+    else None
 
 -- the options that only a server that stays may take
 abbrev pub staying_options : List Text
@@ -273,6 +391,12 @@ stay_at rows = do
 abbrev pub run_of : List Row → Result Request WrongValue
 run_of rows = option_map_or (λ clash. Err (clashing clash)) (clash_of_journal rows) (Ok (run (journal_of rows)))
 
+abbrev pub import_of : List Row → Result Request WrongValue
+import_of rows = option_map_or (λ clash. Err (clashing clash)) (clash_of_import rows) (import_at rows)
+
+abbrev pub report_of : List Row → Result Request WrongValue
+report_of rows = option_map_or (λ clash. Err (clashing clash)) (clash_of_report rows) (report_at rows)
+
 abbrev pub serve_of : List Row → Result Request WrongValue
 serve_of rows =
     option_map_or (λ clash. Err (clashing clash)) (clash_of rows)
@@ -289,11 +413,14 @@ named_request (name, rows) =
     if bytes_eq name (codes "run") then run_of rows
     else if bytes_eq name (codes "serve") then serve_of rows
     else if bytes_eq name (codes "journal") then check_of rows
+    else if bytes_eq name (codes "import") then import_of rows
     else if bytes_eq name (codes "load") then load_of rows
     else if bytes_eq name (codes "summary") then summary_of rows
     else if bytes_eq name (codes "why") then why_of rows
-    else if bytes_eq name (codes "page") then page_of rows
-    else report_of rows
+    else if bytes_eq name (codes "messages") then messages_of rows
+    else if bytes_eq name (codes "compare") then compare_of rows
+    else if bytes_eq name (codes "report") then report_of rows
+    else page_of rows
 
 -- what the words ask for, where clap finds no fault in them and they name a subcommand
 abbrev pub request_of : List Text → Option (Result Request WrongValue)

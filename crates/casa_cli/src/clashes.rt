@@ -17,6 +17,10 @@ pub enum Clash {
     Needs(&'static str, &'static str),
     /// Two that exclude each other.
     Excludes(&'static str, &'static str),
+    /// Neither `--reg` nor `--all`, for a report.
+    NoList,
+    /// Neither `--flights` nor `--regs`, for lines that are made of tables.
+    NoTable,
     /// No `--port`, for a server that ends.
     NoPort,
     /// Neither `--port` nor `--socket`, for one that stays.
@@ -57,7 +61,8 @@ fn kind_of_clash(found: Clash) -> ErrorKind
     ensures { result ≡ kind_of_clash (clash_found found) }
 {
     match found {
-        Clash::Needs(..) | Clash::NoPort | Clash::NoAddress => ErrorKind::MissingRequiredArgument,
+        Clash::Needs(..) | Clash::NoList | Clash::NoTable | Clash::NoPort | Clash::NoAddress =>
+            ErrorKind::MissingRequiredArgument,
         Clash::Excludes(..) | Clash::TooManySeats => ErrorKind::ArgumentConflict,
     }
 }
@@ -73,6 +78,8 @@ fn clash_text(alloc: Global, found: Clash) -> Result<String, AllocError> {
             let (option, other) = (shown(option), shown(other));
             format!(in alloc; "the argument '{option}' cannot be used with '{other}'")
         }
+        Clash::NoList => missing(alloc, "<--reg <R>|--all>"),
+        Clash::NoTable => missing(alloc, "<--flights <F>|--regs <R>>"),
         Clash::NoPort => missing(alloc, "--port <P>"),
         Clash::NoAddress => missing(alloc, "<--port <P>|--socket <PATH>>"),
         Clash::TooManySeats => String::from_str(
@@ -90,6 +97,10 @@ fn missing(alloc: Global, argument: &str) -> Result<String, AllocError> {
 /// An option as clap shows it.
 fn shown(option: &str) -> &'static str {
     match option {
+        "flights" => "--flights <F>",
+        "crossings" => "--crossings <C>",
+        "reg" => "--reg <R>",
+        "all" => "--all",
         "connections" => "--connections <N>",
         "turns" => "--turns <T>",
         "stay" => "--stay",

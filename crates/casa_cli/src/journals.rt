@@ -1,14 +1,14 @@
 //! What `casa run` and `casa journal` ask for, and the journal that a server may keep too.
 
-ghost use Rattle.std.specs.Prelude.{◌≡◌, is_some, option_map, true};
-ghost use Rattle.clap.specs.Words.{first_of, found_of, rows_of};
+ghost use Rattle.std.specs.Prelude.{◌≡◌, option_map};
+ghost use Rattle.clap.specs.Words.{found_of, rows_of};
 ghost use Rattle.casa_cli.specs.Tasks.{AreThere, IsOutcome, clash_found, journal};
-ghost use Rattle.casa_cli.specs.Words.{check_of, clash_of_journal, journal_of, run_of, word_of};
+ghost use Rattle.casa_cli.specs.Words.{check_of, clash_of_journal, journal_of, run_of};
 
 use crate::choices::word_fault;
 use crate::clashes::{Clash, clash_fault};
 use crate::tasks::{Journal, Task, TaskFault};
-use crate::values::{is_given, value_of};
+use crate::values::{is_given, value_of, word_in};
 use casa_usage::{journal_command, run_command};
 use clap::ArgMatches;
 use std::alloc::Global;
@@ -32,7 +32,8 @@ pub fn journal_task<'a>(alloc: Global, values: &ArgMatches<'a>) -> Result<Task<'
 {
     let action = word_in(values, "action");
     if action != "check" {
-        return Err(word_fault(alloc, journal_command(alloc), "action", action));
+        let command = journal_command(alloc);
+        return Err(word_fault(alloc, command, "action", "check", action));
     }
     Ok(Task::CheckJournal {
         path: word_in(values, "file"),
@@ -56,16 +57,5 @@ pub fn journal_clash(values: &ArgMatches<'_>) -> Option<Clash>
         Some(Clash::Needs("force", "journal"))
     } else {
         None
-    }
-}
-
-/// What stands where a word must.
-fn word_in<'a>(values: &ArgMatches<'a>, name: &str) -> &'a str
-    requires { is_some (first_of name.now (rows_of (found_of values.now))) ≡ true }
-    ensures { result.now ≡ word_of name.now (rows_of (found_of values.now)) }
-{
-    match value_of(values, name) {
-        Some(word) => word,
-        None => unreachable!(),
     }
 }

@@ -1,21 +1,27 @@
-use casa_flight::{Key, RegId};
+use casa_flight::{Key, Loc, RegId};
 use jiff::civil::Date;
 use thiserror::Error;
 
 /// What the words of the command line ask for.
-#[derive(Clone, Copy, PartialEq, Eq, Debug)]
+#[derive(PartialEq, Eq, Debug, Drop)]
 pub enum Task<'a> {
     /// `casa run`: a session on standard input and output.
     Run {
         /// The journal to keep, if one is given.
         journal: Option<Journal<'a>>,
     },
-    /// `casa report`: the list of a regulation, under a heading with the day.
+    /// `casa import`: command lines that are made of tables.
+    Import(Import<'a>),
+    /// `casa report`: the list of a regulation, or all lists, under a heading with the day.
     Report {
-        /// The regulation.
-        reg: RegId,
+        /// The regulation; none: all that are open.
+        reg: Option<RegId>,
         /// The day, for the heading.
         day: Date,
+        /// The order of the rows.
+        sort: Sort,
+        /// How many of the rows are printed at most, 1 to 1,000,000; none: all of them.
+        top: Option<u32>,
         /// The form in which it is printed.
         format: Format,
         /// Whether `--strict` was given.
@@ -36,6 +42,28 @@ pub enum Task<'a> {
     },
     /// `casa summary`: what each open regulation costs, under a heading with the day.
     Summary {
+        /// The day, for the heading.
+        day: Date,
+        /// The form in which it is printed.
+        format: Format,
+        /// Whether `--strict` was given.
+        strict: bool,
+    },
+    /// `casa messages`: each slot message, with the number of the call that caused it.
+    Messages {
+        /// The day.
+        day: Date,
+        /// The form in which they are printed: CSV or JSON.
+        format: Format,
+        /// Whether `--strict` was given.
+        strict: bool,
+    },
+    /// `casa compare`: what differs between two days, under a heading with the day.
+    Compare {
+        /// The path of the file with the command lines of the first day, as it was given.
+        base: &'a str,
+        /// The path of the file with those of the second.
+        variant: &'a str,
         /// The day, for the heading.
         day: Date,
         /// The form in which it is printed.
@@ -92,6 +120,46 @@ pub enum Format {
     Csv,
     /// JSON.
     Json,
+}
+
+/// The order in which `casa report` prints rows.
+#[derive(Clone, Copy, PartialEq, Eq, Debug)]
+pub enum Sort {
+    /// As they stand in their list.
+    List,
+    /// The longest delay first.
+    Delay,
+}
+
+/// What `casa import` is asked for. It has a file of flights or one of regulations, or both, and one of crossings at most
+/// beside one of flights.
+#[derive(PartialEq, Eq, Debug, Drop)]
+pub struct Import<'a> {
+    /// The path of the file of the flights, as it was given.
+    pub flights: Option<&'a str>,
+    /// That of the file of the airspaces that they cross.
+    pub crossings: Option<&'a str>,
+    /// That of the file of the regulations.
+    pub regs: Option<&'a str>,
+    /// The day from whose midnight UTC all seconds count.
+    pub day: Date,
+    /// The taxi time in seconds for flights whose row gives none, 0 to 3,600.
+    pub taxi: u64,
+    /// The locations that stay in a flight with too many, besides those of regulations.
+    pub locations: Vec<Loc>,
+    /// The order of the filings.
+    pub order: Order,
+    /// Whether `--strict` was given.
+    pub strict: bool,
+}
+
+/// The order of the filings that `casa import` writes.
+#[derive(Clone, Copy, PartialEq, Eq, Debug)]
+pub enum Order {
+    /// As in the file.
+    File,
+    /// By the off-block time.
+    Eobt,
 }
 
 /// What a server that stays is to do. It has a port or a socket, or both; with both at most 500 seats.
@@ -164,6 +232,9 @@ pub enum TaskFault {
     /// What stands after `--key` is no key of a flight: 1 to 10 characters of A to Z and 0 to 9.
     #[error("the flight is not 1 to 10 characters of A to Z and 0 to 9")]
     BadKey,
+    /// What stands after `--locations` is not names with commas between: each 1 to 10 characters of A to Z and 0 to 9.
+    #[error("the locations are not names of 1 to 10 characters of A to Z and 0 to 9, with commas between")]
+    BadLocation,
     /// What stands after `--day` is no date in the form `YYYY-MM-DD`, or the clock is to be moved and no day is given.
     #[error("the day is no date in the form YYYY-MM-DD, or is missing")]
     BadDay,

@@ -1,10 +1,10 @@
 //! The values of options, as clap has read them.
 
-ghost use Rattle.std.specs.Prelude.{◌≡◌, ◌<◌, ◌^◌, ℕ, Ok, Err, codes, IfErr, IfOk, option_map};
+ghost use Rattle.std.specs.Prelude.{◌≡◌, ◌<◌, ◌^◌, ℕ, Ok, Err, codes, IfErr, IfOk, is_some, option_map, true};
 ghost use Rattle.clap.specs.Words.{first_of, found_of, rows_of};
 ghost use Rattle.jiff_fmt.specs.Temporal.{date_parts};
 ghost use Rattle.casa_cli.specs.Tasks.{IsNumber};
-ghost use Rattle.casa_cli.specs.Words.{are_digits, checked_day, day_in, day_of, is_day_shaped, is_digit, is_given, named_in, number_of, wrong_day};
+ghost use Rattle.casa_cli.specs.Words.{are_digits, checked_day, day_in, day_of, is_day_shaped, is_digit, is_given, named_in, number_of, word_of, wrong_day};
 
 use crate::tasks::TaskFault;
 use casa_flight::Name;
@@ -81,6 +81,17 @@ pub fn value_of<'a>(values: &ArgMatches<'a>, name: &str) -> Option<&'a str>
         ≡ first_of name.now (rows_of (found_of values.now)) }
 {
     values.get_str(name)
+}
+
+/// What stands where a word must.
+pub fn word_in<'a>(values: &ArgMatches<'a>, name: &str) -> &'a str
+    requires { is_some (first_of name.now (rows_of (found_of values.now))) ≡ true }
+    ensures { result.now ≡ word_of name.now (rows_of (found_of values.now)) }
+{
+    match value_of(values, name) {
+        Some(word) => word,
+        None => unreachable!(),
+    }
 }
 
 /// The day that a text names.

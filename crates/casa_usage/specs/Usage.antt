@@ -25,9 +25,11 @@ needed rule = record rule { required = true }
 abbrev pub number_between : ℕ → ℕ → Rule → Rule
 number_between low high rule = record rule { parser = Some (Signed (pos low) (pos high)) }
 
--- `run` may take `--journal` and `--force`; `report` takes `--reg` and `--day`, `load` the same, and it may take
--- `--step`; `summary` and `page` take `--day`, and `why` takes `--key` and `--day`; these five may take `--strict`, and all
--- but `page` may take `--format`; `serve` may take each of its options; `journal` takes an action and a file
+-- `run` may take `--journal` and `--force`; `import` takes `--day`, and it may take the files and how they are read;
+-- `report` takes `--day`, and it may take `--reg` or `--all` and which rows are printed; `load` takes `--reg` and `--day`,
+-- and it may take `--step`; `summary`, `messages` and `page` take `--day`, `why` takes `--key` and `--day`, and `compare`
+-- two files and `--day`; all of these but `run` may take `--strict`, and all of them but `import` and `page` may take
+-- `--format`; `serve` may take each of its options; `journal` takes an action and a file
 
 -- a subcommand that may keep a journal
 abbrev pub maybe_journal : App → App
@@ -48,9 +50,31 @@ maybe_formatted app = with_rule app (option_rule (codes "format"))
 abbrev pub maybe_strict : App → App
 maybe_strict app = with_rule app (flag_rule (codes "strict"))
 
+-- `import` with the files, and the day
+abbrev pub import_files : App
+import_files =
+    taking_day (with_rule (with_rule (with_rule (new_app (codes "import"))
+    (option_rule (codes "flights")))
+    (option_rule (codes "crossings")))
+    (option_rule (codes "regs")))
+
+abbrev pub import_app : App
+import_app =
+    maybe_strict (with_rule (with_rule (with_rule import_files
+    (number_between 0 3600 (option_rule (codes "taxi"))))
+    (option_rule (codes "locations")))
+    (option_rule (codes "by")))
+
+-- `report` with the lists that are meant, and the day
+abbrev pub report_lists : App
+report_lists =
+    taking_day (with_rule (with_rule (new_app (codes "report")) (option_rule (codes "reg"))) (flag_rule (codes "all")))
+
 abbrev pub report_app : App
 report_app =
-    maybe_strict (maybe_formatted (taking_day (with_rule (new_app (codes "report")) (needed (option_rule (codes "reg"))))))
+    maybe_strict (maybe_formatted (with_rule (with_rule report_lists
+    (option_rule (codes "sort")))
+    (number_between 1 1000000 (option_rule (codes "top")))))
 
 -- `load` with what it must take, and the length of its steps
 abbrev pub load_stepping : App
@@ -66,6 +90,19 @@ summary_app = maybe_strict (maybe_formatted (taking_day (new_app (codes "summary
 
 abbrev pub why_app : App
 why_app = maybe_strict (maybe_formatted (taking_day (with_rule (new_app (codes "why")) (needed (option_rule (codes "key"))))))
+
+abbrev pub messages_app : App
+messages_app = maybe_strict (maybe_formatted (taking_day (new_app (codes "messages"))))
+
+-- `compare` with its files, and the day
+abbrev pub compare_files : App
+compare_files =
+    taking_day (with_rule (with_rule (new_app (codes "compare"))
+    (needed (word_rule (codes "base"))))
+    (needed (word_rule (codes "variant"))))
+
+abbrev pub compare_app : App
+compare_app = maybe_strict (maybe_formatted compare_files)
 
 abbrev pub page_app : App
 page_app = maybe_strict (taking_day (new_app (codes "page")))
@@ -127,13 +164,17 @@ casa_alone =
     let named = new_app (codes "casa") in
     record named { top = record named.top { has_version = true; subcommand_required = true; arg_required_else_help = true } }
 
--- with an answer to each line, and what is asked of one regulation
-abbrev pub casa_of_lists : App
-casa_of_lists = with_subcommand (with_subcommand (with_subcommand casa_alone run_app.top) report_app.top) load_app.top
+-- with an answer to each line, and lines that are made of tables
+abbrev pub casa_of_lines : App
+casa_of_lines = with_subcommand (with_subcommand casa_alone run_app.top) import_app.top
 
--- and what is asked of all regulations, of a flight, and of all of the day
+-- and what is asked of regulations
+abbrev pub casa_of_lists : App
+casa_of_lists = with_subcommand (with_subcommand (with_subcommand casa_of_lines report_app.top) load_app.top) summary_app.top
+
+-- and what is asked of a flight, of calls, and of two days
 abbrev pub casa_of_inquiries : App
-casa_of_inquiries = with_subcommand (with_subcommand (with_subcommand casa_of_lists summary_app.top) why_app.top) page_app.top
+casa_of_inquiries = with_subcommand (with_subcommand (with_subcommand casa_of_lists why_app.top) messages_app.top) compare_app.top
 
 abbrev pub whole_app : App
-whole_app = with_subcommand (with_subcommand casa_of_inquiries serve_app.top) journal_app.top
+whole_app = with_subcommand (with_subcommand (with_subcommand casa_of_inquiries page_app.top) serve_app.top) journal_app.top

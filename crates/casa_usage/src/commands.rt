@@ -3,7 +3,7 @@
 ghost use Rattle.std.specs.Prelude.{◌≡◌, ℕ, false, codes, IfOk};
 ghost use Rattle.clap.specs.Words.{app_of, new_app, rule_of};
 ghost use Rattle.clap.specs.declared.builder.command.Command.TheViews.{out-Command as fields_of};
-ghost use Rattle.casa_usage.specs.Usage.{casa_alone, casa_of_inquiries, casa_of_lists, flag_rule, journal_app, load_app, load_stepping, needed, number_between, option_rule, page_app, report_app, run_app, serve_app, serve_ending, serve_keeping, serve_listening, serve_noting, serve_paging, serve_without_clock, summary_app, whole_app, why_app, word_rule};
+ghost use Rattle.casa_usage.specs.Usage.{casa_alone, casa_of_inquiries, casa_of_lines, casa_of_lists, compare_app, compare_files, flag_rule, import_app, import_files, journal_app, load_app, load_stepping, messages_app, needed, number_between, option_rule, page_app, report_app, report_lists, run_app, serve_app, serve_ending, serve_keeping, serve_listening, serve_noting, serve_paging, serve_without_clock, summary_app, whole_app, why_app, word_rule};
 
 use crate::help;
 use clap::{Arg, ArgAction, Command, value_parser};
@@ -15,30 +15,41 @@ pub fn casa_command<'a>(alloc: Global) -> Result<Command<'a>, AllocError>
     ensures local { IfOk result (λ command. (fields_of command).has_globals ≡ false) }
 {
     casa_of_inquiries(alloc)?
+        .subcommand(page_command(alloc)?)?
         .subcommand(serve_command(alloc)?)?
         .subcommand(journal_command(alloc)?)
 }
 
-/// `casa` with these, and with the subcommands that ask for all regulations, for a flight or for all of the day.
+/// `casa` with these, and with the subcommands that ask for a flight, for messages, or for what differs.
 fn casa_of_inquiries<'a>(alloc: Global) -> Result<Command<'a>, AllocError>
     ensures app { IfOk result (λ command. app_of command ≡ casa_of_inquiries) }
     ensures local { IfOk result (λ command. (fields_of command).has_globals ≡ false) }
 {
     casa_of_lists(alloc)?
-        .subcommand(summary_command(alloc)?)?
         .subcommand(why_command(alloc)?)?
-        .subcommand(page_command(alloc)?)
+        .subcommand(messages_command(alloc)?)?
+        .subcommand(compare_command(alloc)?)
 }
 
-/// `casa` with the subcommands that answer each line or ask for one regulation.
+/// `casa` with these, and with the subcommands that ask for regulations.
 fn casa_of_lists<'a>(alloc: Global) -> Result<Command<'a>, AllocError>
     ensures app { IfOk result (λ command. app_of command ≡ casa_of_lists) }
     ensures local { IfOk result (λ command. (fields_of command).has_globals ≡ false) }
 {
+    casa_of_lines(alloc)?
+        .subcommand(report_command(alloc)?)?
+        .subcommand(load_command(alloc)?)?
+        .subcommand(summary_command(alloc)?)
+}
+
+/// `casa` with the subcommands that answer command lines, or make them.
+fn casa_of_lines<'a>(alloc: Global) -> Result<Command<'a>, AllocError>
+    ensures app { IfOk result (λ command. app_of command ≡ casa_of_lines) }
+    ensures local { IfOk result (λ command. (fields_of command).has_globals ≡ false) }
+{
     casa_alone(alloc)?
         .subcommand(run_command(alloc)?)?
-        .subcommand(report_command(alloc)?)?
-        .subcommand(load_command(alloc)?)
+        .subcommand(import_command(alloc)?)
 }
 
 /// `casa` without its subcommands, under this name whatever the program's file is called.
@@ -66,16 +77,53 @@ pub fn run_command<'a>(alloc: Global) -> Result<Command<'a>, AllocError>
         .arg(force_flag(alloc))
 }
 
+/// `casa import` with its options.
+pub fn import_command<'a>(alloc: Global) -> Result<Command<'a>, AllocError>
+    ensures app { IfOk result (λ command. app_of command ≡ import_app) }
+    ensures local { IfOk result (λ command. (fields_of command).has_globals ≡ false) }
+{
+    import_files(alloc)?
+        .arg(taxi_option(alloc))?
+        .arg(value_option(alloc, "locations", "L,L,..", help::LOCATIONS_HELP))?
+        .arg(value_option(alloc, "by", "ORDER", help::BY_HELP))?
+        .arg(flag(alloc, "strict", help::IMPORT_STRICT_HELP))
+}
+
+/// `casa import` with its files, and the day.
+fn import_files<'a>(alloc: Global) -> Result<Command<'a>, AllocError>
+    ensures app { IfOk result (λ command. app_of command ≡ import_files) }
+    ensures local { IfOk result (λ command. (fields_of command).has_globals ≡ false) }
+{
+    subcommand(alloc, "import", help::IMPORT_ABOUT, help::IMPORT_AFTER_HELP)
+        .override_usage(help::IMPORT_USAGE)
+        .arg(value_option(alloc, "flights", "F", help::FLIGHTS_HELP))?
+        .arg(value_option(alloc, "crossings", "C", help::CROSSINGS_HELP))?
+        .arg(value_option(alloc, "regs", "R", help::REGS_HELP))?
+        .arg(midnight_option(alloc))
+}
+
 /// `casa report` with its options.
 pub fn report_command<'a>(alloc: Global) -> Result<Command<'a>, AllocError>
     ensures app { IfOk result (λ command. app_of command ≡ report_app) }
     ensures local { IfOk result (λ command. (fields_of command).has_globals ≡ false) }
 {
-    subcommand(alloc, "report", help::REPORT_ABOUT, help::REPORT_AFTER_HELP)
-        .arg(reg_option(alloc))?
-        .arg(day_option(alloc))?
+    report_lists(alloc)?
+        .arg(value_option(alloc, "sort", "ORDER", help::SORT_HELP))?
+        .arg(number_option(alloc, "top", "N", help::TOP_HELP, 1_000_000))?
         .arg(format_option(alloc))?
         .arg(strict_flag(alloc))
+}
+
+/// `casa report` with the lists that are meant, and the day.
+fn report_lists<'a>(alloc: Global) -> Result<Command<'a>, AllocError>
+    ensures app { IfOk result (λ command. app_of command ≡ report_lists) }
+    ensures local { IfOk result (λ command. (fields_of command).has_globals ≡ false) }
+{
+    subcommand(alloc, "report", help::REPORT_ABOUT, help::REPORT_AFTER_HELP)
+        .override_usage(help::REPORT_USAGE)
+        .arg(value_option(alloc, "reg", "R", help::REG_HELP))?
+        .arg(flag(alloc, "all", help::ALL_HELP))?
+        .arg(day_option(alloc))
 }
 
 /// `casa load` with its options.
@@ -127,6 +175,51 @@ pub fn why_command<'a>(alloc: Global) -> Result<Command<'a>, AllocError>
         .arg(day_option(alloc))?
         .arg(format_option(alloc))?
         .arg(strict_flag(alloc))
+}
+
+/// `casa messages` with its options.
+pub fn messages_command<'a>(alloc: Global) -> Result<Command<'a>, AllocError>
+    ensures app { IfOk result (λ command. app_of command ≡ messages_app) }
+    ensures local { IfOk result (λ command. (fields_of command).has_globals ≡ false) }
+{
+    let messages = subcommand(
+        alloc,
+        "messages",
+        help::MESSAGES_ABOUT,
+        help::MESSAGES_AFTER_HELP,
+    );
+    messages
+        .arg(midnight_option(alloc))?
+        .arg(value_option(alloc, "format", "FORMAT", help::MESSAGES_FORMAT_HELP))?
+        .arg(strict_flag(alloc))
+}
+
+/// `casa compare` with its files and options.
+pub fn compare_command<'a>(alloc: Global) -> Result<Command<'a>, AllocError>
+    ensures app { IfOk result (λ command. app_of command ≡ compare_app) }
+    ensures local { IfOk result (λ command. (fields_of command).has_globals ≡ false) }
+{
+    compare_files(alloc)?
+        .arg(format_option(alloc))?
+        .arg(strict_flag(alloc))
+}
+
+/// `casa compare` with its files, and the day.
+fn compare_files<'a>(alloc: Global) -> Result<Command<'a>, AllocError>
+    ensures app { IfOk result (λ command. app_of command ≡ compare_files) }
+    ensures local { IfOk result (λ command. (fields_of command).has_globals ≡ false) }
+{
+    let base = word(alloc, "base", "BASE", help::BASE_HELP);
+    let variant = word(alloc, "variant", "VARIANT", help::VARIANT_HELP);
+    subcommand(
+        alloc,
+        "compare",
+        help::COMPARE_ABOUT,
+        help::COMPARE_AFTER_HELP,
+    )
+    .arg(base)?
+    .arg(variant)?
+    .arg(day_option(alloc))
 }
 
 /// `casa page` with its options.
@@ -332,6 +425,14 @@ fn day_option<'a>(alloc: Global) -> Arg<'a>
     value_option(alloc, "day", "YYYY-MM-DD", help::DAY_HELP).required(true)
 }
 
+/// `--day`, which must be given, for all times.
+fn midnight_option<'a>(alloc: Global) -> Arg<'a>
+    ensures rule { rule_of result ≡ needed (option_rule (codes "day")) }
+    ensures local { result.global ≡ false }
+{
+    value_option(alloc, "day", "YYYY-MM-DD", help::MIDNIGHT_HELP).required(true)
+}
+
 /// `--format`.
 fn format_option<'a>(alloc: Global) -> Arg<'a>
     ensures rule { rule_of result ≡ option_rule (codes "format") }
@@ -354,6 +455,16 @@ fn force_flag<'a>(alloc: Global) -> Arg<'a>
     ensures local { result.global ≡ false }
 {
     flag(alloc, "force", help::FORCE_HELP)
+}
+
+/// `--taxi`, in seconds.
+fn taxi_option<'a>(alloc: Global) -> Arg<'a>
+    ensures rule { rule_of result ≡ number_between 0 3600 (option_rule (codes "taxi")) }
+    ensures local { result.global ≡ false }
+{
+    value_option(alloc, "taxi", "S", help::TAXI_HELP).value_parser(value_parser!(u32).range(
+        0..=3600,
+    ))
 }
 
 /// `--step`, in minutes.

@@ -11,10 +11,13 @@ pub const ABOUT: &str =
 pub const AFTER_HELP: &str = "\
 Examples:
   casa run < examples/first.jsonl
+  casa import --flights examples/traffic.flights.csv --day 2025-06-01 > traffic.jsonl
   casa report --reg R1 --day 2025-06-01 < examples/first.jsonl
   casa load --reg R1 --day 2025-06-01 < examples/first.jsonl
   casa summary --day 2025-06-01 < examples/first.jsonl
   casa why --key A --day 2025-06-01 < examples/first.jsonl
+  casa messages --day 2025-06-01 < examples/first.jsonl
+  casa compare examples/first.jsonl examples/morning.jsonl --day 2025-06-01
   casa page --day 2025-06-01 < examples/first.jsonl > day.html
   casa serve --port 4750 --connections 8
   casa serve --port 4750 --stay
@@ -38,17 +41,79 @@ Examples:
 
 A command is a line of JSON, and so is its reply; docs/COMMANDS.md describes each.";
 
+/// What `import` does.
+pub const IMPORT_ABOUT: &str =
+    "Makes command lines of tables: of flights, of the airspaces that they cross, and of regulations";
+
+/// How `import` is called.
+pub const IMPORT_USAGE: &str =
+    "casa import [OPTIONS] --day <YYYY-MM-DD> <--flights <F>|--regs <R>>";
+
+/// What stands below the options of `import`.
+pub const IMPORT_AFTER_HELP: &str = "\
+Examples:
+  casa import --flights examples/traffic.flights.csv --day 2025-06-01 > traffic.jsonl
+  casa import --regs examples/traffic.regulations.csv --flights examples/traffic.flights.csv --day 2025-06-01 --by eobt > traffic.jsonl
+
+The tables are files of comma-separated values, and each command is a line on standard output: an `open` for each
+regulation, and then a `file` for each flight. Which rows are left out, and why, is told on standard error;
+docs/IMPORT.md describes the columns, and what a row becomes.";
+
+/// What stands after `--flights`.
+pub const FLIGHTS_HELP: &str = "The file of the flights; needed unless --regs is given";
+
+/// What stands after `--crossings`.
+pub const CROSSINGS_HELP: &str = "With --flights: a file of the airspaces that they cross";
+
+/// What stands after `--regs`.
+pub const REGS_HELP: &str = "The file of the regulations, a row for each of their periods";
+
+/// What stands after `--day` of `import` and `messages`.
+pub const MIDNIGHT_HELP: &str = "The day from whose midnight UTC all times count: as 2025-06-01";
+
+/// What stands after `--taxi`.
+pub const TAXI_HELP: &str =
+    "The taxi time in seconds of flights whose row gives none: 0 to 3600, 600 if not given";
+
+/// What stands after `--locations`.
+pub const LOCATIONS_HELP: &str =
+    "The locations that stay in a flight with more than 32, besides those of regulations: as EBBUW,EHAM";
+
+/// What stands after `--by`.
+pub const BY_HELP: &str =
+    "The order of the filings: file, as in the file of the flights, or eobt, by the off-block time; file if not given";
+
+/// What stands after `--strict` of `import`.
+pub const IMPORT_STRICT_HELP: &str =
+    "Write nothing and end with status 1 if a row of any file is left out";
+
 /// What `report` does.
-pub const REPORT_ABOUT: &str = "Prints a regulation's list, as it stands after the command lines";
+pub const REPORT_ABOUT: &str =
+    "Prints a regulation's list, or all lists, as they stand after the command lines";
+
+/// How `report` is called.
+pub const REPORT_USAGE: &str = "casa report [OPTIONS] --day <YYYY-MM-DD> <--reg <R>|--all>";
 
 /// What stands below the options of `report`.
 pub const REPORT_AFTER_HELP: &str = "\
 Examples:
   casa report --reg R1 --day 2025-06-01 < examples/first.jsonl
   casa report --reg R1 --day 2025-06-01 --format csv < examples/first.jsonl
+  casa report --all --day 2025-06-01 --sort delay --top 20 < examples/morning.jsonl
 
 The command lines come on standard input, as those of `casa run`, and their replies are not printed;
 docs/COMMANDS.md describes them and what is printed.";
+
+/// What stands after `--all`.
+pub const ALL_HELP: &str =
+    "All open regulations, in the order of their identifiers, in place of --reg";
+
+/// What stands after `--sort`.
+pub const SORT_HELP: &str =
+    "The order of the rows: list, as they stand in their list, or delay, the longest first; list if not given";
+
+/// What stands after `--top`.
+pub const TOP_HELP: &str = "Print the first N rows alone: 1 to 1000000, all if not given";
 
 /// What `load` does.
 pub const LOAD_ABOUT: &str =
@@ -85,6 +150,40 @@ Example:
 
 The command lines come on standard input, as those of `casa run`, and their replies are not printed;
 docs/COMMANDS.md describes them and what is printed.";
+
+/// What `messages` does.
+pub const MESSAGES_ABOUT: &str =
+    "Prints each slot message that the command lines caused, with the number of its call";
+
+/// What stands below the options of `messages`.
+pub const MESSAGES_AFTER_HELP: &str = "\
+Examples:
+  casa messages --day 2025-06-01 < examples/first.jsonl
+  casa messages --day 2025-06-01 --format json < examples/first.jsonl
+
+The command lines come on standard input, as those of `casa run`, and their replies are not printed;
+docs/COMMANDS.md describes them and what is printed.";
+
+/// What stands after `--format` of `messages`.
+pub const MESSAGES_FORMAT_HELP: &str = "The form of what is printed: csv or json, csv if not given";
+
+/// What `compare` does.
+pub const COMPARE_ABOUT: &str =
+    "Prints what differs between two days: what they cost, and the flights that stand otherwise";
+
+/// What stands below the options of `compare`.
+pub const COMPARE_AFTER_HELP: &str = "\
+Example:
+  casa compare examples/first.jsonl examples/morning.jsonl --day 2025-06-01
+
+Each file has command lines, as those of `casa run`, which are answered from the beginning of a day; their replies
+are not printed. docs/COMMANDS.md describes them and what is printed.";
+
+/// What stands after the first file of `compare`.
+pub const BASE_HELP: &str = "The file with the command lines of the day that is compared with";
+
+/// What stands after the second file of `compare`.
+pub const VARIANT_HELP: &str = "The file with those of the day that is looked at";
 
 /// What `page` does.
 pub const PAGE_ABOUT: &str =

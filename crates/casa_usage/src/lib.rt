@@ -5,6 +5,6 @@ mod commands;
 mod help;
 
 pub use commands::{
-    casa_command, journal_command, load_command, report_command, run_command, serve_command,
-    summary_command, why_command,
+    casa_command, compare_command, import_command, journal_command, load_command, messages_command,
+    report_command, run_command, serve_command, summary_command, why_command,
 };

@@ -1,4 +1,4 @@
-use Rattle.casa_cli.proofs.FirstWrong.{nothing_asked, run_asked, report_asked, load_asked, summary_asked, why_asked, page_asked, clash_asked, serve_asked, stay_asked, journal_asked}
+use Rattle.casa_cli.proofs.FirstWrong.{nothing_asked, run_asked, import_asked, report_asked, load_asked, summary_asked, why_asked, messages_asked, compare_asked, page_asked, clash_asked, serve_asked, stay_asked, journal_asked}
 use Rattle.casa_cli.proofs.laws.words_have_the_first_wrong_value.Goals as goal
 
 pub returns-clause-unread : goal.returns-clause-unread
@@ -6,6 +6,9 @@ returns-clause-unread c = nothing_asked
 
 pub returns-clause-run : goal.returns-clause-run
 returns-clause-run c = run_asked
+
+pub returns-clause-import : goal.returns-clause-import
+returns-clause-import c = import_asked
 
 pub returns-clause-report : goal.returns-clause-report
 returns-clause-report c = report_asked
@@ -18,6 +21,12 @@ returns-clause-summary c = summary_asked
 
 pub returns-clause-why : goal.returns-clause-why
 returns-clause-why c = why_asked
+
+pub returns-clause-messages : goal.returns-clause-messages
+returns-clause-messages c = messages_asked
+
+pub returns-clause-compare : goal.returns-clause-compare
+returns-clause-compare c = compare_asked
 
 pub returns-clause-page : goal.returns-clause-page
 returns-clause-page c = page_asked
