@@ -1,6 +1,6 @@
 -- JSON texts, part by part
 use Rattle.std.proofs.Common.{◌≡◌, List, ◌++◌, append_assoc, append-nil, refl}
-use Rattle.std.specs.Prelude.{[], codes}
+use Rattle.std.specs.Prelude.{ℕ, [], codes}
 use Rattle.serde_json.specs.Data.{string}
 use Rattle.serde_json.specs.Written.{compact_text}
 use Rattle.serde_json.proofs.OnLiterals.{serde_json_on_literals}
@@ -11,8 +11,10 @@ use Rattle.casa_inquiry.specs.declared.load.Step.{Step}
 use Rattle.casa_inquiry.specs.declared.why.Holding.{Holding}
 use Rattle.casa_inquiry.specs.declared.why.Reasons.{Reasons}
 use Rattle.casa_inquiry.specs.Summary.{cost_of, mean_delay}
-use Rattle.casa_wire.specs.LineTexts.{count, flight_data, list_data, list_of, or_null}
-use Rattle.casa_report.specs.Json.{cost_data, day_data, load_json, report_json, step_data, summary_json}
+use Rattle.casa_wire.specs.LineTexts.{count, flight_data, line_of, list_data, list_of, or_null}
+use Rattle.casa_selection.specs.declared.rows.ReportRow.{ReportRow}
+use Rattle.casa_report.specs.Json.{cost_data, day_data, load_json, report_json, report_row_data, reports_json, rows_json, step_data, summary_json}
+use Rattle.casa_report.specs.Messages.{cancellation_data, slot_message_data}
 use Rattle.casa_report.specs.WhyJson.{holder_members, holding_data, offer_data, rule_name, why_data}
 
 pub whole_report : (day : Date) (reg : Text) (list : ListReply)
@@ -20,6 +22,29 @@ pub whole_report : (day : Date) (reg : Text) (list : ListReply)
     ++ (codes ",\"list\":" ++ (compact_text (list_data list) ++ (codes ",\"reg\":" ++ (compact_text (string reg) ++ codes "}\n")))) ≡ report_json day reg list
 unfolding serde_json_on_literals
 whole_report day reg list = simp append_assoc refl
+
+pub whole_reports : (day : Date) (lists : List ListReply)
+    → (codes "{\"day\":" ++ compact_text (day_data day))
+    ++ (codes ",\"lists\":" ++ (compact_text (list_of list_data lists) ++ codes "}\n")) ≡ reports_json day lists
+unfolding serde_json_on_literals
+whole_reports day lists = simp append_assoc refl
+
+pub whole_rows : (day : Date) (rows : List ReportRow)
+    → (codes "{\"day\":" ++ compact_text (day_data day))
+    ++ (codes ",\"rows\":" ++ (compact_text (list_of report_row_data rows) ++ codes "}\n")) ≡ rows_json day rows
+unfolding serde_json_on_literals
+whole_rows day rows = simp append_assoc refl
+
+pub slot_line : (kind key reg : Text) (ctot number : ℕ)
+    → codes "{\"ctot\":" ++ (compact_text (count ctot) ++ (codes ",\"key\":" ++ (compact_text (string key) ++ (codes ",\"kind\":" ++ (compact_text (string kind)
+    ++ (codes ",\"n\":" ++ (compact_text (count number) ++ (codes ",\"reg\":" ++ (compact_text (string reg) ++ codes "}\n"))))))))) ≡ line_of (slot_message_data kind key ctot reg number)
+unfolding serde_json_on_literals
+slot_line kind key reg ctot number = simp append_assoc refl
+
+pub cancellation_line : (key : Text) (number : ℕ)
+    → codes "{\"key\":" ++ (compact_text (string key) ++ (codes ",\"kind\":\"SLC\",\"n\":" ++ (compact_text (count number) ++ codes "}\n"))) ≡ line_of (cancellation_data key number)
+unfolding serde_json_on_literals
+cancellation_line key number = simp append_assoc refl
 
 pub whole_load : (day : Date) (reg : Text) (steps : List Step)
     → (codes "{\"day\":" ++ compact_text (day_data day))

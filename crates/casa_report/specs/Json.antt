@@ -7,7 +7,9 @@ use Rattle.casa_filing.specs.Text.{Text}
 use Rattle.casa_flight.specs.declared.reply.ListReply.{ListReply}
 use Rattle.casa_inquiry.specs.declared.load.Step.{Step}
 use Rattle.casa_inquiry.specs.Summary.{cost_of, mean_delay}
-use Rattle.casa_wire.specs.LineTexts.{count, line_of, list_data, list_of, object_of, or_null}
+use Rattle.casa_wire.specs.LineTexts.{count, kind_name, line_of, list_data, list_of, object_of, or_null}
+use Rattle.casa_selection.specs.declared.rows.ReportRow.{ReportRow}
+use Rattle.casa_selection.specs.Rows.{delay_in_list}
 
 -- a day, as "2025-06-01"
 abbrev pub day_data : Date → Data
@@ -17,6 +19,25 @@ day_data day = string (date_text day)
 abbrev pub report_data : Date → Text → ListReply → Data
 report_data day reg list = object_of (
     (codes "day", day_data day) ∷ (codes "list", list_data list) ∷ (codes "reg", string reg) ∷ [])
+
+-- the lists of all regulations, each in the same way
+abbrev pub reports_data : Date → List ListReply → Data
+reports_data day lists = object_of ((codes "day", day_data day) ∷ (codes "lists", list_of list_data lists) ∷ [])
+
+-- a row as a list has it, with its delay and its regulation
+abbrev pub report_row_data : ReportRow → Data
+report_row_data r = object_of (
+    (codes "cto", count r.row.cto) ∷
+    (codes "delay", count (delay_in_list r.row)) ∷
+    (codes "eto", count r.row.eto) ∷
+    (codes "key", string r.row.key) ∷
+    (codes "kind", string (kind_name r.row.kind)) ∷
+    (codes "reg", string r.reg) ∷
+    (codes "slot", or_null count r.row.slot) ∷ [])
+
+-- rows of whichever lists, in their order
+abbrev pub rows_data : Date → List ReportRow → Data
+rows_data day rows = object_of ((codes "day", day_data day) ∷ (codes "rows", list_of report_row_data rows) ∷ [])
 
 abbrev pub step_data : Step → Data
 step_data s = object_of (
@@ -52,6 +73,12 @@ summary_data day lists = object_of ((codes "day", day_data day) ∷ (codes "regs
 -- each text is one line
 abbrev pub report_json : Date → Text → ListReply → Text
 report_json day reg list = line_of (report_data day reg list)
+
+abbrev pub reports_json : Date → List ListReply → Text
+reports_json day lists = line_of (reports_data day lists)
+
+abbrev pub rows_json : Date → List ReportRow → Text
+rows_json day rows = line_of (rows_data day rows)
 
 abbrev pub load_json : Date → Text → List Step → Text
 load_json day reg steps = line_of (load_data day reg steps)

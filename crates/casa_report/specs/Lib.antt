@@ -13,4 +13,5 @@ pub mod LoadCsv
 pub mod WhyCsv
 pub mod Json
 pub mod WhyJson
+pub mod Messages
 pub mod CsvReading

@@ -1,40 +1,51 @@
--- to believe: a regulation's list, as a table
-use Rattle.std.specs.Prelude.{◌-◌, List, [], ◌∷◌, ◌++◌, codes, decimal}
+-- to believe: a report as a table: the list of a regulation, or the lists of all
+use Rattle.std.specs.Prelude.{List, [], ◌∷◌, ◌++◌, Option, None, Some, codes, decimal}
 use Rattle.std.specs.List.{flat_map}
 use Rattle.jiff_core.specs.declared.civil.date.Date.{Date}
 use Rattle.casa_time.specs.Hhmm.{hhmm}
 use Rattle.casa_filing.specs.Text.{Text}
-use Rattle.casa_flight.specs.declared.reply.ListReply.{ListReply}
-use Rattle.casa_flight.specs.declared.reply.ListRow.{ListRow}
 use Rattle.casa_flight.specs.declared.reply.Kind.{Kind}
 use Rattle.casa_flight.specs.declared.reply.Kind.TheVariants.{Pre, Issued, Forced}
+use Rattle.casa_selection.specs.declared.rows.ReportRow.{ReportRow}
 use Rattle.casa_report.specs.Columns.{Column, left, number_text, right, shown_line, titles}
 use Rattle.casa_report.specs.Heading.{heading_line}
+use Rattle.casa_report.specs.SummaryTable.{day_line}
+use Rattle.casa_selection.specs.Rows.{delay_in_list}
 
 abbrev pub kind_text : Kind → Text
 kind_text Pre = codes "pre"
 kind_text Issued = codes "issued"
 kind_text Forced = codes "forced"
 
-abbrev pub columns : List (Column ListRow)
-columns =
-    record { title = codes "KEY"; place = left 10; shown = λ row. row.key } ∷
-    record { title = codes "ETO"; place = left 4; shown = λ row. hhmm row.eto } ∷
-    record { title = codes "CTO"; place = left 4; shown = λ row. hhmm row.cto } ∷
-    record { title = codes "DELAY"; place = right 6; shown = λ row. decimal (row.cto - row.eto) } ∷
-    record { title = codes "KIND"; place = left 6; shown = λ row. kind_text row.kind } ∷
-    record { title = codes "SLOT"; place = right 5; shown = λ row. number_text row.slot } ∷ []
+abbrev pub row_columns : List (Column ReportRow)
+row_columns =
+    record { title = codes "KEY"; place = left 10; shown = λ r. r.row.key } ∷
+    record { title = codes "ETO"; place = left 4; shown = λ r. hhmm r.row.eto } ∷
+    record { title = codes "CTO"; place = left 4; shown = λ r. hhmm r.row.cto } ∷
+    record { title = codes "DELAY"; place = right 6; shown = λ r. decimal (delay_in_list r.row) } ∷
+    record { title = codes "KIND"; place = left 6; shown = λ r. kind_text r.row.kind } ∷
+    record { title = codes "SLOT"; place = right 5; shown = λ r. number_text r.row.slot } ∷ []
 
-abbrev pub header : Text
-header = titles columns
+abbrev pub reg_column : Column ReportRow
+reg_column = record { title = codes "REG"; place = left 10; shown = λ r. r.reg }
 
-abbrev pub row_line : ListRow → Text
-row_line row = shown_line columns row
+-- the columns of a report on this regulation; of one on all of them the regulation stands first
+abbrev pub report_columns : Option Text → List (Column ReportRow)
+report_columns (Some reg) = row_columns
+report_columns None = reg_column ∷ row_columns
 
--- the header and a line for each row
-abbrev pub table : List ListRow → Text
-table rows = header ++ flat_map row_line rows
+-- the line above the table: the regulation, if it is on one, and the day
+abbrev pub report_heading : Option Text → Date → Text
+report_heading (Some reg) day = heading_line reg day
+report_heading None day = day_line day
 
--- the heading with the regulation and the day, and below it the table of the list
-abbrev pub report_text : Text → Date → ListReply → Text
-report_text reg day list = heading_line reg day ++ table list.rows
+abbrev pub row_line : Option Text → ReportRow → Text
+row_line reg row = shown_line (report_columns reg) row
+
+-- the titles and a line for each row
+abbrev pub report_table : Option Text → List ReportRow → Text
+report_table reg rows = titles (report_columns reg) ++ flat_map (row_line reg) rows
+
+-- the heading, and below it the table
+abbrev pub report_text : Option Text → Date → List ReportRow → Text
+report_text reg day rows = report_heading reg day ++ report_table reg rows

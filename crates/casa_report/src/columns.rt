@@ -11,7 +11,7 @@ use casa_time::hhmm;
 use itoa::Buffer;
 
 /// Appends a name in a column of ten.
-pub(crate) fn push_name<Kind, const N: usize>(line: &mut ArrayVec<u8, N>, name: &Name<Kind>)
+pub fn push_name<Kind, const N: usize>(line: &mut ArrayVec<u8, N>, name: &Name<Kind>)
     requires { array_vec_len line.old + 11 ≤ N }
     ensures text { line.new.items ≡ line.old.items ++ (left 10 name.now ++ 32 ∷ []) }
     ensures len { array_vec_len line.new ≤ array_vec_len line.old + 11 }
@@ -21,7 +21,7 @@ pub(crate) fn push_name<Kind, const N: usize>(line: &mut ArrayVec<u8, N>, name: 
 }
 
 /// Appends a time in a column of four.
-pub(crate) fn push_time<const N: usize>(line: &mut ArrayVec<u8, N>, secs: u32)
+pub fn push_time<const N: usize>(line: &mut ArrayVec<u8, N>, secs: u32)
     requires { array_vec_len line.old + 5 ≤ N }
     ensures text { line.new.items ≡ line.old.items ++ (left 4 (hhmm secs) ++ 32 ∷ []) }
     ensures len { array_vec_len line.new ≤ array_vec_len line.old + 5 }
@@ -30,12 +30,7 @@ pub(crate) fn push_time<const N: usize>(line: &mut ArrayVec<u8, N>, secs: u32)
 }
 
 /// Appends a number, spaces before it up to the width, and what ends the column.
-pub(crate) fn push_number<const N: usize>(
-    line: &mut ArrayVec<u8, N>,
-    number: u128,
-    width: usize,
-    end: u8,
-)
+pub fn push_number<const N: usize>(line: &mut ArrayVec<u8, N>, number: u128, width: usize, end: u8)
     requires { array_vec_len line.old + max width 40 < N }
     ensures text { line.new.items ≡ line.old.items ++ (right width (decimal number) ++ end ∷ []) }
     ensures len { array_vec_len line.new ≤ array_vec_len line.old + max width 40 + 1 }
@@ -44,7 +39,7 @@ pub(crate) fn push_number<const N: usize>(
 }
 
 /// Appends a number, or a hyphen where there is none, in the same way.
-pub(crate) fn push_number_or_hyphen<const N: usize>(
+pub fn push_number_or_hyphen<const N: usize>(
     line: &mut ArrayVec<u8, N>,
     number: Option<u128>,
     width: usize,
@@ -62,12 +57,7 @@ pub(crate) fn push_number_or_hyphen<const N: usize>(
 }
 
 /// Appends a text, spaces up to the width, and what ends the column.
-pub(crate) fn push_left<const N: usize>(
-    line: &mut ArrayVec<u8, N>,
-    text: &[u8],
-    width: usize,
-    end: u8,
-)
+pub fn push_left<const N: usize>(line: &mut ArrayVec<u8, N>, text: &[u8], width: usize, end: u8)
     requires { array_vec_len line.old + max width (length text.now) < N }
     ensures text { line.new.items ≡ line.old.items ++ (left width text.now ++ end ∷ []) }
     ensures len { array_vec_len line.new
@@ -79,12 +69,7 @@ pub(crate) fn push_left<const N: usize>(
 }
 
 /// Appends spaces up to the width, a text, and what ends the column.
-pub(crate) fn push_right<const N: usize>(
-    line: &mut ArrayVec<u8, N>,
-    text: &[u8],
-    width: usize,
-    end: u8,
-)
+pub fn push_right<const N: usize>(line: &mut ArrayVec<u8, N>, text: &[u8], width: usize, end: u8)
     requires { array_vec_len line.old + max width (length text.now) < N }
     ensures text { line.new.items ≡ line.old.items ++ (right width text.now ++ end ∷ []) }
     ensures len { array_vec_len line.new

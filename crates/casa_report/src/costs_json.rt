@@ -52,8 +52,9 @@ impl Json for ListReply {
     }
 }
 
-/// Appends the mean delay as a member, null where there is none.
-fn push_mean(out: &mut Vec<u8>, mean: Option<u128>) -> Result<(), AllocError>
+/// Appends the mean delay as a member, null where there is none. `AllocError` where there is no memory for it; some of it may
+/// then stand there.
+pub fn push_mean(out: &mut Vec<u8>, mean: Option<u128>) -> Result<(), AllocError>
     ensures { OnOk result (out.new.items
         ≡ out.old.items ++ (codes ",\"mean\":" ++ compact_text (or_null count mean))) }
 {

@@ -13,7 +13,7 @@ use std::alloc::{AllocError, Global};
 
 /// A value of a record. None needs quotation marks.
 #[derive(Clone, Copy)]
-pub(crate) enum Value<'a> {
+pub enum Value<'a> {
     /// These characters, none of which is a comma, a quotation mark or a line end.
     Plain(&'a [u8]),
     Number(u128),
@@ -69,8 +69,8 @@ fn push_records<T: Record>(
     Ok(())
 }
 
-/// Appends the line of these values.
-pub(crate) fn push_values(
+/// Appends the line of these values. `AllocError` where there is no memory for it; some of it may then stand there.
+pub fn push_values(
     alloc: Global,
     out: &mut Vec<u8>,
     day: Date,
@@ -132,7 +132,7 @@ fn push_value(
 }
 
 /// A number, if there is one.
-pub(crate) fn number_or_absent(number: Option<u128>) -> Value<'static>
+pub fn number_or_absent(number: Option<u128>) -> Value<'static>
     ensures { (day : Plain) → value_text day result ≡ or_empty decimal number }
 {
     match number {

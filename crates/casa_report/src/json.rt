@@ -77,11 +77,7 @@ pub(crate) fn push_day(alloc: Global, out: &mut Vec<u8>, day: Date) -> Result<()
 
 /// Appends what stands before a number, and the number. `AllocError` where there is no memory for it; some of it may then
 /// stand there.
-pub(crate) fn push_figure(
-    out: &mut Vec<u8>,
-    before: &'static [u8],
-    figure: u128,
-) -> Result<(), AllocError>
+pub fn push_figure(out: &mut Vec<u8>, before: &'static [u8], figure: u128) -> Result<(), AllocError>
     ensures { OnOk result (out.new.items
         ≡ out.old.items ++ (before.now ++ compact_text (count figure))) }
 {

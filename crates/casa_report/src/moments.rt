@@ -30,7 +30,7 @@ pub(crate) fn push_moment(
 }
 
 /// A day, as `2025-06-01`. `AllocError` where there is no memory for it.
-pub(crate) fn date_text(alloc: Global, day: Date) -> Result<String, AllocError>
+pub fn date_text(alloc: Global, day: Date) -> Result<String, AllocError>
     ensures { IfOk result (λ text. string_bytes text ≡ date_text day) }
 {
     format!(in alloc; "{day}")

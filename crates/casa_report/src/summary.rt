@@ -34,8 +34,8 @@ pub fn summary_text(alloc: Global, day: Date, lists: &[ListReply]) -> Result<Vec
     Ok(text)
 }
 
-/// The line above a summary.
-fn day_line(alloc: Global, day: Date) -> Result<String, AllocError>
+/// The line above what is told of a day, as `CASA 2025-06-01`. `AllocError` where there is no memory for it.
+pub fn day_line(alloc: Global, day: Date) -> Result<String, AllocError>
     ensures { IfOk result (λ line. string_bytes line ≡ day_line day) }
 {
     format!(in alloc; "CASA {day}\n")

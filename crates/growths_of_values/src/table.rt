@@ -1,43 +1,32 @@
 //! Lists that are written as tables.
 
-ghost use Rattle.std.specs.Prelude.{◌≤◌, All, IsTrue};
-
 use crate::calls::SET_UP;
 use crate::plain::plain_after;
 use crate::scenario::{Failure, Scenario, Subject};
-use casa_flight::{Answer, Call, ListReply, ListRow, RegId, Reply, Shared};
-use casa_report::list_table;
+use casa_flight::{Answer, Call, ListReply, RegId, Reply, Shared};
+use casa_report::report_table;
+use casa_selection::{ReportRow, rows_in};
 use std::alloc::{AllocError, Global};
 
 /// Room for the table, in bytes, so that the writer takes no memory.
 const ROOM: usize = 10_000;
 
-/// A list, and the table of it that is written.
+/// The rows of a list, and the table of them that is written.
 #[derive(Drop)]
 pub struct Tabled {
-    list: Shared<ListReply>,
+    rows: Vec<ReportRow>,
     table: Vec<u8>,
-}
-
-/// Whether no flight of these rows is calculated over before it is planned there.
-fn are_in_time(rows: &[ListRow]) -> bool
-    ensures { IsTrue result → All (λ row. row.eto ≤ row.cto) rows.now }
-{
-    rows.iter().all(|row| row.eto.secs() <= row.cto)
 }
 
 impl Subject for Tabled {
     type Answer = bool;
 
     fn call(&mut self, _alloc: Global) -> Result<bool, Failure> {
-        if !are_in_time(self.list.rows.as_slice()) {
-            return Err(Failure::Other);
-        }
-        Ok(list_table(&self.list, &mut self.table).is_ok())
+        Ok(report_table(&None, &self.rows, &mut self.table).is_ok())
     }
 
     fn push_told(&self, _alloc: Global, told: &mut String) -> Result<(), AllocError> {
-        write!(told, "{:?} {:?}", self.list, self.table)
+        write!(told, "{:?} {:?}", self.rows, self.table)
     }
 }
 
@@ -68,8 +57,9 @@ impl Scenario for Tabled {
     }
 
     fn set_up(alloc: Global, case: &&'static str) -> Option<Tabled> {
+        let list = listed(alloc, RegId::new(case.as_bytes())?)?;
         Some(Tabled {
-            list: listed(alloc, RegId::new(case.as_bytes())?)?,
+            rows: rows_in(alloc, &list).ok()?,
             table: Vec::with_capacity(alloc, ROOM).ok()?,
         })
     }
