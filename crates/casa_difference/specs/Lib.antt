@@ -1,0 +1,4 @@
+pub mod Standings
+pub mod Differences
+pub mod Totals
+pub mod Comparisons
