@@ -25,6 +25,7 @@ use casa_flight::{Call, Reply};
 use casa_front::{Front, Keeper, Opened};
 use casa_history::{History, Receipt, Settled, SharedEntry, Torn, settle};
 use casa_list::SharedList;
+use casa_plan::board_of;
 use casa_view::{Board, Store};
 use std::alloc::{AllocError, Global};
 use std::sync::ledger::{Blank, Book, Share};
@@ -211,7 +212,7 @@ impl<K: Store, L: EngineName> CountedRoom<Board<K>, L> {
         ensures lists { IfOk result (λ lists. lists.items
             ≡ lists_in (state_after (entries_of self.now.room))) }
     {
-        shared_lists(alloc, &self.room)
+        shared_lists(alloc, board_of(&self.room))
     }
 
     /// The same, and lets a front see the history that leads to them. At `AllocError` the front is as it was.

@@ -6,6 +6,7 @@
 #![tactic(auto)]
 
 mod audit;
+mod branch;
 mod counted;
 mod desk;
 mod engine;
@@ -20,6 +21,6 @@ mod shared;
 pub use audit::{Audit, audit_lists, audit_shared};
 pub use engine::{DeskPass, Engine, EngineDesk};
 pub use laws::legal_histories_are_sequential;
-pub use look::Look;
+pub use look::{Look, look_on};
 pub use name::{Blank, EngineName};
 pub use parts::blank;

@@ -1,30 +1,30 @@
-//! The lists of a room's board.
+//! The lists of a board.
 
-ghost use Rattle.std.specs.Prelude.{◌≡◌, [], ◌++◌, IfOk, OnOk};
+ghost use Rattle.std.specs.Prelude.{◌≡◌, List, [], ◌++◌, IfOk, OnOk};
 ghost use Rattle.std.specs.List.{cons_option};
 ghost use Rattle.std.specs.Option.{option_copied};
-ghost use Rattle.casa_commit.specs.Rooms.{entries_of};
+ghost use Rattle.casa_flight.specs.declared.call.Call.{Call};
+ghost use Rattle.casa_flight.specs.declared.reply.Reply.{Reply};
+ghost use Rattle.casa_history.specs.declared.entry.Entry.{Entry};
 ghost use Rattle.casa_footprint.specs.Stamps.{state_after};
-ghost use Rattle.casa_plan.specs.Rooms.{IsSequential};
+ghost use Rattle.casa_plan.specs.Rooms.{IsBoardAfter};
 ghost use Rattle.casa_engine.specs.Delays.{lists_in};
 
-use casa_commit::Room;
+use casa_commit::World;
 use casa_list::SharedList;
-use casa_plan::board_of;
 use casa_view::{Board, Store};
 use std::alloc::{AllocError, Global};
 
-/// The lists of all open regulations, shared and not copied, as the room's history leads to them. `AllocError` where there
-/// is no memory for that.
+/// The lists of all open regulations, shared and not copied: those to which a history leads, after which the board stands.
+/// `AllocError` where there is no memory for that.
 pub(crate) fn shared_lists<K: Store>(
     alloc: Global,
-    room: &Room<Board<K>>,
+    board: &Board<K>,
 ) -> Result<Vec<SharedList>, AllocError>
-    ensures sequential { IsSequential (entries_of room.now) }
-    ensures lists { IfOk result (λ lists. lists.items
-        ≡ lists_in (state_after (entries_of room.now))) }
+    ensures { IfOk result (λ lists. (history : List (Entry Call Reply)) →
+        IsBoardAfter history (⟦<Board<K> as World>⟧.state board.now) →
+        lists.items ≡ lists_in (state_after history)) }
 {
-    let board = board_of(room);
     let regulations = board.catalogue();
     let mut lists = Vec::with_capacity(alloc, regulations.len())?;
     for regulation in regulations {

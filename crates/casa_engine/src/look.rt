@@ -3,14 +3,17 @@
 //! Under the lock references are shared, and nothing is entered; texts and figures are made of them outside. Each method
 //! lets a front see the history of which it tells, and at `AllocError` the front is as it was.
 
-ghost use Rattle.std.specs.Prelude.{◌≡◌, ◌<◌, ◌≤◌, length, take, drop, IfOk, OnOk, OnErr, MatchOption};
+ghost use Rattle.std.specs.Prelude.{◌≡◌, ◌<◌, ◌≤◌, List, length, take, drop, IfOk, OnOk, OnErr, MatchOption};
 ghost use mathlib.Core.List.{IsPrefix};
 ghost use Rattle.casa_commit.specs.Rooms.{entries_of};
+ghost use Rattle.casa_flight.specs.declared.call.Call.{Call};
+ghost use Rattle.casa_flight.specs.declared.reply.Reply.{Reply};
 ghost use Rattle.casa_flight.specs.Good.{IsGood};
 ghost use Rattle.casa_flight.specs.Replies.{reply};
 ghost use Rattle.casa_flight.specs.State.{row_of};
 ghost use Rattle.casa_footprint.specs.Stamps.{state_after};
-ghost use Rattle.casa_plan.specs.Rooms.{IsSequential};
+ghost use Rattle.casa_history.specs.declared.entry.Entry.{Entry};
+ghost use Rattle.casa_plan.specs.Rooms.{IsBoardAfter, IsSequential};
 ghost use Rattle.casa_view.specs.View.{IsFor, Shows};
 ghost use Rattle.casa_engine.specs.Looks.{IsLookBehind};
 
@@ -207,11 +210,23 @@ fn look_of<K: Store>(alloc: Global, room: &Room<Board<K>>) -> Result<Look, Alloc
     ensures sequential { IsSequential (entries_of room.now) }
     ensures look { IfOk result (IsLookBehind (entries_of room.now)) }
 {
-    let lists = shared_lists(alloc, room)?;
     let board = board_of(room);
+    look_on(alloc, room.history().len(), board)
+}
+
+/// What there is to look at on a board: what a history of so many calls shows, after which the board stands. `AllocError`
+/// where there is no memory for it.
+///
+/// The lists are shared, the open regulations copied.
+pub fn look_on<K: Store>(alloc: Global, calls: usize, board: &Board<K>) -> Result<Look, AllocError>
+    ensures { IfOk result (λ look. (history : List (Entry Call Reply)) →
+        IsBoardAfter history (⟦<Board<K> as World>⟧.state board.now) →
+        calls ≡ length history → IsLookBehind history look) }
+{
+    let lists = shared_lists(alloc, board)?;
     let regulations = Vec::from_slice(alloc, board.catalogue())?;
     Ok(Look {
-        calls: room.history().len(),
+        calls,
         clock: board.clock(),
         regulations,
         lists,

@@ -97,6 +97,10 @@ impl Store for Copies {
         })
     }
 
+    fn again(&self) -> Copies {
+        Copies
+    }
+
     fn seal(&mut self, _state: Tag) -> Result<Option<Seal<Copied>>, AllocError> {
         Ok(None)
     }

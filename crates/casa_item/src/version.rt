@@ -68,6 +68,12 @@ pub trait Store: Drop {
         ensures item { IfOk result (λ version. Self.Version.item_of version ≡ arc_value item) }
         ensures number { IfOk result (λ version. Self.Version.stamp_of version ≡ position) };
 
+    /// The store once more, for a board that changes apart from this one's. What each keeps, the other's versions know. It
+    /// takes no memory.
+    fn again(&self) -> Self
+    where
+        Self: Sized;
+
     /// Whether the store makes seals.
     ghost makes_seals: { Bool };
 

@@ -20,7 +20,7 @@ abbrev pub sequential_history : State → List Call → List (Entry Call Reply)
 sequential_history m [] = []
 sequential_history m (c ∷ cs) = entry only_desk c (reply m c) ∷ sequential_history (next m c) cs
 
--- inner: the calls of a history
+-- the calls of a history
 abbrev pub calls_in : List (Entry Call Reply) → List Call
 calls_in history = map (λ (e : Entry Call Reply). e.call) history
 

@@ -180,6 +180,10 @@ impl<'a, V: Shelving, R: Wait> Store for Shelf<'a, V, R> {
         })
     }
 
+    fn again(&self) -> Shelf<'a, V, R> {
+        Shelf::new(self.shelf, self.rt)
+    }
+
     fn seal(&mut self, state: Tag) -> Result<Option<Seal<Shelved<'a, V>>>, AllocError> {
         let Ok(token) = self.shelf.push_shown(self.rt, state) else {
             return Err(AllocError);

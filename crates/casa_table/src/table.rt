@@ -282,6 +282,20 @@ impl<Kind: Copy, V: Version, I: Index<Kind, V>> Table<Kind, V, I> {
         })
     }
 
+    /// A table with the same values, which changes apart from this one. What both have now they share, and neither changes it:
+    /// this takes some counts and a little memory, whatever the number of values. `AllocError` where there is none for it.
+    pub fn fork(&self) -> Result<Table<Kind, V, I>, AllocError>
+        ensures { IfOk result (λ table. table.entries ≡ self.now.entries) }
+    {
+        Ok(Table {
+            alloc: self.alloc,
+            base: Arc::try_clone(&self.base)?,
+            seal: seal_again(&self.seal)?,
+            recent: Arc::try_clone(&self.recent)?,
+            coming: Arc::new(self.alloc, BTreeMap::new(self.alloc))?,
+        })
+    }
+
     /// Seals the values of the base, unless they are sealed or the store makes no seals, so that those that are shared now
     /// need not be compared with those that will be here then. `AllocError` where there is no memory for it.
     pub fn seal<K: Store<Version = V>>(&mut self, store: &mut K) -> Result<(), AllocError>

@@ -81,6 +81,24 @@ impl<K: Store> Board<K> {
 }
 
 impl<K: Store> Board<K> {
+    /// A board that stands as this one does, and changes apart from it. What both have now they share: this takes no longer
+    /// for many items than for few. `AllocError` where there is no memory for it.
+    ///
+    /// While it is there, what changes on either board lies beside what they share, and so costs more.
+    pub fn fork(&self) -> Result<Board<K>, AllocError>
+        ensures { IfOk result (λ board. ⟦<Board<K> as World>⟧.state board
+            ≡ ⟦<Board<K> as World>⟧.state self.now) }
+    {
+        let items = self.items.fork(self.alloc)?;
+        Ok(Board {
+            alloc: self.alloc,
+            store: self.store.again(),
+            items,
+        })
+    }
+}
+
+impl<K: Store> Board<K> {
     ghost use Rattle.std.specs.Option.{option_copied};
     ghost use Rattle.casa_flight.specs.State.{row_of};
 
