@@ -108,7 +108,8 @@ tbody tr{cursor:pointer} tr.pick{background:var(--pickback)!important;box-shadow
 #fields [readonly]{border-color:transparent;background:none} #fields [aria-invalid]{border-color:var(--over);box-shadow:inset 4px 0 var(--over)}
 .period{display:grid;grid-template-columns:1fr 1fr 1fr 26px 26px;gap:4px;margin-bottom:4px;font-size:12px} .period .btn{padding:2px 0} .period span{white-space:nowrap;color:var(--faint)}
 #wrong{color:var(--over);margin:2px 0 6px}
-#reply-words{margin:2px 0 6px;font-weight:600} .no::before{content:"✕ ";color:var(--over)} .yes::before{content:"✓ ";color:var(--ok)} #reply-msgs{margin-bottom:6px;font-size:12px}
+#forecast{margin-top:9px;padding-left:9px;border-left:3px solid var(--pick)} #forecast .head{padding-top:0} #forecast ul{margin-bottom:6px;font-size:12px} #forecast .offer{grid-template-columns:76px minmax(0,1fr) 58px}
+#reply-words,.words{margin:2px 0 6px;font-weight:600} .no::before{content:"✕ ";color:var(--over)} .yes::before{content:"✓ ";color:var(--ok)} #reply-msgs{margin-bottom:6px;font-size:12px}
 /* messages */
 .msg{display:grid;grid-template-columns:36px 32px 84px 40px minmax(0,1fr);gap:7px;align-items:baseline;padding:3.5px 14px;white-space:nowrap;border-top:1px solid var(--hair);font-size:12px;cursor:pointer}
 .msg .hint{text-align:right} .msg *,.offer *,.title div,#form-title,td:last-child{overflow:hidden;text-overflow:ellipsis} td:last-child{max-width:170px} .t{color:var(--faint)} .SAM,.SRM,.SLC{font-weight:600} .SAM{color:var(--issued)} .SRM{color:var(--pick)}
@@ -155,7 +156,8 @@ tbody tr{cursor:pointer} tr.pick{background:var(--pickback)!important;box-shadow
         <div id="fields"></div>
         <div id="wrong" role="alert"></div>
         <div id="sending"><p class="hint">This line is sent, as any desk would:</p><pre class="line mono" id="line"></pre></div>
-        <button class="btn go" id="send">Send</button>
+        <div class="acts"><button class="btn go" id="send">Send</button><button type="button" class="btn" id="try" title="shows what would come of it">Try</button></div>
+        <div id="forecast" hidden></div>
       </form>
       <div id="reply" hidden>
         <div class="head"><h2>Reply</h2><button class="btn" data-act="back">Done (Esc)</button></div>
@@ -416,7 +418,8 @@ function check(){const f=form,wrong=[],bad=(n,text)=>wrong.push([n,text]),c={cmd
  for(const e of $("form").elements)e.removeAttribute("aria-invalid");
  for(const[n,t]of wrong)if(t)field(n).setAttribute("aria-invalid","true");
  const texts=[...new Set(wrong.map(w=>w[1]))].filter(Boolean).join(" ");if($("wrong").textContent!==texts)$("wrong").textContent=texts;
- f.line=wrong.length?"":JSON.stringify(c);$("line").textContent=f.line||"–";$("send").disabled=!f.line||!!lost||f.busy;
+ f.line=wrong.length?"":JSON.stringify(c);$("line").textContent=f.line||"–";$("try").disabled=$("send").disabled=!f.line||!!lost||f.busy;
+ if(f.tried!==f.line)$("forecast").hidden=true;
  show(f.act==="rates"&&f.line?{reg:f.reg,periods:c.periods}:null)}
 /* Shows in the picture what capacity these periods give. */
 function show(periods){const was=JSON.stringify(preview);preview=periods;if(JSON.stringify(preview)!==was)drawOne()}
@@ -432,22 +435,61 @@ const refusals={Duplicate:"a flight is filed under this key",NoFlight:"no such f
  DuplicateRegulation:"a regulation is open under this identifier",NoRegulation:"no regulation is open under this identifier",TooManyRegulations:"256 regulations are open",
  SpanChanged:"the periods begin at another time than the regulation, or end before it",BackInTime:"the time is before the clock",NotIssued:"one of the two has no issued slot",
  OtherRegulation:"different regulations govern the two",TooEarly:"one of the two would be over the location before its own estimated time, or take off before the clock"};
-/* A reply in words; "was" is the flight as it stood before. */
-function inWords(t,was){const f=t.flight;
+/* A reply in words; "was" is the flight as it stood before, and "n" the call that it is, or none where it was tried. */
+function inWords(t,was,n){const f=t.flight,call=n?` (call ${n})`:"";
  if(t.fault)return`The line is no call (${[t.fault,t.field].filter(Boolean).join(" ")}): nothing was changed.`;
- if(t.refused)return`Refused: ${refusals[t.refused]||"for a reason of its own"} (${t.code} ${t.refused}, call ${t.n}). Nothing was changed.`;
- return f?`${f.key} takes off at ${hm(f.ctot)}, ${was&&was.ctot!=null&&was.ctot!==f.ctot?shift(f.ctot-was.ctot):"as before"}; ${f.reg?`${f.delay?mins(f.delay)+" min of delay":"no delay"} by ${f.reg}`:f.exempt?"it is exempt":"nothing governs it"} (call ${t.n}).`:`Done, as call ${t.n}.`}
+ if(t.refused)return(n?"Refused: ":"It would be refused: ")+`${refusals[t.refused]||"for a reason of its own"} (${t.code} ${t.refused}${n?`, call ${n}). Nothing was changed.`:")."}`;
+ return f?`${f.key} ${n?"takes":"would take"} off at ${hm(f.ctot)}, ${was&&was.ctot!=null&&was.ctot!==f.ctot?shift(f.ctot-was.ctot):"as before"}; ${f.reg?`${f.delay?mins(f.delay)+" min of delay":"no delay"} by ${f.reg}`:f.exempt?"it is exempt":"nothing governs it"}${call}.`:n?`Done, as call ${n}.`:"It would be accepted."}
+const told=(msgs=[])=>[msgs.slice(0,12).map(m=>h("li",h("span."+m.kind,m.kind)," ",h("b",m.key),m.ctot==null?": no slot needed":": take-off "+hm(m.ctot))),msgs.length>12&&h("li",`and ${several(msgs.length-12,"more message")}`)];
+const post=(path,body)=>fetch(path,{method:"POST",body,signal:AbortSignal.timeout(20000)});
 async function send(){const f=form,was=S.flights[f.key],unknown="Whether the call stands is not known: look before you send it again.";let text="",words,t={};f.busy=true;check();
- try{const r=await fetch("/lines",{method:"POST",body:f.line+"\n",signal:AbortSignal.timeout(20000)});text=(await r.text()).trim();
-  if(r.ok){t=JSON.parse(text);words=inWords(t,was)}else words=r.status===503?"The server had no memory for the reply (503). "+unknown:`The server did not take the line (${r.status}): nothing was changed.`}
+ try{const r=await post("/lines",f.line+"\n");text=(await r.text()).trim();
+  if(r.ok){t=JSON.parse(text);words=inWords(t,was,t.n)}else words=r.status===503?"The server had no memory for the reply (503). "+unknown:`The server did not take the line (${r.status}): nothing was changed.`}
  catch(e){words="No reply came. "+unknown}
- const done=t.done||t.flight,msgs=t.msgs||[];f.busy=false;
+ const done=t.done||t.flight;f.busy=false;
  say(words);$("reply-words").textContent=words;$("reply-words").className=done?"yes":"no";$("reply-sent").textContent=f.line;$("reply-line").textContent=text||"–";
- fill("reply-msgs",msgs.slice(0,12).map(m=>h("li",h("span."+m.kind,m.kind)," ",h("b",m.key),m.ctot==null?": no slot needed":": take-off "+hm(m.ctot))),msgs.length>12&&h("li",`and ${msgs.length-12} more messages`));
+ fill("reply-msgs",told(t.msgs));
  $("desk").hidden=$("reply").hidden=false;
  if(form===f&&!done)check();else if(form===f||!form){$("form").hidden=true;form={from:f.from};show(null);$("reply").querySelector("button").focus()}
  try{await busy}catch(e){}
  look().catch(()=>{})}
+/* What would come of a form's line: it is tried, not sent; then again between the lists of regulations that would change, one try
+   after the other. */
+let turn=Promise.resolve();
+async function tryLines(lines){const r=await post("/try",lines.join("\n"));if(!r.ok)throw r.status;
+ const all=(await r.text()).trim().split("\n").map(t=>JSON.parse(t));return{...all.pop(),replies:all}}
+/* What differs, as [name, before, after, more delay]. */
+const none={reg:"",delay:0}, differ=(a,b)=>[...new Map([...a,...b]).keys()].map(k=>[k,a.get(k)||none,b.get(k)||none]).filter(([,x,y])=>JSON.stringify(x)!==JSON.stringify(y))
+ .map(([k,x,y])=>[k,x,y,y.delay-x.delay]).sort((p,q)=>Math.abs(q[3])-Math.abs(p[3]));
+const FIGS="delay governed issued over forced longest slots".split(" "), totals=s=>Object.fromEntries(FIGS.slice(0,4).map(k=>[k,s.regs.reduce((n,r)=>n+r[k],0)]));
+async function forecast(f,line){const gone=()=>form!==f||f.line!==line,c=JSON.parse(line),was=S.flights[f.key],own=c.reg||(c.other?f.reg:was?.reg);
+ let t={};if(gone())return;
+ f.tried=line;drawForecast(t,was,true);
+ try{for(let ids=[];;){const n=ids.length,lists=ids.map(reg=>JSON.stringify({cmd:"list",reg}));t=await tryLines([...lists,line,...lists]);if(gone())return;
+   const regs=s=>new Map(s.regs.map(r=>[r.reg,r])),rows=at=>new Map(ids.flatMap((reg,i)=>(t.replies[at+i].list?.rows||[]).filter(r=>r.kind!=="forced").map(r=>[r.key,{reg,delay:r.cto-r.eto}])));
+   t.reply=t.replies[n];t.regs=differ(regs(t.before),regs(t.after));t.flights=differ(rows(0),rows(n+1));
+   t.left=t.reply.msgs?[...new Set([own,...t.regs.map(m=>m[0])])].filter(id=>id&&!ids.includes(id)):[];if(!t.left.length||n>30)break;
+   ids=[...ids,...t.left].slice(0,31)}
+  if(c.cmd==="rates"&&t.reply.done){t.rates=[];
+   for(const d of[-4,-2,0,2,4,6]){const periods=c.periods.map(p=>({...p,rate:within(p.rate+d,601)})),s=d?await tryLines([JSON.stringify({...c,periods})]):t;if(gone())return;
+    t.rates.push([d,totals(s.after).delay]);drawForecast(t,was,true)}}}
+ catch(e){if(gone())return;t.wrong=e>0?({404:"This server can't try lines",413:"It is too much to be tried",503:"The server had no memory for it"}[e]||"The server did not try it")+` (${e}).`:"No answer came."}
+ say(drawForecast(t,was)+" Nothing was sent.")}
+function drawForecast({reply:r,regs,flights,rates,left,wrong,before,after},was,more){const words=wrong||(r?inWords(r,was):"…"),top=rates&&Math.max(60,...rates.map(p=>p[1])),signed=(d,t)=>(d<0?"−":d?"+":"")+t,
+  figures=(name,id,x,y)=>{const all=FIGS.map(k=>[k,x[k]||0,y[k]||0]).filter(([,a,b])=>a!==b).map(([k,a,b],i)=>{const[p,q]=[a,b].map(n=>big(/delay|longest/.test(k)?Math.round(n/6)/10:n));
+    return[i?", ":" ",h("span",{"data-reg":id,"data-fig":k,"data-before":a,"data-after":b},`${k==="over"?"without a slot":k} ${p} → ${q}`)]});return all.length>0&&h("li",h("b",name),all)},
+  stands=(q,of)=>q.reg?(q.reg===of?"":q.reg+" ")+mins(q.delay)+" min":"none";
+ $("forecast").hidden=false;$("forecast").setAttribute("aria-busy",!!more);
+ fill("forecast",h("div.head",h("h2","Forecast"),h("span.hint","nothing was sent")),h("p.words",{id:"forecast-words"},words),r&&[h("p.hint",{id:"forecast-at","data-n":before.n},`It holds behind call ${before.n}. Delay in minutes:`),
+  h("ul",{id:"forecast-figs"},figures("all","",totals(before),totals(after)),regs.map(([id,x,y])=>figures(id,id,x,y)),!regs.length&&h("li","no figure would change")),
+  rates&&[h("p.hint","Delay of all, with so many flights an hour more:"),v("svg",{id:"forecast-rates",viewBox:"0 0 300 92"},rates.map(([d,delay],i)=>{const y=70-54*delay/top,x=i*50+25,text=(y,t,cls)=>v("text"+cls,{x,y,"text-anchor":"middle"},t);
+   return v("g",{"data-shift":d,"data-delay":delay},v("rect.f-"+(d?"plan":"me"),{x:x-17,y,width:34,height:70-y}),text(y-4,big(Math.round(delay/60)),".v"),text(86,d?signed(d,Math.abs(d)):"these",d?"":".strong"))}))],
+  flights.length>0&&[h("p.hint",{id:"forecast-count","data-count":flights.length},several(flights.length,"flight")+" with another regulation or delay:"),
+   flights.slice(0,12).map(([k,x,y,d])=>h("button.offer",{type:"button","data-key":k,"data-reg-before":x.reg,"data-reg-after":y.reg,"data-delay-before":x.delay,"data-delay-after":y.delay},h("b",k),h("span",stands(x)+" → "+stands(y,x.reg)),h("span.num",signed(d,mins(Math.abs(d))+" min")))),
+   flights.length>12&&h("p.hint",`and ${flights.length-12} more`)],left.length>0&&h("p.hint",`The flights of ${several(left.length,"regulation")} more are not looked at.`),
+  h("p.hint",r.msgs?.length?"Messages that would go out:":"No message would go out."),h("ul",{id:"forecast-msgs"},told(r.msgs))]);
+ return words}
+on("try","click",()=>{const f=form,line=f.line;turn=turn.then(()=>forecast(f,line)).catch(()=>{})});
 /* What casa tells: the state, a list, a flight, and what came of calls. Each is taken as it is told. */
 let at=null;
 const takeState=t=>{S.n=t.n;S.clock=t.clock;S.regs=t.regs};

@@ -6,8 +6,8 @@ use Rattle.http_server.specs.declared.response.Response.{Response}
 use Rattle.http_server.specs.Response.{IsResponse}
 use Rattle.casa_http.specs.declared.hosts.Hosts.{Hosts}
 use Rattle.casa_http.specs.declared.route.Route.{Route}
-use Rattle.casa_http.specs.declared.route.Route.TheVariants.{Foreign, Unknown, OnlyGet, OnlyPost, Forbidden, Page, State, List as Listing, Flight, Since, Metrics, Lines}
-use Rattle.casa_http.specs.Question.{Question, whole_state, list_named, flight_named, calls_behind, server_metrics}
+use Rattle.casa_http.specs.declared.route.Route.TheVariants.{Foreign, Unknown, OnlyGet, OnlyPost, Forbidden, Page, State, List as Listing, Flight, Since, Metrics, Lines, Try}
+use Rattle.casa_http.specs.Question.{Question, whole_state, list_named, flight_named, calls_behind, server_metrics, lines_tried}
 use Rattle.casa_http.specs.Routes.{IsPosition, query_of, route_of}
 
 -- what a browser lets the page do: run and draw what is in it, and ask the server that it came from; and it stands in no frame
@@ -42,10 +42,10 @@ IsRefused status response = IsSent status [] [] response
 abbrev pub IsText : (kind text : List ℕ) → Response → Type 0
 IsText kind text response = IsSent 200 ((codes "content-type", kind) ∷ []) text response
 
--- a text of this kind where something was found, and else 404
-abbrev pub IsFound : (kind : List ℕ) → Option (List ℕ) → Response → Type 0
-IsFound kind None response = IsRefused 404 response
-IsFound kind (Some text) response = IsText kind text response
+-- a text of this kind where something was found, and else this status
+abbrev pub IsFound : (kind : List ℕ) → (else_status : ℕ) → Option (List ℕ) → Response → Type 0
+IsFound kind else_status None response = IsRefused else_status response
+IsFound kind else_status (Some text) response = IsText kind text response
 
 -- a text of this kind where there was memory for one
 abbrev pub IsMade : (kind : List ℕ) → Option (List ℕ) → Response → Type 0
@@ -59,14 +59,20 @@ IsOnlyFor method response = IsSent 405 ((codes "allow", method) ∷ []) [] respo
 -- in what kind of text it is shown
 abbrev pub kind_of : Question → List ℕ
 kind_of server_metrics = codes "text/plain; version=0.0.4; charset=utf-8"
+kind_of (lines_tried lines) = codes "application/x-ndjson"
 kind_of question = codes "application/json"
+
+-- with which status it is told that nothing is shown: there is no such thing, or there are too many lines
+abbrev pub status_without : Question → ℕ
+status_without (lines_tried lines) = 413
+status_without question = 404
 
 -- what stands behind the page shows what can be looked at; it was the old one and is the new one afterwards
 module _ {B : Type 0} (shows : B → Question → Option (List ℕ) → B → Type 0) where
   -- what a question names is shown where it is found; where there is no memory for it, nothing changes
   abbrev pub IsShown : Question → (old : B) → Response → (new : B) → Type 0
   IsShown question old response new =
-      ((found : Option (List ℕ)) × shows old question found new × IsFound (kind_of question) found response)
+      ((found : Option (List ℕ)) × shows old question found new × IsFound (kind_of question) (status_without question) found response)
       ⊎ (IsUnavailable response × (new ≡ old))
 
   -- what came of the calls behind a position, where there is one
@@ -93,6 +99,7 @@ module _ {B : Type 0} (shows : B → Question → Option (List ℕ) → B → Ty
   AnswersTo Metrics page old r response new = IsShown shows server_metrics old response new
   AnswersTo Lines page old r response new =
       (text : Option (List ℕ)) × answers old (body_of r) text new × IsMade (codes "application/x-ndjson") text response
+  AnswersTo Try page old r response new = IsShown shows (lines_tried (body_of r)) old response new
 
   abbrev pub IsAnswered : Hosts → (page : List ℕ) → (old : B) → Request (List ℕ) → Response → (new : B) → Type 0
   IsAnswered hosts page old r response new = AnswersTo (route_of hosts r) page old r response new

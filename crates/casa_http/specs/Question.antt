@@ -7,3 +7,5 @@ pub data Question : Type 0 where
   flight_named : (name : List ℕ) → Question
   calls_behind : (position : ℕ) → Question
   server_metrics : Question
+  -- what would come of lines, of which nothing stays
+  lines_tried : (lines : List ℕ) → Question

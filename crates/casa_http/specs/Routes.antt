@@ -9,7 +9,7 @@ use Rattle.http_header.specs.HeaderMap.{get}
 use Rattle.http_uri.specs.Uri.{uri_authority, uri_path, uri_query}
 use Rattle.casa_http.specs.declared.hosts.Hosts.{Hosts}
 use Rattle.casa_http.specs.declared.route.Route.{Route}
-use Rattle.casa_http.specs.declared.route.Route.TheVariants.{Foreign, Unknown, OnlyGet, OnlyPost, Forbidden, Page, State, List as Listing, Flight, Since, Metrics, Lines}
+use Rattle.casa_http.specs.declared.route.Route.TheVariants.{Foreign, Unknown, OnlyGet, OnlyPost, Forbidden, Page, State, List as Listing, Flight, Since, Metrics, Lines, Try}
 
 -- the first value of a field, empty where there is none
 abbrev pub field_of : Request (List ℕ) → (name : List ℕ) → List ℕ
@@ -50,26 +50,31 @@ abbrev pub read_by : (method : List ℕ) → Option Route → Route
 read_by method None = Unknown
 read_by method (Some route) = if bytes_eq method (codes "GET") then route else OnlyGet
 
--- lines are answered by POST alone, and only those that the page sends
-abbrev pub lines_route : Request (List ℕ) → Route
-lines_route r =
+-- what is done with lines that are sent to a path
+abbrev pub sent_to : (path : List ℕ) → Option Route
+sent_to path =
+    if bytes_eq path (codes "/lines") then Some Lines
+    else if bytes_eq path (codes "/try") then Some Try
+    else None
+
+-- it is done by POST alone, and only with those that the page sends
+abbrev pub sent_by : Request (List ℕ) → Route → Route
+sent_by r route =
     if not (bytes_eq (head_of r).method (codes "POST")) then OnlyPost
-    else if is_of_page r then Lines
+    else if is_of_page r then route
     else Forbidden
 
 abbrev pub own_route : Request (List ℕ) → Route
-own_route r =
-    if bytes_eq (path_of r) (codes "/lines") then lines_route r
-    else read_by (head_of r).method (read_at (path_of r))
+own_route r = option_map_or (sent_by r) (sent_to (path_of r)) (read_by (head_of r).method (read_at (path_of r)))
 
 abbrev pub route_of : Hosts → Request (List ℕ) → Route
 route_of hosts r = if is_foreign hosts r then Foreign else own_route r
 
--- the page sends lines: by POST to their path at one of the hosts, and it came from that host
-pub record SendsLines (hosts : Hosts) (r : Request (List ℕ)) : Type 0 where
+-- the page sends lines to a path: by POST, at one of the hosts, and it came from that host
+pub record SendsLines (hosts : Hosts) (path : List ℕ) (r : Request (List ℕ)) : Type 0 where
   pub target : uri_authority (head_of r).uri ≡ None
   pub host : IsTrue (is_known hosts (field_of r (codes "host")))
-  pub path : path_of r ≡ codes "/lines"
+  pub path_is : path_of r ≡ path
   pub method : (head_of r).method ≡ codes "POST"
   pub origin : field_of r (codes "origin") ≡ codes "http://" ++ field_of r (codes "host")
 

@@ -2,7 +2,7 @@
 
 ghost use Rattle.std.specs.Prelude.{◌≡◌, ℕ, List, Option, None, Some, IfOk, OnErr};
 ghost use Rattle.std.specs.Option.{option_map};
-ghost use Rattle.casa_http.specs.Question.{Question, whole_state, list_named, flight_named, calls_behind, server_metrics};
+ghost use Rattle.casa_http.specs.Question.{Question, whole_state, list_named, flight_named, calls_behind, server_metrics, lines_tried};
 
 use std::alloc::AllocError;
 
@@ -44,6 +44,13 @@ pub trait Backend {
     /// Metrics of the server. `AllocError` where there is no memory for them.
     fn metrics(&mut self) -> Result<Vec<u8>, AllocError>
         ensures ok { IfOk result (λ text. shows self.old server_metrics (Some text.items) self.new) }
+        ensures err { OnErr result (self.new ≡ self.old) };
+
+    /// What would come of these lines, of which nothing stays; `None` where they are too many to be tried at once.
+    /// `AllocError` where there is no memory for it.
+    fn would_answer(&mut self, lines: &[u8]) -> Result<Option<Vec<u8>>, AllocError>
+        ensures ok { IfOk result (λ shown. shows self.old (lines_tried lines.now)
+            (option_map (λ text. text.items) shown) self.new) }
         ensures err { OnErr result (self.new ≡ self.old) };
 
     /// The replies to these lines. `AllocError` where there is no memory for them.

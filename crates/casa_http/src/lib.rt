@@ -11,8 +11,9 @@
 //! | GET | `/since?N` | what came of the calls behind position N, or 404 |
 //! | GET | `/metrics` | metrics of the server |
 //! | POST | `/lines` | the replies to the lines of the body |
+//! | POST | `/try` | what would come of the lines of the body, of which nothing stays; or 413 where they are too many |
 //!
-//! The page, the state, the metrics and the lines have no query: what stands behind a `?` there is passed over. A name is
+//! The page, the state, the metrics and what is sent have no query: what stands behind a `?` there is passed over. A name is
 //! taken as it stands, with nothing decoded. What a request can't have is refused: 421 where it goes to another host, 404
 //! where nothing is there, 405 where it is there by another method, 403 where a page of another origin sends lines. What is
 //! too large, or no request, the connection refuses before it is looked at here: with 413, 414, 431 or 400.

@@ -1,7 +1,7 @@
 //! What a request asks for.
 
 ghost use Rattle.std.specs.Prelude.{◌≡◌};
-ghost use Rattle.casa_http.specs.Routes.{IsPosition, field_of, is_foreign, is_of_page, lines_route, own_route, query_of, read_at, read_by, route_of};
+ghost use Rattle.casa_http.specs.Routes.{IsPosition, field_of, is_foreign, is_of_page, own_route, query_of, read_at, read_by, route_of, sent_by, sent_to};
 
 use crate::hosts::Hosts;
 use bytes::Bytes;
@@ -16,9 +16,9 @@ pub enum Route {
     Unknown,
     /// What is read by GET alone, by another method.
     OnlyGet,
-    /// That lines are answered, which POST alone asks for, by another method.
+    /// What is done with lines that are sent, which POST alone asks for, by another method.
     OnlyPost,
-    /// That lines are answered, which the page did not send.
+    /// The same, which the page did not send.
     Forbidden,
     /// The page.
     Page,
@@ -34,6 +34,8 @@ pub enum Route {
     Metrics,
     /// That lines are answered, which the page sent.
     Lines,
+    /// What would come of lines, which the page sent.
+    Try,
 }
 
 /// What a request asks for, of a server with these hosts.
@@ -63,21 +65,33 @@ fn own_route(request: &Request<Bytes>) -> Route
     ensures { result ≡ own_route request.now }
 {
     let path = request.uri().path();
-    if path == "/lines" {
-        lines_route(request)
-    } else {
-        read_by(request.method().as_str(), read_at(path))
+    match sent_to(path) {
+        Some(route) => sent_by(request, route),
+        None => read_by(request.method().as_str(), read_at(path)),
     }
 }
 
-/// What a request to the path of lines asks for.
-fn lines_route(request: &Request<Bytes>) -> Route
-    ensures { result ≡ lines_route request.now }
+/// What is done with lines that are sent to a path; `None` where none are taken.
+fn sent_to(path: &str) -> Option<Route>
+    ensures { result ≡ sent_to path.now }
+{
+    if path == "/lines" {
+        Some(Route::Lines)
+    } else if path == "/try" {
+        Some(Route::Try)
+    } else {
+        None
+    }
+}
+
+/// What a request gets of what is done with lines.
+fn sent_by(request: &Request<Bytes>, route: Route) -> Route
+    ensures { result ≡ sent_by request.now route }
 {
     if !(request.method().as_str() == "POST") {
         Route::OnlyPost
     } else if is_of_page(request) {
-        Route::Lines
+        route
     } else {
         Route::Forbidden
     }

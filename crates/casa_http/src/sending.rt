@@ -54,15 +54,21 @@ pub(crate) fn send_text(response: &mut Response, kind: &'static str, text: &[u8]
     }
 }
 
-/// Answers by a text of this kind, or by 404 where there is none. Where there is no memory for it, it is 503.
-pub(crate) fn send_found(response: &mut Response, kind: &'static str, found: &Option<Vec<u8>>)
+/// Answers by a text of this kind, or by this status where there is none. Where there is no memory for it, it is 503.
+pub(crate) fn send_found(
+    response: &mut Response,
+    kind: &'static str,
+    else_status: StatusCode,
+    found: &Option<Vec<u8>>,
+)
     requires blank { IsBlank response.old }
     requires visible { IsTrue (is_visible_text kind.now) }
-    ensures { IsFound kind.now (option_map (λ text. text.items) found.now) response.new }
+    ensures { IsFound kind.now else_status (option_map (λ text. text.items) found.now)
+        response.new }
 {
     match found {
         Some(text) => send_text(response, kind, text.as_slice()),
-        None => refuse(response, StatusCode::NOT_FOUND),
+        None => refuse(response, else_status),
     }
 }
 

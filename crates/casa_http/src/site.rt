@@ -3,7 +3,7 @@
 ghost use Rattle.std.specs.Prelude.{◌≡◌, ℕ, List, Option, IsOk, OnErr, OnOk, codes};
 ghost use Rattle.http_server.specs.Response.{IsBlank};
 ghost use Rattle.casa_http.specs.Answered.{IsMade, IsShown, IsShownBehind};
-ghost use Rattle.casa_http.specs.Question.{whole_state, list_named, flight_named, server_metrics};
+ghost use Rattle.casa_http.specs.Question.{whole_state, list_named, flight_named, server_metrics, lines_tried};
 
 use crate::backend::Backend;
 use crate::hosts::Hosts;
@@ -64,6 +64,7 @@ impl<'a, B: Backend> Service for Site<'a, B> {
             Route::Since => show_since(backend, position(query(request)), response),
             Route::Metrics => show_metrics(backend, response),
             Route::Lines => answer(backend, request.body().as_slice(), response),
+            Route::Try => show_try(backend, request.body().as_slice(), response),
         }
         Ok(())
     }
@@ -86,7 +87,7 @@ fn show_list<B: Backend>(backend: &mut B, name: &[u8], response: &mut Response)
     ensures { IsShown B.shows (list_named name.now) backend.old response.new backend.new }
 {
     match backend.list(name) {
-        Ok(found) => send_found(response, JSON, &found),
+        Ok(found) => send_found(response, JSON, StatusCode::NOT_FOUND, &found),
         Err(_) => give_up(response),
     }
 }
@@ -97,7 +98,7 @@ fn show_flight<B: Backend>(backend: &mut B, name: &[u8], response: &mut Response
     ensures { IsShown B.shows (flight_named name.now) backend.old response.new backend.new }
 {
     match backend.flight(name) {
-        Ok(found) => send_found(response, JSON, &found),
+        Ok(found) => send_found(response, JSON, StatusCode::NOT_FOUND, &found),
         Err(_) => give_up(response),
     }
 }
@@ -112,7 +113,7 @@ fn show_since<B: Backend>(backend: &mut B, position: Option<usize>, response: &m
         return;
     };
     match backend.since(position) {
-        Ok(found) => send_found(response, JSON, &found),
+        Ok(found) => send_found(response, JSON, StatusCode::NOT_FOUND, &found),
         Err(_) => give_up(response),
     }
 }
@@ -124,6 +125,17 @@ fn show_metrics<B: Backend>(backend: &mut B, response: &mut Response)
 {
     match backend.metrics() {
         Ok(text) => send_text(response, METRICS, text.as_slice()),
+        Err(_) => give_up(response),
+    }
+}
+
+/// Shows what would come of these lines, where they are not too many.
+fn show_try<B: Backend>(backend: &mut B, lines: &[u8], response: &mut Response)
+    requires { IsBlank response.old }
+    ensures { IsShown B.shows (lines_tried lines.now) backend.old response.new backend.new }
+{
+    match backend.would_answer(lines) {
+        Ok(found) => send_found(response, JSON_LINES, StatusCode::PAYLOAD_TOO_LARGE, &found),
         Err(_) => give_up(response),
     }
 }

@@ -45,6 +45,14 @@ impl Backend for Small {
         Vec::from_slice(self.alloc, b"metrics")
     }
 
+    fn would_answer(&mut self, lines: &[u8]) -> Result<Option<Vec<u8>>, AllocError> {
+        if lines.len() <= 6 {
+            Ok(Some(Vec::from_slice(self.alloc, b"tried")?))
+        } else {
+            Ok(None)
+        }
+    }
+
     fn answer(&mut self, lines: &[u8]) -> Result<Vec<u8>, AllocError> {
         self.answered = self.answered.saturating_add(1);
         Vec::from_slice(self.alloc, lines)

@@ -73,8 +73,25 @@ fn lines_of_the_page_are_answered(rt: HostRuntime) {
     assert!(&rt; output.as_slice().ends_with(b"\r\n\r\nlines\n"));
 }
 
+#[test]
+fn lines_of_the_page_are_tried(rt: HostRuntime) {
+    let keys = RandomState::new(&rt).expect(&rt, "keys");
+    let (output, answered) = written(
+        &rt,
+        rt.alloc(),
+        keys,
+        concat!(
+            "POST /try HTTP/1.1\r\nHost: localhost:4751\r\nOrigin: http://localhost:4751\r\n",
+            "Content-Length: 6\r\n\r\nlines\n"
+        ),
+    );
+    assert!(&rt; answered == 0);
+    assert!(&rt; output.as_slice().starts_with(b"HTTP/1.1 200 OK\r\n"));
+    assert!(&rt; output.as_slice().ends_with(b"\r\n\r\ntried"));
+}
+
 /// Requests, and how their answers begin.
-const REFUSED: [(&str, &str); 20] = [
+const REFUSED: [(&str, &str); 23] = [
     (
         "GET /state HTTP/1.1\r\nHost: other.example:4751\r\n\r\n",
         "HTTP/1.1 421 ",
@@ -139,6 +156,21 @@ const REFUSED: [(&str, &str); 20] = [
     (
         "POST /lines HTTP/1.1\r\nHost: localhost:4751\r\nOrigin: http://localhost:4750\r\nContent-Length: 1\r\n\r\nx",
         "HTTP/1.1 403 ",
+    ),
+    (
+        "GET /try HTTP/1.1\r\nHost: localhost:4751\r\n\r\n",
+        "HTTP/1.1 405 ",
+    ),
+    (
+        "POST /try HTTP/1.1\r\nHost: localhost:4751\r\nOrigin: http://localhost\r\nContent-Length: 1\r\n\r\nx",
+        "HTTP/1.1 403 ",
+    ),
+    (
+        concat!(
+            "POST /try HTTP/1.1\r\nHost: localhost:4751\r\nOrigin: http://localhost:4751\r\n",
+            "Content-Length: 8\r\n\r\nl\ni\nn\ne\n"
+        ),
+        "HTTP/1.1 413 ",
     ),
     (
         "POST /lines HTTP/1.1\r\nHost: localhost:4751\r\nContent-Length: 1048577\r\n\r\n",

@@ -1,5 +1,6 @@
 -- to believe: what a browser is shown of a history
-use Rattle.std.specs.Prelude.{◌≡◌, ℕ, List, length, take, drop, nat_lt, Option, None, Some, if◌then◌else◌}
+use Rattle.std.specs.Prelude.{◌≡◌, ℕ, List, ◌++◌, length, take, drop, nat_lt, Bool, Option, None, Some, if◌then◌else◌}
+use Rattle.std.specs.List.{count_by}
 use Rattle.std.specs.Option.{option_map}
 use mathlib.Core.List.{IsPrefix}
 use Rattle.casa_filing.specs.declared.regulation.Measure.{Measure}
@@ -15,13 +16,18 @@ use Rattle.casa_flight.specs.Replies.{list_reply}
 use Rattle.casa_flight.specs.State.{measure_of, row_of}
 use Rattle.casa_footprint.specs.Stamps.{state_after}
 use Rattle.casa_history.specs.declared.entry.Entry.{Entry}
-use Rattle.casa_http.specs.Question.{Question, whole_state, list_named, flight_named, calls_behind, server_metrics}
+use Rattle.casa_http.specs.Question.{Question, whole_state, list_named, flight_named, calls_behind, server_metrics, lines_tried}
 use Rattle.casa_inquiry.specs.Why.{why}
 use Rattle.casa_look.specs.FlightText.{flight_text}
 use Rattle.casa_look.specs.ListText.{list_text}
 use Rattle.casa_look.specs.SinceText.{since_text}
 use Rattle.casa_look.specs.StateText.{open_regulations, state_text}
+use Rattle.casa_look.specs.TriedText.{states_line}
 use Rattle.casa_plan.specs.Rooms.{IsSequential}
+use Rattle.casa_session.specs.Alone.{transcript_after}
+use Rattle.casa_session.specs.Lines.{is_lf, lines_of}
+use Rattle.casa_session.specs.Played.{calls_in, state_after_calls}
+use Rattle.casa_session.specs.Transcript.{calls}
 use Rattle.casa_live.specs.declared.gauges.Reading.{Reading}
 use Rattle.casa_live.specs.Metrics.{metrics_text}
 
@@ -50,6 +56,25 @@ abbrev pub news_shown : List (Entry Call Reply) → ℕ → Option Text
 news_shown history position =
     if nat_lt (length history) position then None else Some (since_text position (take most_entries (drop position history)))
 
+-- the most line feeds of lines that are tried at once (profile)
+abbrev pub most_tried : ℕ
+most_tried = 64
+
+abbrev pub are_too_many : (lines : List ℕ) → Bool
+are_too_many lines = nat_lt most_tried (count_by is_lf lines)
+
+-- what comes of lines after some calls: the replies that a desk gets for them that is alone after these calls, and a line with
+-- the states before and after
+abbrev pub tried_text : (before : List Call) → (lines : List ℕ) → Text
+tried_text before lines =
+    let after = before ++ calls (lines_of lines) in
+    transcript_after before (lines_of lines)
+    ++ states_line (length before) (state_after_calls before) (length after) (state_after_calls after)
+
+-- what would come of lines after the calls of a history, where they are not too many
+abbrev pub tried_shown : List (Entry Call Reply) → (lines : List ℕ) → Option Text
+tried_shown history lines = if are_too_many lines then None else Some (tried_text (calls_in history) lines)
+
 -- what is found of a history where this is asked
 abbrev pub Shows : List (Entry Call Reply) → Question → Option Text → Type 0
 Shows history whole_state found =
@@ -57,6 +82,7 @@ Shows history whole_state found =
 Shows history (list_named name) found = found ≡ list_shown (length history) (state_after history) name
 Shows history (flight_named name) found = found ≡ flight_shown (length history) (state_after history) name
 Shows history (calls_behind position) found = found ≡ news_shown history position
+Shows history (lines_tried lines) found = found ≡ tried_shown history lines
 Shows history server_metrics found = (reading : Reading) × (found ≡ Some (metrics_text history reading))
 
 -- who had seen one history has now seen another, which is of one thread and begins with it, and this is found of it

@@ -7,6 +7,7 @@ use crate::counting::count_all;
 use crate::gauges::Gauges;
 use crate::metrics::metrics_text;
 use crate::seen::Seen;
+use crate::trying::Turn;
 use casa_commit::Gate;
 use casa_engine::{DeskPass, Engine, EngineName};
 use casa_front::Named;
@@ -17,12 +18,14 @@ use std::sync::Wait;
 
 /// What stands behind the page for a browser, or for several, one after the other: an engine, and what was seen of its
 /// history. E is the engine, P is the pass of its desks, L names it, R waits for its lock, and Q tells how busy the server is.
+/// Whose turn it is to try lines all browsers of an engine are to have in common.
 #[derive(Drop)]
 pub struct Browser<'e, E, P, L: Named, R, Q> {
     pub(crate) engine: &'e E,
     pub(crate) rt: &'e R,
     pub(crate) alloc: Global,
     gauges: &'e Q,
+    pub(crate) turn: &'e Turn,
     seen: Seen<P, L>,
 }
 
@@ -43,6 +46,7 @@ where
         rt: &'e R,
         alloc: Global,
         gauges: &'e Q,
+        turn: &'e Turn,
     ) -> EngineBrowser<'e, K, L, G, R, Q>
         ensures { result.seen.desk ≡ None }
     {
@@ -52,6 +56,7 @@ where
             rt,
             alloc,
             gauges,
+            turn,
             seen,
         }
     }
@@ -115,6 +120,13 @@ where
         let text = metrics_text(self.alloc, &tally, look.clock, self.gauges.read())?;
         self.seen.see_counted(front, tally);
         Ok(text)
+    }
+
+    fn would_answer(&mut self, lines: &[u8]) -> Result<Option<Vec<u8>>, AllocError> {
+        let mut front = self.seen.front();
+        let found = self.tried_text(&mut front, lines)?;
+        self.seen.see(front);
+        Ok(found)
     }
 
     fn answer(&mut self, lines: &[u8]) -> Result<Vec<u8>, AllocError> {

@@ -13,6 +13,8 @@ mod looking;
 mod metrics;
 mod seen;
 mod tally;
+mod trying;
 
 pub use browser::{Browser, EngineBrowser};
 pub use gauges::{Gauges, Reading};
+pub use trying::Turn;

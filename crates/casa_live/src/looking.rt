@@ -15,6 +15,8 @@ ghost use Rattle.casa_http.specs.Question.{whole_state, list_named, flight_named
 ghost use Rattle.casa_inquiry.specs.Shown.{AreShownOf};
 ghost use Rattle.casa_plan.specs.Rooms.{IsSequential};
 ghost use Rattle.casa_live.specs.Shown.{IsShownBehind, flight_in};
+ghost use Rattle.casa_session.specs.Played.{state_after_calls};
+ghost use Rattle.casa_trial.specs.Tried.{IsLookAfter};
 
 use crate::browser::EngineBrowser;
 use crate::gauges::Gauges;
@@ -139,9 +141,11 @@ fn flight_found(
 }
 
 /// What a look has, as it is asked for.
-fn shown_lists(look: &Look) -> ShownLists<'_>
-    ensures { (history : List (Entry Call Reply)) → IsLookBehind history look.now →
+pub(crate) fn shown_lists(look: &Look) -> ShownLists<'_>
+    ensures behind { (history : List (Entry Call Reply)) → IsLookBehind history look.now →
         AreShownOf (state_after history) result }
+    ensures after { (calls : List Call) → IsLookAfter calls look.now →
+        AreShownOf (state_after_calls calls) result }
 {
     ShownLists {
         clock: look.clock,

@@ -1,7 +1,7 @@
 -- parts of a text, one behind the other
-use Rattle.std.proofs.Common.{◌≡◌, ℕ, ◌+◌, List, [], length, ◌++◌, append_assoc, append-nil, refl}
+use Rattle.std.proofs.Common.{◌≡◌, ℕ, ◌+◌, List, [], ◌∷◌, length, ◌++◌, append_assoc, append-nil, refl}
 use Rattle.std.specs.Prelude.{codes}
-use Rattle.serde_json.specs.Data.{string}
+use Rattle.serde_json.specs.Data.{Data, string}
 use Rattle.serde_json.specs.Written.{compact_text}
 use Rattle.serde_json.proofs.OnLiterals.{serde_json_on_literals}
 use Rattle.jiff.specs.Words.{date_text}
@@ -12,7 +12,7 @@ use Rattle.casa_flight.specs.declared.reply.Reply.{Reply}
 use Rattle.casa_history.specs.declared.entry.Entry.{Entry}
 use Rattle.casa_inquiry.specs.declared.why.Holding.{Holding}
 use Rattle.casa_inquiry.specs.declared.why.Reasons.{Reasons}
-use Rattle.casa_wire.specs.LineTexts.{count, flight_data, list_data, list_of, messages_data, or_null}
+use Rattle.casa_wire.specs.LineTexts.{count, flight_data, line_of, list_data, list_of, messages_data, object_of, or_null}
 use Rattle.casa_look.specs.declared.day.DayRecord.{DayRecord}
 use Rattle.casa_look.specs.declared.day.PlannedFlight.{PlannedFlight}
 use Rattle.casa_look.specs.declared.since.News.{News}
@@ -93,3 +93,9 @@ pub whole_day_text : (kept : DayRecord)
     ++ (state_text kept.calls kept.clock kept.regulations ++ codes "}"))))))) ≡ day_text kept
 unfolding serde_json_on_literals
 whole_day_text kept = simp append_assoc refl
+
+pub two_states_text : (before after : Data)
+    → codes "{\"after\":" ++ (compact_text after ++ (codes ",\"before\":" ++ (compact_text before ++ codes "}\n")))
+    ≡ line_of (object_of ((codes "after", after) ∷ (codes "before", before) ∷ []))
+unfolding serde_json_on_literals
+two_states_text before after = simp append_assoc refl

@@ -1,4 +1,5 @@
 pub mod StateText
+pub mod TriedText
 pub mod ListText
 pub mod FlightText
 pub mod SinceText

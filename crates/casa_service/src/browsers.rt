@@ -125,11 +125,11 @@ fn answer_browsers<K: Store, L: EngineName, R: Wait + Clock + Eprint + RandomSou
     door: PageDoor<R, P>,
 ) {
     let PageDoor { entrance, hosts } = door;
-    let traffic = &entrance.standing.traffic;
+    let (traffic, turn) = (&entrance.standing.traffic, &entrance.standing.turn);
     let mut site = Site {
         hosts,
         page: live_page().as_bytes(),
-        backend: Browser::new(engine, rt, alloc, traffic),
+        backend: Browser::new(engine, rt, alloc, traffic, turn),
     };
     for _ in 0..u64::MAX {
         let Ok((mut reader, mut writer)) = entrance.wait(alloc) else {

@@ -2,7 +2,7 @@
 
 use crate::log::Log;
 use casa_keeper::{Held, Keeper};
-use casa_live::{Gauges, Reading};
+use casa_live::{Gauges, Reading, Turn};
 use casa_server::{Connections, Guarded, SeatFault, ServeFault, TimerFault, Watcher};
 use casa_session::SessionFault;
 use casa_sockets::{Counted, LineEnd, Listener, Patience, ReplyEnd, ends_of};
@@ -25,6 +25,8 @@ pub(crate) struct Standing {
     pub(crate) is_ending: AtomicBool,
     /// Who is there.
     pub(crate) traffic: Traffic,
+    /// Which browser tries lines.
+    pub(crate) turn: Turn,
 }
 
 impl Standing {
@@ -37,6 +39,7 @@ impl Standing {
                 desks: AtomicU64::new(0),
                 connections: AtomicU64::new(0),
             },
+            turn: Turn::new(),
         }
     }
 
