@@ -1,14 +1,19 @@
-//! Casa allocates departure slots: `casa run` answers command lines; `casa report` prints a regulation's list after them,
-//! `casa load` its demand and capacity, `casa summary` what all regulations cost, `casa why` why a flight waits, and
-//! `casa page` makes a page of the day; and `casa serve` answers the desks that connect. With a journal `casa run` and
-//! `casa serve` go on where they ended, and `casa journal check` says what one has.
+//! Casa allocates departure slots: `casa run` answers command lines; `casa report` prints the lists of regulations after
+//! them, `casa load` demand and capacity, `casa summary` what all regulations cost, `casa why` why a flight waits,
+//! `casa messages` the slot messages, and `casa page` makes a page of the day. `casa compare` prints what differs between
+//! two days, and `casa import` makes command lines of files of traffic. `casa serve` answers the desks that connect. With a
+//! journal `casa run` and `casa serve` go on where they ended, and `casa journal check` says what one has.
 #![tactic(auto)]
 
-use casa_app::{Input, ProgramFault, load, outcome, page, report, summary, why};
-use casa_cli::{Task, TaskFault, task};
+use casa_app::{
+    CompareOf, Input, PrintFault, ReportOf, compare, load, messages, page, report, summary, why,
+};
+use casa_cli::{Import, Order, Task, TaskFault, task};
+use casa_outcome::{ProgramFault, outcome};
 use casa_service::{ServiceFault, Timing, check_journal, run_journaled, serve_desks, stay_desks};
 use casa_session::Lone;
 use casa_sockets::stand_in;
+use casa_traffic::{Asked, Names, Order as RowOrder, ReadFault, TrafficFault, import_files};
 use clap::Command;
 use clap::error::ErrorKind;
 use jiff::civil::Date;
@@ -21,7 +26,10 @@ use std::random::RandomSource;
 use std::sync::Wait;
 use std::thread::Threads;
 use std::time::Clock;
-use std::{env, io};
+use std::{env, io, mem};
+
+/// The longest taxi time of a plan, in seconds.
+const LONGEST_TAXI: u64 = 3_600;
 
 fn main(rt: HostRuntime) -> ExitCode {
     let done = match words(&rt) {
@@ -68,10 +76,8 @@ fn answer<
     errors: &mut E,
 ) -> Result<(), ProgramFault> {
     let words: Vec<&str> = words.iter().map(String::as_str).collect(alloc)?;
-    match task(alloc, &words) {
-        Ok(task) => carry_out(rt, alloc, &task, input, writer, errors),
-        Err(fault) => Err(ProgramFault::Task(fault)),
-    }
+    let task = task(alloc, &words)?;
+    carry_out(rt, alloc, &task, input, writer, errors)
 }
 
 /// Does a task, by this input and writer where these are needed.
@@ -106,8 +112,9 @@ fn carry_out<
         Task::Report { .. }
         | Task::Load { .. }
         | Task::Summary { .. }
-        | Task::Page { .. }
-        | Task::Why { .. } => tell(alloc, task, input, writer, errors),
+        | Task::Why { .. }
+        | Task::Messages { .. }
+        | Task::Page { .. } => Ok(tell(alloc, task, input, writer, errors)?),
         Task::Serve {
             port,
             connections,
@@ -125,6 +132,8 @@ fn carry_out<
             Ok(stay_desks(rt, alloc, service)?)
         }
         Task::CheckJournal { path } => Ok(check_journal(rt, alloc, path, writer)?),
+        Task::Compare { .. } => tell_difference(rt, alloc, task, writer, errors),
+        Task::Import(import) => Ok(make_lines(rt, alloc, import, writer, errors)?),
     }
 }
 
@@ -135,14 +144,25 @@ fn tell<R: Read + Drop, W: Write, E: Write>(
     input: &mut Input<R>,
     writer: &mut W,
     errors: &mut E,
-) -> Result<(), ProgramFault> {
+) -> Result<(), PrintFault> {
     match task {
         Task::Report {
             reg,
             day,
+            sort,
+            top,
             format,
             strict,
-        } => report(alloc, reg, *day, *format, *strict, input, writer, errors),
+        } => {
+            let asked = ReportOf {
+                reg: *reg,
+                day: *day,
+                sort: *sort,
+                top: *top,
+                format: *format,
+            };
+            report(alloc, &asked, *strict, input, writer, errors)
+        }
         Task::Load {
             reg,
             day,
@@ -157,6 +177,11 @@ fn tell<R: Read + Drop, W: Write, E: Write>(
             format,
             strict,
         } => summary(alloc, *day, *format, *strict, input, writer, errors),
+        Task::Messages {
+            day,
+            format,
+            strict,
+        } => messages(alloc, *day, *format, *strict, input, writer, errors),
         Task::Page { day, strict } => page(alloc, *day, *strict, input, writer, errors),
         Task::Why {
             key,
@@ -165,6 +190,95 @@ fn tell<R: Read + Drop, W: Write, E: Write>(
             strict,
         } => why(alloc, key, *day, *format, *strict, input, writer, errors),
         _ => Ok(()),
+    }
+}
+
+/// Writes what differs between the days of two files, where a task asks for that.
+fn tell_difference<N: Files<File = File>, W: Write, E: Write>(
+    rt: &N,
+    alloc: Global,
+    task: &Task,
+    writer: &mut W,
+    errors: &mut E,
+) -> Result<(), ProgramFault> {
+    let Task::Compare {
+        base,
+        variant,
+        day,
+        format,
+        strict,
+    } = task
+    else {
+        return Ok(());
+    };
+    let (base, variant) = (read(rt, alloc, base)?, read(rt, alloc, variant)?);
+    let asked = CompareOf {
+        day: *day,
+        format: *format,
+    };
+    let mut base = Input::new(base.as_slice());
+    let mut variant = Input::new(variant.as_slice());
+    compare(
+        alloc,
+        asked,
+        *strict,
+        &mut base,
+        &mut variant,
+        writer,
+        errors,
+    )?;
+    Ok(())
+}
+
+/// Writes the command lines of files of traffic, and says at `errors` what comes of their rows.
+fn make_lines<N: Files<File = File>, W: Write, E: Write>(
+    rt: &N,
+    alloc: Global,
+    import: &Import,
+    writer: &mut W,
+    errors: &mut E,
+) -> Result<(), TrafficFault> {
+    let names = Names {
+        regs: import.regs,
+        crossings: import.crossings,
+        flights: import.flights,
+    };
+    let asked = Asked {
+        day: import.day,
+        taxi: import.taxi.min(LONGEST_TAXI) as u32,
+        locations: import.locations.as_slice(),
+        order: match import.order {
+            Order::File => RowOrder::File,
+            Order::Eobt => RowOrder::Eobt,
+        },
+    };
+    import_files(rt, alloc, &names, &asked, import.strict, writer, errors)
+}
+
+/// All bytes of a file of command lines.
+fn read<N: Files<File = File>>(rt: &N, alloc: Global, name: &str) -> Result<Vec<u8>, ProgramFault> {
+    match read_whole(rt, alloc, name) {
+        Ok(bytes) => Ok(bytes),
+        Err(error) => Err(unread(alloc, name, error)),
+    }
+}
+
+/// The same, with the system's fault.
+fn read_whole<N: Files<File = File>>(rt: &N, alloc: Global, name: &str) -> io::Result<Vec<u8>> {
+    let mut file = File::open(rt, name)?;
+    let mut bytes = Vec::new(alloc);
+    file.read_to_end(&mut bytes)?;
+    Ok(bytes)
+}
+
+/// Why this file could not be read.
+fn unread(alloc: Global, name: &str, error: io::Error) -> ProgramFault {
+    if error.kind() == io::ErrorKind::OutOfMemory {
+        return ProgramFault::NoMemory;
+    }
+    match format!(in alloc; "{name}") {
+        Ok(file) => ProgramFault::ReadFailed(ReadFault { file, error }),
+        Err(_) => ProgramFault::NoMemory,
     }
 }
 
@@ -187,14 +301,17 @@ fn unreadable(alloc: Global) -> TaskFault {
     }
 }
 
-/// Answers the command lines of the reader, by a desk that is alone on a board.
+/// Answers the command lines of the reader, by a desk that is alone on a board. The board is not taken apart behind the
+/// last line: the program ends then, and its memory with it.
 fn answer_lines<R: Read, W: Write>(
     alloc: Global,
     reader: &mut R,
     writer: &mut W,
 ) -> Result<(), ProgramFault> {
     let mut lone = Lone::new(alloc)?;
-    lone.run(alloc, reader, writer)?;
+    let ended = lone.run(alloc, reader, writer);
+    mem::forget(lone);
+    ended?;
     Ok(())
 }
 
@@ -219,6 +336,11 @@ fn ended_by(rt: &HostRuntime, fault: &ProgramFault) -> ExitCode {
         ProgramFault::Service(ServiceFault::Journal(fault)) => {
             eprintln!(rt; "casa: {name}\n{fault}")
         }
+        ProgramFault::ReadFailed(fault) => eprintln!(rt; "casa: {name}\n{fault}"),
+        ProgramFault::Traffic(TrafficFault::ReadFailed(fault)) => {
+            eprintln!(rt; "casa: {name}\n{fault}")
+        }
+        ProgramFault::Traffic(TrafficFault::Column(fault)) => eprintln!(rt; "casa: {fault}"),
         _ => eprintln!(rt; "casa: {name}"),
     };
     match said {

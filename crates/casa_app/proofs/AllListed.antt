@@ -20,8 +20,8 @@ use Rattle.casa_filing.specs.Text.{Text, at_name}
 use Rattle.casa_filing.proofs.Entries.{each_found}
 use Rattle.casa_inquiry.specs.Summary.{lists_told}
 use Rattle.casa_session.specs.Played.{state_after_calls}
-use Rattle.casa_app.specs.declared.fault.ProgramFault.{ProgramFault}
-use Rattle.casa_app.specs.declared.fault.ProgramFault.TheVariants.{NoMemory, NoRegulation}
+use Rattle.casa_app.specs.declared.fault.PrintFault.{PrintFault}
+use Rattle.casa_app.specs.declared.fault.PrintFault.TheVariants.{NoMemory, NoRegulation}
 use Rattle.casa_app.specs.Listed.{list_as, list_in}
 use Rattle.casa_app.specs.Reports.{list_after}
 use Rattle.casa_app.proofs.LastReply.{good_after}
@@ -53,7 +53,7 @@ pub nth_told : (m : State) → IsGood m → (i : ℕ) (r : Regulation) → slice
 nth_told m good i r found = nth_in m m.regs i r (each_found m.regs good.regs_in_order) found
 
 -- where a regulation is open, its list is refused for want of memory alone
-pub only_no_memory : {X : Type 0} {Untold : Type 0} (result : Result X ProgramFault) (fault : ProgramFault) → IsErrAnd result (λ f. f ≡ fault)
+pub only_no_memory : {X : Type 0} {Untold : Type 0} (result : Result X PrintFault) (fault : PrintFault) → IsErrAnd result (λ f. f ≡ fault)
     → (fault ≡ NoMemory) ⊎ ((fault ≡ NoRegulation) × Untold) → (Untold → ⊥) → IfErr result (λ f. f ≡ NoMemory)
 only_no_memory (Ok x) fault e why open_now = absurd e
 only_no_memory (Err f) fault e (inl p) open_now = e ∙ p

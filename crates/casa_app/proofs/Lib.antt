@@ -5,8 +5,8 @@ pub mod Marked
 pub mod Words
 pub mod Told
 pub mod Remarked
-pub mod ListTimes
 pub mod LastReply
 pub mod Printed
 pub mod AllListed
 pub mod Paged
+pub mod Compared

@@ -8,7 +8,7 @@ use Rattle.casa_session.specs.Lines.{lines_of}
 use Rattle.casa_session.specs.Sending.{IsCutOff}
 use Rattle.casa_session.specs.Transcript.{Ends, calls}
 use Rattle.casa_session.proofs.PlayedCalls.{lone-answered}
-use Rattle.casa_app.specs.declared.fault.ProgramFault.{ProgramFault}
+use Rattle.casa_app.specs.declared.fault.PrintFault.{PrintFault}
 use Rattle.casa_app.specs.Printed.{IsWhole}
 use Rattle.casa_app.specs.Remarked.{IsSaid, Says, SaysAll, SaysSome, replies_to}
 use Rattle.casa_app.specs.Remarks.{remarks, said}
@@ -35,7 +35,7 @@ some_said marked (Some xs) s v w before answered n first replies none empty ends
     (subst (λ (t : List ℕ). IsSaid v w (said marked t)) same says, λ clean. some (ap remarks same ∙ clean))
 
 -- what is said at a fault is said where it is passed on
-pub says_at : {X : Type 0} (strict marked : Bool) (result : Result X ProgramFault) (fault : ProgramFault) (r s v w : Option (List ℕ)) → IsErrAnd result (λ f. f ≡ fault)
+pub says_at : {X : Type 0} (strict marked : Bool) (result : Result X PrintFault) (fault : PrintFault) (r s v w : Option (List ℕ)) → IsErrAnd result (λ f. f ≡ fault)
     → Says {X = X} strict marked (Err fault) r s v w → Says strict marked result r s v w
 says_at strict marked (Ok x) fault r s v w e h = absurd e
 says_at {X} strict marked (Err f) fault r s v w e h = subst (λ q. Says {X = X} strict marked (Err q) r s v w) (sym e) h

@@ -1,4 +1,4 @@
-pub mod Outcomes
+pub mod Faults
 pub mod Remarks
 pub mod Notes
 pub mod Told
@@ -8,6 +8,8 @@ pub mod Printed
 pub mod Listed
 pub mod Reports
 pub mod Summaries
+pub mod Messages
 pub mod Whys
 pub mod Pages
 pub mod Loads
+pub mod Compared

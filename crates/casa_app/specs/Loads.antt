@@ -16,8 +16,8 @@ use Rattle.casa_report.specs.Json.{load_json}
 use Rattle.casa_report.specs.LoadCsv.{load_csv}
 use Rattle.casa_report.specs.LoadTable.{load_text}
 use Rattle.casa_session.specs.Played.{state_after_calls}
-use Rattle.casa_app.specs.declared.fault.ProgramFault.{ProgramFault}
-use Rattle.casa_app.specs.declared.fault.ProgramFault.TheVariants.{NoRegulation}
+use Rattle.casa_app.specs.declared.fault.PrintFault.{PrintFault}
+use Rattle.casa_app.specs.declared.fault.PrintFault.TheVariants.{NoRegulation}
 use Rattle.casa_app.specs.Reports.{list_after}
 
 -- the periods of a regulation after these calls; none where it is not open
@@ -37,6 +37,6 @@ load_of format reg day minutes periods list =
     load_as format reg day (steps periods list.rows minutes) (length list.rows) (length (slots periods))
 
 -- the same for the regulation as it is after these calls
-abbrev pub load_after : Text → Date → ℕ → Format → List Call → Result Text ProgramFault
+abbrev pub load_after : Text → Date → ℕ → Format → List Call → Result Text PrintFault
 load_after reg day minutes format answered =
     ok_or (option_and_then (λ periods. option_map (load_of format reg day minutes periods) (list_after answered reg)) (periods_after answered reg)) NoRegulation

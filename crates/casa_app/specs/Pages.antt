@@ -17,7 +17,7 @@ use Rattle.casa_look.specs.declared.state.OpenRegulation.{OpenRegulation}
 use Rattle.casa_look.specs.DayText.{day_text}
 use Rattle.casa_look.specs.StateText.{open_regulation, open_regulations}
 use Rattle.casa_session.specs.Played.{sequential_history, state_after_calls}
-use Rattle.casa_app.specs.declared.fault.ProgramFault.{ProgramFault}
+use Rattle.casa_app.specs.declared.fault.PrintFault.{PrintFault}
 use Rattle.casa_app.specs.Summaries.{lists_after}
 
 -- a flight as `show` answers it, with its plan
@@ -42,7 +42,7 @@ day_after day answered = record {
 }
 
 -- the page with the day behind it
-abbrev pub page_after : Date → List Call → Result Text ProgramFault
+abbrev pub page_after : Date → List Call → Result Text PrintFault
 page_after day answered = Ok (recorded_page PAGE.now (day_text (day_after day answered)))
 
 -- inner: the regulation of a list that is told, with what it costs; none where it is not open

@@ -7,8 +7,8 @@ use Rattle.casa_session.specs.Alone.{lone_sides, transcript_after}
 use Rattle.casa_session.specs.Lines.{lines_of}
 use Rattle.casa_session.specs.Sending.{IsCutOff}
 use Rattle.casa_session.specs.Transcript.{Ends}
-use Rattle.casa_app.specs.declared.fault.ProgramFault.{ProgramFault}
-use Rattle.casa_app.specs.declared.fault.ProgramFault.TheVariants.{Task, Session, WriteFailed, NoRegulation, NoFlight, Service, FaultyLines, NoMemory}
+use Rattle.casa_app.specs.declared.fault.PrintFault.{PrintFault}
+use Rattle.casa_app.specs.declared.fault.PrintFault.TheVariants.{Session, WriteFailed, NoRegulation, NoFlight, FaultyLines, NoMemory}
 use Rattle.casa_app.specs.Remarks.{remarks, said}
 
 -- a text was written, or its first bytes and not all of it, where the writer failed
@@ -36,7 +36,7 @@ SaysUntil fault marked r s v w =
 -- what is said where it ends so, of an input with r to s left: of the replies to all lines; of those until the session's
 -- fault; and nothing where there was no memory for the desk. Where faulty lines are not to be, it ends by them exactly where
 -- there are such lines, but at a session's fault and where there was no memory
-abbrev pub Says : {X : Type 0} → (strict marked : Bool) → Result X ProgramFault → (r s v w : Option (List ℕ)) → Type 0
+abbrev pub Says : {X : Type 0} → (strict marked : Bool) → Result X PrintFault → (r s v w : Option (List ℕ)) → Type 0
 Says strict marked (Ok done) r s v w = SaysAll strict marked r v w
 Says strict marked (Err (Session fault)) r s v w = SaysUntil fault marked r s v w
 Says strict marked (Err FaultyLines) r s v w = IsTrue strict × SaysSome marked r v w
@@ -44,5 +44,3 @@ Says strict marked (Err NoRegulation) r s v w = SaysAll strict marked r v w
 Says strict marked (Err NoFlight) r s v w = SaysAll strict marked r v w
 Says strict marked (Err WriteFailed) r s v w = SaysAll strict marked r v w
 Says strict marked (Err NoMemory) r s v w = (w ≡ v) ⊎ SaysAll strict marked r v w
-Says strict marked (Err (Task fault)) r s v w = ⊥
-Says strict marked (Err (Service fault)) r s v w = ⊥

@@ -11,7 +11,7 @@ use Rattle.casa_report.specs.Json.{summary_json}
 use Rattle.casa_report.specs.SummaryCsv.{summary_csv}
 use Rattle.casa_report.specs.SummaryTable.{summary_text}
 use Rattle.casa_session.specs.Played.{state_after_calls}
-use Rattle.casa_app.specs.declared.fault.ProgramFault.{ProgramFault}
+use Rattle.casa_app.specs.declared.fault.PrintFault.{PrintFault}
 
 -- the list of each open regulation that the sequential allocator tells after these calls
 abbrev pub lists_after : List Call → List ListReply
@@ -24,5 +24,5 @@ summary_as Csv day lists = summary_csv day lists
 summary_as Json day lists = summary_json day lists
 
 -- what they cost by their lists after these calls, in a form
-abbrev pub summary_after : Date → Format → List Call → Result Text ProgramFault
+abbrev pub summary_after : Date → Format → List Call → Result Text PrintFault
 summary_after day format answered = Ok (summary_as format day (lists_after answered))

@@ -12,8 +12,8 @@ use Rattle.casa_report.specs.WhyCsv.{why_csv}
 use Rattle.casa_report.specs.WhyJson.{why_json}
 use Rattle.casa_report.specs.WhyText.{why_text}
 use Rattle.casa_session.specs.Played.{state_after_calls}
-use Rattle.casa_app.specs.declared.fault.ProgramFault.{ProgramFault}
-use Rattle.casa_app.specs.declared.fault.ProgramFault.TheVariants.{NoFlight}
+use Rattle.casa_app.specs.declared.fault.PrintFault.{PrintFault}
+use Rattle.casa_app.specs.declared.fault.PrintFault.TheVariants.{NoFlight}
 
 -- why the flight under a key stands as it does after these calls of the sequential allocator; none where there is no such
 -- flight
@@ -28,5 +28,5 @@ why_as Csv day why = why_csv day why
 why_as Json day why = why_json day why
 
 -- the same after these calls
-abbrev pub why_after : Text → Date → Format → List Call → Result Text ProgramFault
+abbrev pub why_after : Text → Date → Format → List Call → Result Text PrintFault
 why_after key day format answered = ok_or (option_map (why_as format day) (reasons_after answered key)) NoFlight

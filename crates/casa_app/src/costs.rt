@@ -7,7 +7,7 @@ ghost use Rattle.casa_app.specs.Printed.{PrintEnds};
 ghost use Rattle.casa_app.specs.Remarked.{Says};
 ghost use Rattle.casa_app.specs.Summaries.{lists_after, summary_after};
 
-use crate::fault::ProgramFault;
+use crate::fault::PrintFault;
 use crate::input::Input;
 use crate::printing::{Question, print};
 use crate::reports::ask_list;
@@ -30,7 +30,7 @@ pub fn summary<R: Read + Drop, W: Write, E: Write>(
     input: &mut Input<R>,
     writer: &mut W,
     errors: &mut E,
-) -> Result<(), ProgramFault>
+) -> Result<(), PrintFault>
     ensures ends { PrintEnds (summary_after day format) result (R.remaining input.old.source)
         (R.remaining input.new.source) (W.contents writer.old) (W.contents writer.new) }
     ensures says { Says strict (is_marked input.new.first.items) result
@@ -57,7 +57,7 @@ struct SummaryOf {
 impl Question for SummaryOf {
     ghost text_after = { λ question. summary_after question.day question.format };
 
-    fn text(&self, alloc: Global, lone: &mut Lone) -> Result<Vec<u8>, ProgramFault> {
+    fn text(&self, alloc: Global, lone: &mut Lone) -> Result<Vec<u8>, PrintFault> {
         let lists = ask_all_lists(alloc, lone)?;
         Ok(match self.format {
             Format::Table => summary_text(alloc, self.day, lists.as_slice())?,
@@ -68,17 +68,17 @@ impl Question for SummaryOf {
 }
 
 /// The lists of all open regulations as the desk shows them, in the order of the regulations, which changes nothing.
-pub(crate) fn ask_all_lists(alloc: Global, lone: &mut Lone) -> Result<Vec<ListReply>, ProgramFault>
+pub(crate) fn ask_all_lists(alloc: Global, lone: &mut Lone) -> Result<Vec<ListReply>, PrintFault>
     ensures told { IfOk result (λ lists. lists.items ≡ lists_after lone.old) }
     ensures stays { OnOk result (state_after_calls lone.new ≡ state_after_calls lone.old) }
-    ensures no_memory { IfErr result (λ fault. fault ≡ ProgramFault.NoMemory) }
+    ensures no_memory { IfErr result (λ fault. fault ≡ PrintFault.NoMemory) }
 {
     let regulations = Vec::from_slice(alloc, lone.catalogue())?;
     let mut lists = Vec::with_capacity(alloc, regulations.len())?;
     for regulation in regulations.as_slice() {
         let list = ask_list(alloc, lone, regulation.id)?;
         let Ok(()) = lists.push(list) else {
-            return Err(ProgramFault::NoMemory);
+            return Err(PrintFault::NoMemory);
         };
     }
     Ok(lists)

@@ -6,7 +6,7 @@ ghost use Rattle.casa_app.specs.Loads.{load_after, load_as, periods_after};
 ghost use Rattle.casa_app.specs.Printed.{PrintEnds};
 ghost use Rattle.casa_app.specs.Remarked.{Says};
 
-use crate::fault::ProgramFault;
+use crate::fault::PrintFault;
 use crate::input::Input;
 use crate::printing::{Question, print};
 use crate::reports::ask_list;
@@ -33,7 +33,7 @@ pub fn load<R: Read + Drop, W: Write, E: Write>(
     input: &mut Input<R>,
     writer: &mut W,
     errors: &mut E,
-) -> Result<(), ProgramFault>
+) -> Result<(), PrintFault>
     ensures ends { PrintEnds (load_after reg.now day step format) result (R.remaining input.old.source)
         (R.remaining input.new.source) (W.contents writer.old) (W.contents writer.new) }
     ensures says { Says strict (is_marked input.new.first.items) result
@@ -62,7 +62,7 @@ impl Question for LoadOf {
     ghost text_after = { λ question.
         load_after question.reg question.day question.step question.format };
 
-    fn text(&self, alloc: Global, lone: &mut Lone) -> Result<Vec<u8>, ProgramFault> {
+    fn text(&self, alloc: Global, lone: &mut Lone) -> Result<Vec<u8>, PrintFault> {
         let grid = slots_of(lone, &self.reg)?;
         let list = ask_list(alloc, lone, self.reg)?;
         let load = Load::of(alloc, &grid, list.rows.as_slice(), self.step)?;
@@ -89,13 +89,13 @@ fn load_in(
 }
 
 /// The slots of a regulation as the desk has them; `NoRegulation` where it is not open.
-fn slots_of(lone: &Lone, reg: &RegId) -> Result<Grid, ProgramFault>
+fn slots_of(lone: &Lone, reg: &RegId) -> Result<Grid, PrintFault>
     ensures slots { IfOk result (λ grid. periods_after lone.now reg.now ≡ Some grid) }
-    ensures untold { IfErr result (λ fault. (fault ≡ ProgramFault.NoMemory)
-        ⊎ ((fault ≡ ProgramFault.NoRegulation) × (periods_after lone.now reg.now ≡ None))) }
+    ensures untold { IfErr result (λ fault. (fault ≡ PrintFault.NoMemory)
+        ⊎ ((fault ≡ PrintFault.NoRegulation) × (periods_after lone.now reg.now ≡ None))) }
 {
     match lone.list(reg) {
         Some(list) => Ok(list.grid().clone()?),
-        None => Err(ProgramFault::NoRegulation),
+        None => Err(PrintFault::NoRegulation),
     }
 }

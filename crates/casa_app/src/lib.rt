@@ -1,6 +1,9 @@
-//! Carries out what the words of the command line ask for, and says what the program ends with.
+//! Prints what stands after all lines of an input: reports, demand, costs, slot messages, why a flight waits, and the page of a
+//! day.
 #![tactic(auto)]
 
+mod after_calls;
+mod comparing;
 mod costs;
 mod demand;
 mod fault;
@@ -12,13 +15,16 @@ mod printing;
 mod reasons;
 mod remarks;
 mod reports;
+mod slot_messages;
 mod trail;
 
+pub use comparing::{CompareOf, compare};
 pub use costs::summary;
 pub use demand::load;
-pub use fault::{ProgramFault, outcome};
+pub use fault::PrintFault;
 pub use input::Input;
 pub use laws::{answers_are_not_told, faults_are_told, refusals_are_told};
 pub use pages::page;
 pub use reasons::why;
-pub use reports::report;
+pub use reports::{ReportOf, report};
+pub use slot_messages::messages;

@@ -13,7 +13,7 @@ ghost use Rattle.casa_app.specs.Remarked.{Says};
 ghost use Rattle.casa_app.specs.Summaries.{lists_after};
 
 use crate::costs::ask_all_lists;
-use crate::fault::ProgramFault;
+use crate::fault::PrintFault;
 use crate::input::Input;
 use crate::printing::{Question, print};
 use casa_flight::{Call, FlightReply, Key, ListReply, Measure, Reply, Row, SharedSlice};
@@ -36,7 +36,7 @@ pub fn page<R: Read + Drop, W: Write, E: Write>(
     input: &mut Input<R>,
     writer: &mut W,
     errors: &mut E,
-) -> Result<(), ProgramFault>
+) -> Result<(), PrintFault>
     ensures ends { PrintEnds (page_after day) result (R.remaining input.old.source)
         (R.remaining input.new.source) (W.contents writer.old) (W.contents writer.new) }
     ensures says { Says strict (is_marked input.new.first.items) result
@@ -55,17 +55,17 @@ struct PageOf {
 impl Question for PageOf {
     ghost text_after = { λ question. page_after question.day };
 
-    fn text(&self, alloc: Global, lone: &mut Lone) -> Result<Vec<u8>, ProgramFault> {
+    fn text(&self, alloc: Global, lone: &mut Lone) -> Result<Vec<u8>, PrintFault> {
         let record = day_text(alloc, &record_of(alloc, lone, self.day)?)?;
         Ok(recorded_page(alloc, record.as_slice())?)
     }
 }
 
 /// What is kept of the day after the desk's calls.
-fn record_of(alloc: Global, lone: &mut Lone, day: Date) -> Result<DayRecord, ProgramFault>
+fn record_of(alloc: Global, lone: &mut Lone, day: Date) -> Result<DayRecord, PrintFault>
     ensures told { IfOk result (λ kept. kept ≡ day_after day lone.old) }
     ensures counted { IfOk result (λ kept. kept.position + length kept.entries < 2 ^ 64) }
-    ensures no_memory { IfErr result (λ fault. fault ≡ ProgramFault.NoMemory) }
+    ensures no_memory { IfErr result (λ fault. fault ≡ PrintFault.NoMemory) }
 {
     // Before the lists are asked for, which are calls of the desk, too.
     let entries = shared_entries(alloc, lone)?;

@@ -8,16 +8,15 @@ ghost use Rattle.casa_app.specs.Printed.{PrintEnds};
 ghost use Rattle.casa_app.specs.Remarked.{Says};
 ghost use Rattle.casa_app.specs.Whys.{reasons_after, why_after};
 
-use crate::fault::ProgramFault;
+use crate::after_calls::AfterCalls;
+use crate::fault::PrintFault;
 use crate::input::Input;
 use crate::printing::{Question, print};
 use casa_cli::Format;
-use casa_flight::{Key, RegId, Regulation, Row};
-use casa_inquiry::{Reasons, Shown, explain};
-use casa_list::SlotList;
+use casa_flight::{Key, Row};
+use casa_inquiry::{Reasons, explain};
 use casa_report::{why_csv, why_json, why_text};
 use casa_session::Lone;
-use casa_time::Moment;
 use jiff::civil::Date;
 use std::alloc::{AllocError, Global};
 use std::io::{Read, Write};
@@ -36,7 +35,7 @@ pub fn why<R: Read + Drop, W: Write, E: Write>(
     input: &mut Input<R>,
     writer: &mut W,
     errors: &mut E,
-) -> Result<(), ProgramFault>
+) -> Result<(), PrintFault>
     ensures ends { PrintEnds (why_after key.now day format) result (R.remaining input.old.source)
         (R.remaining input.new.source) (W.contents writer.old) (W.contents writer.new) }
     ensures says { Says strict (is_marked input.new.first.items) result
@@ -62,7 +61,7 @@ struct WhyOf {
 impl Question for WhyOf {
     ghost text_after = { λ question. why_after question.key question.day question.format };
 
-    fn text(&self, alloc: Global, lone: &mut Lone) -> Result<Vec<u8>, ProgramFault> {
+    fn text(&self, alloc: Global, lone: &mut Lone) -> Result<Vec<u8>, PrintFault> {
         let reasons = reasons(alloc, lone, &self.key)?;
         Ok(match self.format {
             Format::Table => why_text(alloc, self.day, &reasons)?,
@@ -73,13 +72,13 @@ impl Question for WhyOf {
 }
 
 /// Why a flight stands as it does after the desk's calls; `NoFlight` where there is none with this key.
-fn reasons(alloc: Global, lone: &Lone, key: &Key) -> Result<Reasons, ProgramFault>
+fn reasons(alloc: Global, lone: &Lone, key: &Key) -> Result<Reasons, PrintFault>
     ensures told { IfOk result (λ reasons. reasons_after lone.now key.now ≡ Some reasons) }
-    ensures untold { IfErr result (λ fault. (fault ≡ ProgramFault.NoMemory)
-        ⊎ ((fault ≡ ProgramFault.NoFlight) × (reasons_after lone.now key.now ≡ None))) }
+    ensures untold { IfErr result (λ fault. (fault ≡ PrintFault.NoMemory)
+        ⊎ ((fault ≡ PrintFault.NoFlight) × (reasons_after lone.now key.now ≡ None))) }
 {
     let Some(row) = lone.row(key) else {
-        return Err(ProgramFault::NoFlight);
+        return Err(PrintFault::NoFlight);
     };
     Ok(reasons_of(alloc, lone, *key, row)?)
 }
@@ -89,26 +88,4 @@ fn reasons_of(alloc: Global, lone: &Lone, key: Key, row: &Row) -> Result<Reasons
     ensures { IfOk result (λ reasons. reasons ≡ why (state_after_calls lone.now) key row.now) }
 {
     explain(alloc, &AfterCalls { lone }, key, row)
-}
-
-/// What a desk that is alone shows of the state after its calls.
-#[derive(Drop)]
-struct AfterCalls<'a> {
-    lone: &'a Lone,
-}
-
-impl<'a> Shown for AfterCalls<'a> {
-    ghost shows = { λ after m. m ≡ state_after_calls after.lone.now };
-
-    fn clock(&self) -> Moment {
-        self.lone.clock()
-    }
-
-    fn catalogue(&self) -> &[Regulation] {
-        self.lone.catalogue()
-    }
-
-    fn list(&self, id: &RegId) -> Option<&SlotList> {
-        self.lone.list(id)
-    }
 }

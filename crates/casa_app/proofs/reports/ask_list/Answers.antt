@@ -1,9 +1,7 @@
 use Rattle.std.proofs.Common.{◌≡◌, ◌∙◌, refl, sym, None, Some, inr, rules}
-use Rattle.casa_session.specs.Played.{state_after_calls}
 use Rattle.casa_app.specs.Listed.{list_in}
 use Rattle.casa_app.specs.Reports.{list_after}
-use Rattle.casa_app.proofs.LastReply.{good_after, last_list, state_stays}
-use Rattle.casa_app.proofs.ListTimes.{told_in_time}
+use Rattle.casa_app.proofs.LastReply.{last_list, state_stays}
 use Rattle.casa_app.proofs.reports.ask_list.Goals as goal
 
 pub returns-in-Some-clause-told : goal.returns-in-Some-clause-told
@@ -12,13 +10,6 @@ returns-in-Some-clause-told c =
     let asked = last_list c.args.lone.now c.answer.new.self c.args.reg receipt c.in-Ok.ensures.ok c.in-Ok.ensures.called in
     let told : list_after c.args.lone.now c.args.reg ≡ Some c.in-Some.list.now = sym asked ∙ search (rules) in
     rw c.in_ok-try_clone-in-Some.ensures told
-
-pub returns-in-Some-clause-in_time : goal.returns-in-Some-clause-in_time
-returns-in-Some-clause-in_time c =
-    let receipt = c.in-Ok.receipt in
-    let asked = last_list c.args.lone.now c.answer.new.self c.args.reg receipt c.in-Ok.ensures.ok c.in-Ok.ensures.called in
-    let told : list_after c.args.lone.now c.args.reg ≡ Some c.in-Some.list.now = sym asked ∙ search (rules) in
-    rw c.in_ok-try_clone-in-Some.ensures (told_in_time (state_after_calls c.args.lone.now) c.args.reg c.in-Some.list.now (good_after c.args.lone.now) told)
 
 pub returns-clause-untold : goal.returns-clause-untold
 returns-clause-untold c =
