@@ -148,6 +148,9 @@ class Browser:
     def post(self, lines, origin=None):
         return self.ask("POST", "/lines", lines, f"Origin: {origin or 'http://' + self.host}")
 
+    def try_lines(self, lines):
+        return self.ask("POST", "/try", lines, f"Origin: http://{self.host}")
+
 
 def until_connected(port):
     """Waits until somebody listens at the port."""
@@ -256,6 +259,14 @@ class Told:
         return body == {"/state": lambda _: self.state(), "/list": self.list, "/flight": self.flight}[path](name)
 
 
+def would_be(program, before, body):
+    """What is told where lines are tried behind these: the replies of `casa run` behind them, and a line with the states."""
+    tried = [line + b"\n" for line in body.removesuffix(b"\n").split(b"\n")] if body else []
+    replies = lives.replies_to(program, b"".join(before + tried))[len(before):]
+    states = [Told(program, lines).state() for lines in (before + tried, before)]
+    return b"".join(replies) + b'{"after":%s,"before":%s}\n' % tuple(states)
+
+
 def desks_of(name, news, owners):
     """The number of the desk of each call, where its owner is known by the call's number: as the news tell it, one number for
     each owner, and no two the same."""
@@ -344,6 +355,29 @@ class Asker(Peer):
         self.looker = self.looker or Browser(self.port)
         if (seen := self.looker.get("/state").value()["n"]) < last:
             self.stale.append((last, seen))
+
+
+class Trier(Peer):
+    """Tries lines so many times, or until it is told to stop."""
+
+    def __init__(self, port, seed, day, count):
+        super().__init__(port, seed)
+        self.day, self.count, self.told = day, count, []
+
+    def work(self, browser):
+        body = b"".join(self.day.line(self.dice) for _ in range(self.dice.randrange(1, 5)))
+        self.told.append((body, browser.try_lines(body)))
+        self.is_to_stop = self.is_to_stop or len(self.told) == self.count
+
+    def judge(self, name, program, lines):
+        """What it was told is what would have come behind the first calls of these lines."""
+        told = [(json.loads(answer.body.splitlines()[-1])["before"]["n"], body, answer) for body, answer in self.told
+                if answer.status == 200]
+        stood = [n for n, _, _ in told]
+        check(f"{name}: no more is told than there is", max(stood, default=0) <= len(lines), stood[-3:])
+        check(f"{name}: it never goes back", stood == sorted(stood), stood)
+        for n, body, answer in self.dice.sample(told, min(4, len(told))):
+            same(f"{name}: {body[:60]} behind {n}", answer, LINES, would_be(program, lines[:n], body))
 
 
 class Watcher(Peer):

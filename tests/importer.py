@@ -152,6 +152,11 @@ def name_in(fields, place, title, reason):
     return fields[place].decode()
 
 
+def named_in(fields, place):
+    """The name that stands in a column, if one does, also where the row has more or fewer fields than there are titles."""
+    return fields[place].decode() if place < len(fields) and NAME.match(fields[place]) else None
+
+
 def time_in(fields, place, title, midnight):
     """A time, as seconds from this midnight."""
     second = second_of(fields[place], midnight)
@@ -213,11 +218,12 @@ def openings(table, midnight):
     """The regulations of a file that are opened. All rows of the others are left out."""
     regulations, columns = {}, table.columns(REGULATIONS)
     for number, fields in enumerate(table.rows):
+        name = named_in(fields, columns["reg"])
+        if name:
+            regulations.setdefault(name, Regulation(name)).rows.append(number)
         try:
-            name = name_in(table.checked(fields), columns["reg"], "reg", "BadReg")
-            regulation = regulations.setdefault(name, Regulation(name))
-            regulation.rows.append(number)
-            take_period(regulation, fields, columns, midnight)
+            name_in(table.checked(fields), columns["reg"], "reg", "BadReg")
+            take_period(regulations[name], fields, columns, midnight)
         except LeftOut as reason:
             table.leave_out(number, reason)
     opened = []
@@ -291,12 +297,8 @@ class Flights:
         return name_in(self.table.checked(fields), self.columns[self.key_title], self.key_title, "BadKey")
 
     def named(self):
-        """The keys of all rows, also of those that are left out."""
-        for fields in self.table.rows:
-            try:
-                yield self.key(fields)
-            except LeftOut:
-                pass
+        """The keys of all rows, also of those that are left out, be they whole or not."""
+        return [name for fields in self.table.rows if (name := named_in(fields, self.columns[self.key_title]))]
 
     def taxi(self, fields):
         """The taxi time that the row gives, if it gives one."""
@@ -331,7 +333,7 @@ class Traffic:
     midnight: int
     taxi: int
     crossings: dict  # of each key its entries
-    kept: set  # the locations that stay where there are too many
+    kept: set  # the locations that stay where there are too many; with none all do
 
 
 def filing_of(flights, fields, traffic, seen):
@@ -352,7 +354,7 @@ def filing_of(flights, fields, traffic, seen):
     if departure:
         entries = entries + [(departure, off_block + taxi)]
     over = earliest(entries, seen)
-    if len(over) > MOST_CROSSINGS:
+    if len(over) > MOST_CROSSINGS and traffic.kept:
         over = {location: time for location, time in over.items() if location in traffic.kept}
         seen["kept of too many locations"] += len(over) <= MOST_CROSSINGS
     reason = wrong_with_plan(off_block, taxi, over)
@@ -451,7 +453,7 @@ def made(asked, seen, regs=None, crossings=None, flights=None):
         if table:
             table.columns(titles)
     flights = Flights(flights) if flights else None
-    commands, ends, entries, kept, midnight = [], [], {}, set((asked.locations or "").split(",")), midnight_of(asked.day)
+    commands, ends, entries, kept, midnight = [], [], {}, set(asked.locations.split(",") if asked.locations else ()), midnight_of(asked.day)
     if regs:
         opened = openings(regs, midnight)
         commands += [{"cmd": "open", "reg": one.name, "loc": one.location, "periods": one.periods} for one in opened]
