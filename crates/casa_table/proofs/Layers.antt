@@ -63,6 +63,23 @@ pub at-below : {X : Type 0} (q : Text) (ws : List (Text × Option X)) (es : List
 at-below {X} q ws es g h none =
     at-laid q ws es g h ∙ ap (λ (o : Option (Option X)). unwrap_or o (at_name es q)) none
 
+-- a change that is made before others which have it leads to the same
+pub made-before : {X : Type 0} (k : Text) (w : Option X) (ws : List (Text × Option X)) (es : List (Text × X))
+    → AreInOrder ws → AreInOrder es
+    → at_name ws k ≡ Some w → with_changes ws (with_value es k w) ≡ with_changes ws es
+made-before {X} k w ws es g h there =
+    same_entries _ _ (sorted-laid ws (with_value es k w) (sorted-with_value k w es h)) (sorted-laid ws es h)
+    (λ q. at-laid q ws (with_value es k w) g (sorted-with_value k w es h) ∙ by q (is_eq (text_cmp q k)) refl
+    ∙ sym (at-laid q ws es g h))
+  where
+    by : (q : Text) (b : Bool) → is_eq (text_cmp q k) ≡ b
+        → unwrap_or (at_name ws q) (at_name (with_value es k w) q) ≡ unwrap_or (at_name ws q) (at_name es q)
+    by q true t =
+        let here : at_name ws q ≡ Some w = ap (at_name ws) (same_name q k t) ∙ there in
+        (λ i. unwrap_or (here i) (at_name (with_value es k w) q)) ∙ (λ i. unwrap_or (sym here i) (at_name es q))
+    by q false t =
+        ap (unwrap_or (at_name ws q)) (at-with_value q k w es h ∙ ap (λ b. cond b w (at_name es q)) t)
+
 -- entries that are laid in two layers
 module _ {X : Type 0} (ws : List (Text × Option X)) (es all : List (Text × X)) (is : with_changes ws es ≡ all)
     (order : AreInOrder es) where

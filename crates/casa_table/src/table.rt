@@ -82,6 +82,7 @@ impl<Kind: Copy, V: Drop, I: Index<Kind, V>> Base<Kind, V, I> {
     fn put(&mut self, name: Name<Kind>, value: V) -> Result<Option<V>, AllocError>
         ensures written { OnOk result (self.new ≡ put self.old name value) }
         ensures unchanged { OnErr result (self.new ≡ self.old) }
+        ensures ordered { OnOk result (AreInOrder self.old) }
     {
         match self.values.entry(name) {
             Ok(Entry::Occupied(entry)) => {
@@ -102,7 +103,8 @@ impl<Kind: Copy, V: Drop, I: Index<Kind, V>> Base<Kind, V, I> {
 
     /// Takes out the value under a name.
     fn remove(&mut self, name: &Name<Kind>) -> Option<V>
-        ensures { self.new ≡ without self.old name.now }
+        ensures left { self.new ≡ without self.old name.now }
+        ensures ordered { AreInOrder self.old }
     {
         let gone = self.values.remove(name)?;
         self.index.forget(name, &gone, self.values.get(name));
@@ -116,6 +118,7 @@ impl<Kind: Copy, V: Version, I: Index<Kind, V>> Base<Kind, V, I> {
     fn write(&mut self, name: &Name<Kind>, change: &Option<V>) -> Result<Option<V>, AllocError>
         ensures written { OnOk result (self.new ≡ with_value self.old name.now change.now) }
         ensures unchanged { OnErr result (self.new ≡ self.old) }
+        ensures ordered { OnOk result (AreInOrder self.old) }
     {
         match change {
             Some(value) => self.put(*name, value.try_clone()?),
@@ -123,28 +126,8 @@ impl<Kind: Copy, V: Version, I: Index<Kind, V>> Base<Kind, V, I> {
         }
     }
 
-    /// Moves the first change over to the values, and keeps the memory of what it replaces.
-    fn absorb_first(
-        &mut self,
-        changes: &mut Changes<Kind, V>,
-        spare: &mut Spare,
-    ) -> Result<(), AllocError>
-        ensures same { with_changes changes.new.entries self.new
-            ≡ with_changes changes.old.entries self.old }
-        ensures fewer { OnOk result (length changes.new.entries ≡ length changes.old.entries - 1) }
-        ensures ordered { AreInOrder self.old → AreInOrder self.new }
-        ensures changes_ordered { AreInOrder changes.old.entries → AreInOrder changes.new.entries }
-    {
-        let Some((name, change)) = changes.first_key_value() else {
-            return Ok(());
-        };
-        let replaced = self.write(name, change)?;
-        changes.pop_first();
-        spare.keep_replaced(replaced)
-    }
-
-    /// Moves all changes over to the values. `AllocError` where there is no memory for one; what the changes lead to is
-    /// then the same.
+    /// Moves all changes over to the values, and keeps the memory of what they replace. `AllocError` where there is no memory
+    /// for one; they all stand there still then, and what they lead to is the same.
     fn absorb(
         &mut self,
         changes: &mut Changes<Kind, V>,
@@ -156,9 +139,11 @@ impl<Kind: Copy, V: Version, I: Index<Kind, V>> Base<Kind, V, I> {
         ensures ordered { AreInOrder self.old → AreInOrder self.new }
         ensures changes_ordered { AreInOrder changes.old.entries → AreInOrder changes.new.entries }
     {
-        while !changes.is_empty() {
-            self.absorb_first(changes, spare)?;
+        for (name, change) in changes.iter() {
+            let replaced = self.write(name, change)?;
+            spare.keep_replaced(replaced)?;
         }
+        changes.clear();
         Ok(())
     }
 
