@@ -3,7 +3,7 @@ ghost use Rattle.casa_session.specs.Played.{state_after_calls};
 
 use casa_difference::ShownFlights;
 use casa_flight::{Key, RegId, Regulation, Row};
-use casa_inquiry::Shown;
+use casa_inquiry::{Shown, ShownRows};
 use casa_list::SlotList;
 use casa_session::Lone;
 use casa_time::Moment;
@@ -32,11 +32,13 @@ impl<'a> Shown for AfterCalls<'a> {
     }
 }
 
-impl<'a> ShownFlights for AfterCalls<'a> {
+impl<'a> ShownRows for AfterCalls<'a> {
     fn row(&self, key: &Key) -> Option<&Row> {
         self.lone.row(key)
     }
+}
 
+impl<'a> ShownFlights for AfterCalls<'a> {
     fn keys(&self, alloc: Global) -> Result<BTreeSet<Key>, AllocError> {
         self.lone.keys(alloc)
     }

@@ -6,22 +6,16 @@ ghost use Rattle.casa_difference.specs.Differences.{difference, differences, dif
 ghost use Rattle.casa_difference.specs.Standings.{standing_in};
 
 use crate::standing::Standing;
-use casa_flight::{Key, Row};
-use casa_inquiry::Shown;
+use casa_flight::Key;
+use casa_inquiry::ShownRows;
 use std::alloc::{AllocError, Global};
 use std::collections::BTreeSet;
 
-/// What is shown of a state with its flights.
-pub trait ShownFlights: Shown {
+/// What is shown of a state with its flights and their keys.
+pub trait ShownFlights: ShownRows {
     ghost use Rattle.std.specs.Prelude.{◌≡◌, IfOk};
     ghost use Rattle.std.specs.Map.{keys_of};
-    ghost use Rattle.std.specs.Option.{option_copied};
     ghost use Rattle.casa_flight.specs.declared.state.State.{State};
-    ghost use Rattle.casa_flight.specs.State.{row_of};
-
-    /// The flight with this key as it stands; `None` where there is none.
-    fn row(&self, key: &Key) -> Option<&Row>
-        ensures { (m : State) → Self.shows self.now m → option_copied result ≡ row_of m key.now };
 
     /// The keys of the flights. `AllocError` where there is no memory for them.
     fn keys(&self, alloc: Global) -> Result<BTreeSet<Key>, AllocError>
@@ -89,7 +83,7 @@ pub fn differences<B: ShownFlights, V: ShownFlights>(
 }
 
 /// How the flight with this key stands, by what is shown; `None` where there is none.
-fn standing_in<S: ShownFlights>(shown: &S, key: &Key) -> Option<Standing>
+fn standing_in<S: ShownRows>(shown: &S, key: &Key) -> Option<Standing>
     ensures { (m : State) → S.shows shown.now m → result ≡ standing_in m key.now }
 {
     let row = shown.row(key)?;

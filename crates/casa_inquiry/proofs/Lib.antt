@@ -1,5 +1,7 @@
 pub mod Costs
 pub mod EachOnce
+pub mod ExchangeLaws
+pub mod ExchangesFound
 pub mod Held
 pub mod Steps
 pub mod Summed

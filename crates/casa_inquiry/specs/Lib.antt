@@ -1,3 +1,4 @@
+pub mod Exchanges
 pub mod Load
 pub mod Shown
 pub mod Summary

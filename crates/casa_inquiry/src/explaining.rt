@@ -39,7 +39,7 @@ pub fn explain<S: Shown>(
 }
 
 /// The list of the regulation that governs a flight; `None` where nothing does.
-fn governing_list<'a, S: Shown>(shown: &'a S, row: &Row) -> Option<&'a SlotList>
+pub(crate) fn governing_list<'a, S: Shown>(shown: &'a S, row: &Row) -> Option<&'a SlotList>
     ensures { (m : State) → S.shows shown.now m → option_copied result ≡ governing_list m row.now }
 {
     match &row.governing {

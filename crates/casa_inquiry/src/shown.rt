@@ -3,7 +3,7 @@
 ghost use Rattle.std.specs.Prelude.{◌≡◌};
 ghost use Rattle.std.specs.Option.{option_copied};
 
-use casa_flight::{RegId, Regulation};
+use casa_flight::{Key, RegId, Regulation, Row};
 use casa_list::{SharedList, SlotList};
 use casa_time::Moment;
 
@@ -29,6 +29,18 @@ pub trait Shown {
     /// The list of the regulation with this identifier; `None` where it is not open.
     fn list(&self, id: &RegId) -> Option<&SlotList>
         ensures { (m : State) → shows self.now m → option_copied result ≡ list_of m id.now };
+}
+
+/// What is shown of a state with its flights.
+pub trait ShownRows: Shown {
+    ghost use Rattle.std.specs.Prelude.{◌≡◌};
+    ghost use Rattle.std.specs.Option.{option_copied};
+    ghost use Rattle.casa_flight.specs.declared.state.State.{State};
+    ghost use Rattle.casa_flight.specs.State.{row_of};
+
+    /// The flight with this key as it stands; `None` where there is none.
+    fn row(&self, key: &Key) -> Option<&Row>
+        ensures { (m : State) → Self.shows self.now m → option_copied result ≡ row_of m key.now };
 }
 
 /// The clock and the open regulations of a state, in the order of their identifiers, with their lists in the same order.
