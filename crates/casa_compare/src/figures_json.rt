@@ -9,7 +9,8 @@ ghost use Rattle.casa_compare.specs.CompareJson.{compare_json, difference_data, 
 
 use casa_difference::{Comparison, Difference, Standing, Totals};
 use casa_flight::RegId;
-use casa_report::{date_text, push_figure, push_mean};
+use casa_json::push_figure;
+use casa_report::{date_text, push_mean};
 use casa_wire::{Part, push_parts, push_text};
 use jiff::civil::Date;
 use std::alloc::{AllocError, Global};

@@ -1,5 +1,5 @@
 -- parts of a text, one behind the other
-use Rattle.std.proofs.Common.{◌≡◌, ℕ, ◌+◌, List, [], ◌∷◌, length, ◌++◌, append_assoc, append-nil, refl}
+use Rattle.std.proofs.Common.{◌≡◌, ℕ, ◌+◌, List, [], ◌∷◌, length, ◌++◌, append_assoc, refl}
 use Rattle.std.specs.Prelude.{codes}
 use Rattle.serde_json.specs.Data.{Data, string}
 use Rattle.serde_json.specs.Written.{compact_text}
@@ -10,18 +10,20 @@ use Rattle.casa_flight.specs.declared.call.Call.{Call}
 use Rattle.casa_flight.specs.declared.reply.ListReply.{ListReply}
 use Rattle.casa_flight.specs.declared.reply.Reply.{Reply}
 use Rattle.casa_history.specs.declared.entry.Entry.{Entry}
-use Rattle.casa_inquiry.specs.declared.why.Holding.{Holding}
+use Rattle.casa_inquiry.specs.declared.exchanging.PossibleExchange.{PossibleExchange}
 use Rattle.casa_inquiry.specs.declared.why.Reasons.{Reasons}
+use Rattle.casa_json.specs.Flights.{crossing_data, exchange_data, holding_data, offer_data, rule_name}
+use Rattle.casa_json.specs.Lists.{period_data}
 use Rattle.casa_wire.specs.LineTexts.{count, flight_data, line_of, list_data, list_of, messages_data, object_of, or_null}
 use Rattle.casa_look.specs.declared.day.DayRecord.{DayRecord}
 use Rattle.casa_look.specs.declared.day.PlannedFlight.{PlannedFlight}
 use Rattle.casa_look.specs.declared.since.News.{News}
 use Rattle.casa_look.specs.declared.state.OpenRegulation.{OpenRegulation}
 use Rattle.casa_look.specs.DayText.{day_text, planned_data}
-use Rattle.casa_look.specs.FlightText.{crossing_data, flight_text, holder_text, holding_data, offer_data, plan_data, rule_name, status_name}
+use Rattle.casa_look.specs.FlightText.{flight_text, plan_data, status_name}
 use Rattle.casa_look.specs.ListText.{list_text}
 use Rattle.casa_look.specs.SinceText.{news_behind, news_data, since_text}
-use Rattle.casa_look.specs.StateText.{period_data, regulation_data, state_text}
+use Rattle.casa_look.specs.StateText.{regulation_data, state_text}
 
 pub listed_text : (calls : ℕ) (list : ListReply)
     → codes "{\"list\":" ++ (compact_text (list_data list) ++ (codes ",\"n\":" ++ (compact_text (count calls) ++ codes "}"))) ≡ list_text calls list
@@ -67,19 +69,13 @@ pub plan_text : (plan : FlightPlan)
 unfolding serde_json_on_literals
 plan_text plan = simp append_assoc refl
 
-pub holding_text : (h : Holding)
-    → (codes "{\"begin\":" ++ (compact_text (count h.begin) ++ []))
-    ++ (holder_text h.holder ++ (codes ",\"slot\":" ++ (compact_text (count h.slot) ++ codes "}"))) ≡ compact_text (holding_data h)
-unfolding serde_json_on_literals
-holding_text h = simp (append_assoc, append-nil) refl
-
-pub explained_text : (calls : ℕ) (plan : FlightPlan) (why : Reasons)
-    → codes "{\"flight\":" ++ (compact_text (flight_data why.flight) ++ (codes ",\"holdings\":" ++ (compact_text (list_of holding_data why.holdings)
+pub explained_text : (calls : ℕ) (plan : FlightPlan) (why : Reasons) (exchanges : List PossibleExchange)
+    → codes "{\"exchanges\":" ++ (compact_text (list_of exchange_data exchanges) ++ (codes ",\"flight\":" ++ (compact_text (flight_data why.flight) ++ (codes ",\"holdings\":" ++ (compact_text (list_of holding_data why.holdings)
     ++ ((codes ",\"n\":" ++ (compact_text (count calls) ++ codes ",\"offers\":"))
     ++ (compact_text (list_of offer_data why.offers) ++ (codes ",\"plan\":" ++ (compact_text (plan_data plan)
-    ++ (codes ",\"rule\":" ++ (compact_text (string (rule_name why.rule)) ++ codes "}"))))))))) ≡ flight_text calls plan why
+    ++ (codes ",\"rule\":" ++ (compact_text (string (rule_name why.rule)) ++ codes "}"))))))))))) ≡ flight_text calls plan why exchanges
 unfolding serde_json_on_literals
-explained_text calls plan why = simp append_assoc refl
+explained_text calls plan why exchanges = simp append_assoc refl
 
 pub planned_text : (f : PlannedFlight)
     → codes "{\"flight\":" ++ (compact_text (flight_data f.flight) ++ (codes ",\"plan\":" ++ (compact_text (plan_data f.plan) ++ codes "}"))) ≡ compact_text (planned_data f)

@@ -1,22 +1,15 @@
 -- to believe: what is shown of a flight
-use Rattle.std.specs.Prelude.{ℕ, [], ◌∷◌, ◌++◌, Option, None, Some, codes}
-use Rattle.std.specs.Option.{option_map}
+use Rattle.std.specs.Prelude.{ℕ, List, [], ◌∷◌, Option, None, Some, codes}
 use Rattle.serde_json.specs.Data.{Data, string}
 use Rattle.serde_json.specs.Written.{compact_text}
 use Rattle.casa_filing.specs.Text.{Text}
 use Rattle.casa_filing.specs.FlightPlan.{FlightPlan}
-use Rattle.casa_filing.specs.declared.plan.Crossing.{Crossing}
 use Rattle.casa_filing.specs.declared.plan.Sts.{Sts}
 use Rattle.casa_filing.specs.declared.plan.Sts.TheVariants.{Plain, Head, Sar, Medevac, Ffr, Atfmx}
-use Rattle.casa_flight.specs.declared.row.Stance.{Stance}
-use Rattle.casa_flight.specs.Entry.{Offer}
-use Rattle.casa_flight.specs.Listing.{eto_as}
-use Rattle.casa_flight.specs.Replies.{kind_of}
-use Rattle.casa_inquiry.specs.declared.why.Holding.{Holding}
+use Rattle.casa_inquiry.specs.declared.exchanging.PossibleExchange.{PossibleExchange}
 use Rattle.casa_inquiry.specs.declared.why.Reasons.{Reasons}
-use Rattle.casa_inquiry.specs.declared.why.Rule.{Rule}
-use Rattle.casa_inquiry.specs.declared.why.Rule.TheVariants.{GreatestDelay, SmallestId, SinceEntry, GovernedGone, Exempt, Gone, Outside}
-use Rattle.casa_wire.specs.LineTexts.{count, flight_data, kind_name, list_of, object_of, or_null}
+use Rattle.casa_json.specs.Flights.{crossing_data, exchange_data, holding_data, offer_data, rule_name}
+use Rattle.casa_wire.specs.LineTexts.{count, flight_data, list_of, object_of, or_null}
 
 -- the name of a status; the plain one has none
 abbrev pub status_name : Sts → Option Text
@@ -27,9 +20,6 @@ status_name Medevac = Some (codes "MEDEVAC")
 status_name Ffr = Some (codes "FFR")
 status_name Atfmx = Some (codes "ATFMX")
 
-abbrev pub crossing_data : Crossing → Data
-crossing_data c = object_of ((codes "eto", count c.eto) ∷ (codes "loc", string c.loc) ∷ [])
-
 -- a plan, with the members of a filing
 abbrev pub plan_data : FlightPlan → Data
 plan_data plan = object_of (
@@ -39,47 +29,10 @@ plan_data plan = object_of (
     (codes "taxi", count plan.taxi) ∷
     (codes "via", list_of crossing_data plan.via) ∷ [])
 
--- what a regulation would offer it
-abbrev pub offer_data : Offer → Data
-offer_data o = object_of ((codes "cto", count o.cto) ∷ (codes "delay", count o.delay) ∷ (codes "reg", string o.id) ∷ [])
-
-abbrev pub eto_in : Option (Text × Stance) → Option ℕ
-eto_in holder = option_map (λ (e : Text × Stance). eto_as e.1) holder
-
-abbrev pub key_in : Option (Text × Stance) → Option Text
-key_in holder = option_map (λ (e : Text × Stance). e.0) holder
-
-abbrev pub kind_in : Option (Text × Stance) → Option Text
-kind_in holder = option_map (λ (e : Text × Stance). kind_name (kind_of e.1)) holder
-
--- a slot that it waits for, with a flight that has it, if there is one
-abbrev pub holding_data : Holding → Data
-holding_data h = object_of (
-    (codes "begin", count h.begin) ∷
-    (codes "eto", or_null count (eto_in h.holder)) ∷
-    (codes "key", or_null string (key_in h.holder)) ∷
-    (codes "kind", or_null string (kind_in h.holder)) ∷
-    (codes "slot", count h.slot) ∷ [])
-
--- inner: the members of a slot that tell who has it
-abbrev pub holder_text : Option (Text × Stance) → Text
-holder_text holder =
-    codes ",\"eto\":" ++ (compact_text (or_null count (eto_in holder)) ++ (codes ",\"key\":" ++ (compact_text (or_null string (key_in holder))
-    ++ (codes ",\"kind\":" ++ compact_text (or_null string (kind_in holder))))))
-
--- the rule by which a regulation governs it, or none does
-abbrev pub rule_name : Rule → Text
-rule_name GreatestDelay = codes "GreatestDelay"
-rule_name SmallestId = codes "SmallestId"
-rule_name SinceEntry = codes "SinceEntry"
-rule_name GovernedGone = codes "GovernedGone"
-rule_name Exempt = codes "Exempt"
-rule_name Gone = codes "Gone"
-rule_name Outside = codes "Outside"
-
--- a flight with this plan after so many calls, and why it stands as it does
-abbrev pub explained_data : ℕ → FlightPlan → Reasons → Data
-explained_data calls plan why = object_of (
+-- a flight with this plan after so many calls, why it stands as it does, and the exchanges of its slot that are possible
+abbrev pub explained_data : ℕ → FlightPlan → Reasons → List PossibleExchange → Data
+explained_data calls plan why exchanges = object_of (
+    (codes "exchanges", list_of exchange_data exchanges) ∷
     (codes "flight", flight_data why.flight) ∷
     (codes "holdings", list_of holding_data why.holdings) ∷
     (codes "n", count calls) ∷
@@ -87,5 +40,5 @@ explained_data calls plan why = object_of (
     (codes "plan", plan_data plan) ∷
     (codes "rule", string (rule_name why.rule)) ∷ [])
 
-abbrev pub flight_text : ℕ → FlightPlan → Reasons → Text
-flight_text calls plan why = compact_text (explained_data calls plan why)
+abbrev pub flight_text : ℕ → FlightPlan → Reasons → List PossibleExchange → Text
+flight_text calls plan why exchanges = compact_text (explained_data calls plan why exchanges)

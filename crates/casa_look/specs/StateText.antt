@@ -2,7 +2,6 @@
 use Rattle.std.specs.Prelude.{ℕ, List, [], ◌∷◌, map, codes}
 use Rattle.serde_json.specs.Data.{Data, string}
 use Rattle.serde_json.specs.Written.{compact_text}
-use Rattle.casa_grid.specs.declared.period.Period.{Period}
 use Rattle.casa_filing.specs.Text.{Text}
 use Rattle.casa_filing.specs.declared.regulation.Measure.{Measure}
 use Rattle.casa_filing.specs.Subject.{regulation}
@@ -11,6 +10,7 @@ use Rattle.casa_flight.specs.declared.state.State.{State}
 use Rattle.casa_flight.specs.Listing.{listing}
 use Rattle.casa_flight.specs.Replies.{list_reply}
 use Rattle.casa_inquiry.specs.Summary.{cost_of}
+use Rattle.casa_json.specs.Lists.{period_data}
 use Rattle.casa_wire.specs.LineTexts.{count, list_of, object_of}
 use Rattle.casa_look.specs.declared.state.OpenRegulation.{OpenRegulation}
 
@@ -22,10 +22,6 @@ open_regulation id measure list = record { id = id; measure = measure; cost = co
 abbrev pub open_regulations : State → List OpenRegulation
 open_regulations m =
     map (λ (e : Text × Measure). open_regulation e.0 e.1 (list_reply m (regulation e.0 e.1) (listing m.rows e.0 e.1))) m.regs
-
--- a period as in a command line
-abbrev pub period_data : Period → Data
-period_data p = object_of ((codes "from", count p.begin) ∷ (codes "rate", count p.rate) ∷ (codes "to", count p.until) ∷ [])
 
 abbrev pub regulation_data : OpenRegulation → Data
 regulation_data r = object_of (

@@ -2,15 +2,14 @@
 
 ghost use Rattle.std.specs.Prelude.{◌≡◌, ◌+◌, ◌<◌, ◌^◌, length, IfOk, string_bytes};
 ghost use Rattle.jiff.specs.Words.{date_text};
-ghost use Rattle.casa_wire.specs.LineTexts.{list_data};
 ghost use Rattle.casa_look.specs.DayText.{day_text, planned_data};
 
-use crate::array::{Json, push_array};
 use crate::flight::push_plan;
 use crate::since::push_since;
 use crate::state::{OpenRegulation, push_state};
 use casa_flight::{Call, FlightReply, ListReply, Plan, Reply, SharedSlice};
 use casa_history::SharedEntry;
+use casa_json::{Json, push_array};
 use casa_time::Moment;
 use casa_wire::{Part, push_flight, push_list, push_parts, push_text};
 use jiff::civil::Date;
@@ -87,21 +86,12 @@ fn date_text(alloc: Global, day: Date) -> Result<String, AllocError>
 impl Json for PlannedFlight {
     ghost value = { planned_data };
 
-    fn push(&self, out: &mut Vec<u8>) -> Result<(), AllocError> {
+    fn push_json(&self, out: &mut Vec<u8>) -> Result<(), AllocError> {
         push_text(out, b"{\"flight\":")?;
         push_flight(out, &self.flight)?;
         push_text(out, b",\"plan\":")?;
         push_plan(out, &self.plan.key(), &self.plan)?;
         push_text(out, b"}")?;
-        Ok(())
-    }
-}
-
-impl Json for ListReply {
-    ghost value = { list_data };
-
-    fn push(&self, out: &mut Vec<u8>) -> Result<(), AllocError> {
-        push_list(out, self)?;
         Ok(())
     }
 }

@@ -1,22 +1,24 @@
-//! A flight: its plan, how it stands, and why it waits.
+//! A flight: its plan, how it stands, why it waits, and with which flights it could exchange its slot.
 
-ghost use Rattle.std.specs.Prelude.{◌≡◌, ◌++◌, IfOk, OnOk, Some};
+ghost use Rattle.std.specs.Prelude.{◌≡◌, ◌++◌, IfOk, OnOk};
 ghost use Rattle.serde_json.specs.Data.{string};
 ghost use Rattle.serde_json.specs.Written.{compact_text};
 ghost use Rattle.casa_wire.specs.LineTexts.{or_null};
 ghost use Rattle.casa_wire.specs.Parts.{part_text};
-ghost use Rattle.casa_look.specs.FlightText.{crossing_data, flight_text, holder_text, holding_data, offer_data, plan_data, rule_name, status_name};
+ghost use Rattle.casa_look.specs.FlightText.{flight_text, plan_data, status_name};
 
-use crate::array::{Json, push_array};
-use casa_flight::{Crossing, Key, Offer, Plan, Stance, Sts};
-use casa_inquiry::{Holding, Reasons, Rule};
-use casa_list::Member;
-use casa_wire::{Part, kind_name, push_flight, push_parts, push_text};
+use casa_flight::{Key, Plan, Sts};
+use casa_inquiry::{PossibleExchange, Reasons};
+use casa_json::{push_array, rule_name};
+use casa_wire::{Part, push_flight, push_parts, push_text};
 use std::alloc::{AllocError, Global};
 
-/// A flight with this plan after so many calls, and why it stands as it does.
+/// A flight with this plan after so many calls, why it stands as it does, and the exchanges of its slot that are possible then.
 ///
 /// An object with
+/// - `exchanges`, an object for each flight with which it could exchange its slot: the calculated take-off time that the
+///   flight itself would then have (`ctot`), the key of the other one (`other`), and the time that the other would then have
+///   (`other_ctot`);
 /// - `flight`, the flight as a reply has it;
 /// - `holdings`, an object for each slot that it waits for and each flight that has it: where the slot begins (`begin`), the
 ///   flight's estimated time over (`eto`), its `key`, how it stands (`kind`, as in a list), and the slot's number (`slot`).
@@ -33,11 +35,15 @@ pub fn flight_text(
     calls: usize,
     plan: &Plan,
     why: &Reasons,
+    exchanges: &[PossibleExchange],
 ) -> Result<Vec<u8>, AllocError>
-    ensures { IfOk result (λ text. text.items ≡ flight_text calls plan.now why.now) }
+    ensures { IfOk result (λ text. text.items
+        ≡ flight_text calls plan.now why.now exchanges.now) }
 {
     let mut text = Vec::new(alloc);
-    push_text(&mut text, b"{\"flight\":")?;
+    push_text(&mut text, b"{\"exchanges\":")?;
+    push_array(&mut text, exchanges)?;
+    push_text(&mut text, b",\"flight\":")?;
     push_flight(&mut text, &why.flight)?;
     push_text(&mut text, b",\"holdings\":")?;
     push_array(&mut text, why.holdings.as_slice())?;
@@ -100,112 +106,4 @@ fn status_or_null(status: Sts) -> Part<'static>
         Sts::Ffr => Part::Name(b"FFR"),
         Sts::Atfmx => Part::Name(b"ATFMX"),
     }
-}
-
-/// The name of a rule.
-fn rule_name(rule: Rule) -> &'static str
-    ensures { result.now ≡ rule_name rule }
-{
-    match rule {
-        Rule::GreatestDelay => "GreatestDelay",
-        Rule::SmallestId => "SmallestId",
-        Rule::SinceEntry => "SinceEntry",
-        Rule::GovernedGone => "GovernedGone",
-        Rule::Exempt => "Exempt",
-        Rule::Gone => "Gone",
-        Rule::Outside => "Outside",
-    }
-}
-
-impl Json for Crossing {
-    ghost value = { crossing_data };
-
-    fn push(&self, out: &mut Vec<u8>) -> Result<(), AllocError> {
-        push_parts(
-            out,
-            &[
-                Part::Text(b"{\"eto\":"),
-                Part::Number(self.eto.secs() as u64),
-                Part::Text(b",\"loc\":"),
-                Part::Name(self.loc.as_bytes()),
-                Part::Text(b"}"),
-            ],
-        )?;
-        Ok(())
-    }
-}
-
-impl Json for Offer {
-    ghost value = { offer_data };
-
-    fn push(&self, out: &mut Vec<u8>) -> Result<(), AllocError> {
-        let id = self.id();
-        push_parts(
-            out,
-            &[
-                Part::Text(b"{\"cto\":"),
-                Part::Number(self.cto().secs() as u64),
-                Part::Text(b",\"delay\":"),
-                Part::Number(self.delay() as u64),
-                Part::Text(b",\"reg\":"),
-                Part::Name(id.as_bytes()),
-                Part::Text(b"}"),
-            ],
-        )?;
-        Ok(())
-    }
-}
-
-impl Json for Holding {
-    ghost value = { holding_data };
-
-    fn push(&self, out: &mut Vec<u8>) -> Result<(), AllocError> {
-        push_parts(
-            out,
-            &[
-                Part::Text(b"{\"begin\":"),
-                Part::Number(self.begin.secs() as u64),
-            ],
-        )?;
-        push_holder(out, &self.holder)?;
-        push_parts(
-            out,
-            &[
-                Part::Text(b",\"slot\":"),
-                Part::Number(self.slot as u64),
-                Part::Text(b"}"),
-            ],
-        )?;
-        Ok(())
-    }
-}
-
-/// Writes the members of a slot that tell who has it.
-fn push_holder(out: &mut Vec<u8>, holder: &Option<Member>) -> Result<(), AllocError>
-    ensures { OnOk result (out.new.items ≡ out.old.items ++ holder_text holder.now) }
-{
-    match holder {
-        None => push_text(out, b",\"eto\":null,\"key\":null,\"kind\":null")?,
-        Some(member) => push_member(out, &member.key(), &member.stance())?,
-    }
-    Ok(())
-}
-
-/// Writes these members where the flight with this key has the slot, and stands so.
-fn push_member(out: &mut Vec<u8>, key: &Key, stance: &Stance) -> Result<(), AllocError>
-    ensures { OnOk result (out.new.items
-        ≡ out.old.items ++ holder_text (Some (key.now, stance.now))) }
-{
-    push_parts(
-        out,
-        &[
-            Part::Text(b",\"eto\":"),
-            Part::Number(stance.eto().secs() as u64),
-            Part::Text(b",\"key\":"),
-            Part::Name(key.as_bytes()),
-            Part::Text(b",\"kind\":"),
-            Part::Name(kind_name(stance.kind()).as_bytes()),
-        ],
-    )?;
-    Ok(())
 }

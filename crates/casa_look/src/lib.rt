@@ -4,7 +4,6 @@
 //! Each is a text in compact form that is made whole, with the members in the byte order of their names and no line end.
 #![tactic(auto)]
 
-mod array;
 mod day;
 mod flight;
 mod laws;

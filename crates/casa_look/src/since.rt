@@ -6,9 +6,9 @@ ghost use Rattle.casa_wire.specs.LineTexts.{count, or_null};
 ghost use Rattle.casa_wire.specs.Parts.{part_text};
 ghost use Rattle.casa_look.specs.SinceText.{clock_set, news_behind, news_data, news_of, since_text};
 
-use crate::array::{Json, push_array};
 use casa_flight::{Call, Messages, Reply};
 use casa_history::{Entry, SharedEntry};
+use casa_json::{Json, push_array};
 use casa_time::Moment;
 use casa_wire::{Part, push_messages, push_parts, push_text};
 use std::alloc::{AllocError, Global};
@@ -125,7 +125,7 @@ fn news_behind(
 impl Json for News {
     ghost value = { news_data };
 
-    fn push(&self, out: &mut Vec<u8>) -> Result<(), AllocError> {
+    fn push_json(&self, out: &mut Vec<u8>) -> Result<(), AllocError> {
         push_parts(
             out,
             &[

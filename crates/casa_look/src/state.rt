@@ -1,23 +1,18 @@
 //! The state: the clock, and what each open regulation costs.
 
 ghost use Rattle.std.specs.Prelude.{◌≡◌, ◌++◌, IfOk, OnOk};
-ghost use Rattle.serde_json.specs.Data.{string};
-ghost use Rattle.serde_json.specs.Written.{compact_text};
-ghost use Rattle.casa_wire.specs.LineTexts.{count};
 ghost use Rattle.casa_filing.specs.declared.regulation.Regulation.{Regulation};
 ghost use Rattle.casa_flight.specs.declared.state.State.{State};
 ghost use Rattle.casa_flight.specs.Replies.{list_reply};
 ghost use Rattle.casa_inquiry.specs.Shown.{AreShownOf};
-ghost use Rattle.casa_look.specs.StateText.{open_regulation, open_regulations, period_data, regulation_data, state_text};
+ghost use Rattle.casa_look.specs.StateText.{open_regulation, open_regulations, regulation_data, state_text};
 
-use crate::array::{Json, push_array};
 use casa_flight::{ListReply, Measure, RegId, Regulation};
-use casa_grid::Period;
 use casa_inquiry::{Cost, ShownLists};
+use casa_json::{Json, push_array, push_figure, push_name};
 use casa_list::SlotList;
 use casa_time::Moment;
 use casa_wire::{Part, push_parts, push_text};
-use itoa::Buffer;
 use std::alloc::{AllocError, Global};
 
 /// Room for a state without its regulations, in bytes.
@@ -161,7 +156,7 @@ fn room_for(regulations: usize) -> usize {
 impl Json for OpenRegulation {
     ghost value = { regulation_data };
 
-    fn push(&self, out: &mut Vec<u8>) -> Result<(), AllocError> {
+    fn push_json(&self, out: &mut Vec<u8>) -> Result<(), AllocError> {
         push_figure(out, b"{\"delay\":", self.cost.delay)?;
         push_figure(out, b",\"forced\":", self.cost.forced)?;
         push_figure(out, b",\"governed\":", self.cost.governed)?;
@@ -176,43 +171,4 @@ impl Json for OpenRegulation {
         push_text(out, b"}")?;
         Ok(())
     }
-}
-
-impl Json for Period {
-    ghost value = { period_data };
-
-    fn push(&self, out: &mut Vec<u8>) -> Result<(), AllocError> {
-        push_parts(
-            out,
-            &[
-                Part::Text(b"{\"from\":"),
-                Part::Number(self.begin.secs() as u64),
-                Part::Text(b",\"rate\":"),
-                Part::Number(self.rate as u64),
-                Part::Text(b",\"to\":"),
-                Part::Number(self.until.secs() as u64),
-                Part::Text(b"}"),
-            ],
-        )?;
-        Ok(())
-    }
-}
-
-/// Writes what stands before a name, and the name in quotation marks.
-fn push_name(out: &mut Vec<u8>, before: &'static [u8], name: &[u8]) -> Result<(), AllocError>
-    ensures { OnOk result (out.new.items
-        ≡ out.old.items ++ (before.now ++ compact_text (string name.now))) }
-{
-    push_parts(out, &[Part::Text(before), Part::Name(name)])?;
-    Ok(())
-}
-
-/// Writes what stands before a number, and the number.
-fn push_figure(out: &mut Vec<u8>, before: &'static [u8], figure: u128) -> Result<(), AllocError>
-    ensures { OnOk result (out.new.items
-        ≡ out.old.items ++ (before.now ++ compact_text (count figure))) }
-{
-    let mut buffer = Buffer::new();
-    out.extend_from_slice(before)?;
-    out.extend_from_slice(buffer.format(figure).as_bytes())
 }

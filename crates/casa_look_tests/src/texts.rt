@@ -2,7 +2,7 @@
 
 use crate::session::{clock, issued, key, plan_of, played, regulation, slots};
 use casa_flight::{Offer, SharedSlice, Stance};
-use casa_inquiry::{Reasons, Rule, holdings};
+use casa_inquiry::{PossibleExchange, Reasons, Rule, holdings};
 use casa_list::SlotList;
 use casa_look::{flight_text, list_text, since_text, state_text};
 use casa_time::Moment;
@@ -83,13 +83,28 @@ fn reasons(rt: &impl Abort, alloc: Global) -> Reasons {
     }
 }
 
+/// An exchange with the flight under this key, and the calculated take-off times that both would have.
+fn exchange(rt: &impl Abort, other: &[u8], ctot: u32, other_ctot: u32) -> PossibleExchange {
+    PossibleExchange {
+        other: key(rt, other),
+        ctot,
+        other_ctot,
+    }
+}
+
 #[test]
 fn a_flight_is_shown(rt: HostRuntime) {
     let alloc = rt.alloc();
     let why = reasons(&rt, alloc);
-    let text = flight_text(alloc, 5, &plan_of(&rt, alloc), &why).expect(&rt, "memory");
+    let exchanges = [
+        exchange(&rt, b"C", 30_840, 31_200),
+        exchange(&rt, b"D", 30_960, 32_100),
+    ];
+    let plan = plan_of(&rt, alloc);
+    let text = flight_text(alloc, 5, &plan, &why, &exchanges).expect(&rt, "memory");
     let wanted = concat!(
-        r#"{"flight":{"ctot":30710,"delay":110,"eobt":30000,"etot":30600,"exempt":false,"issued":true,"key":"A","#,
+        r#"{"exchanges":[{"ctot":30840,"other":"C","other_ctot":31200},{"ctot":30960,"other":"D","other_ctot":32100}],"#,
+        r#""flight":{"ctot":30710,"delay":110,"eobt":30000,"etot":30600,"exempt":false,"issued":true,"key":"A","#,
         r#""reg":"R1"},"holdings":[{"begin":36000,"eto":36005,"key":"B","kind":"pre","slot":0},"#,
         r#"{"begin":36120,"eto":null,"key":null,"kind":null,"slot":1},"#,
         r#"{"begin":36240,"eto":36010,"key":"A","kind":"issued","slot":2}],"n":5,"#,

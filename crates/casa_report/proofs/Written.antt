@@ -1,6 +1,6 @@
 -- JSON texts, part by part
-use Rattle.std.proofs.Common.{◌≡◌, List, ◌++◌, append_assoc, append-nil, refl}
-use Rattle.std.specs.Prelude.{ℕ, [], codes}
+use Rattle.std.proofs.Common.{◌≡◌, List, ◌++◌, append_assoc, refl}
+use Rattle.std.specs.Prelude.{ℕ, codes}
 use Rattle.serde_json.specs.Data.{string}
 use Rattle.serde_json.specs.Written.{compact_text}
 use Rattle.serde_json.proofs.OnLiterals.{serde_json_on_literals}
@@ -8,14 +8,16 @@ use Rattle.jiff_core.specs.declared.civil.date.Date.{Date}
 use Rattle.casa_filing.specs.Text.{Text}
 use Rattle.casa_flight.specs.declared.reply.ListReply.{ListReply}
 use Rattle.casa_inquiry.specs.declared.load.Step.{Step}
-use Rattle.casa_inquiry.specs.declared.why.Holding.{Holding}
+use Rattle.casa_inquiry.specs.declared.exchanging.PossibleExchange.{PossibleExchange}
 use Rattle.casa_inquiry.specs.declared.why.Reasons.{Reasons}
 use Rattle.casa_inquiry.specs.Summary.{cost_of, mean_delay}
+use Rattle.casa_json.specs.Flights.{exchange_data, holding_data, offer_data, rule_name}
+use Rattle.casa_json.specs.Lists.{report_row_data, step_data}
 use Rattle.casa_wire.specs.LineTexts.{count, flight_data, line_of, list_data, list_of, or_null}
 use Rattle.casa_selection.specs.declared.rows.ReportRow.{ReportRow}
-use Rattle.casa_report.specs.Json.{cost_data, day_data, load_json, report_json, report_row_data, reports_json, rows_json, step_data, summary_json}
+use Rattle.casa_report.specs.Json.{cost_data, day_data, load_json, report_json, reports_json, rows_json, summary_json}
 use Rattle.casa_report.specs.Messages.{cancellation_data, slot_message_data}
-use Rattle.casa_report.specs.WhyJson.{holder_members, holding_data, offer_data, rule_name, why_data}
+use Rattle.casa_report.specs.WhyJson.{why_data}
 
 pub whole_report : (day : Date) (reg : Text) (list : ListReply)
     → (codes "{\"day\":" ++ compact_text (day_data day))
@@ -74,15 +76,10 @@ pub cost_text : (l : ListReply)
 unfolding serde_json_on_literals
 cost_text l = refl
 
-pub holding_text : (h : Holding)
-    → (codes "{\"begin\":" ++ (compact_text (count h.begin) ++ []))
-    ++ (holder_members h.holder ++ (codes ",\"slot\":" ++ (compact_text (count h.slot) ++ codes "}"))) ≡ compact_text (holding_data h)
-unfolding serde_json_on_literals
-holding_text h = simp (append_assoc, append-nil) refl
-
-pub reasons_text : (day : Date) (why : Reasons)
+pub reasons_text : (day : Date) (why : Reasons) (exchanges : List PossibleExchange)
     → (codes "{\"day\":" ++ compact_text (day_data day))
-    ++ (codes ",\"flight\":" ++ (compact_text (flight_data why.flight) ++ (codes ",\"holdings\":" ++ (compact_text (list_of holding_data why.holdings)
-    ++ (codes ",\"offers\":" ++ (compact_text (list_of offer_data why.offers) ++ (codes ",\"rule\":" ++ (compact_text (string (rule_name why.rule)) ++ codes "}")))))))) ≡ compact_text (why_data day why)
+    ++ (codes ",\"exchanges\":" ++ (compact_text (list_of exchange_data exchanges) ++ (codes ",\"flight\":" ++ (compact_text (flight_data why.flight)
+    ++ (codes ",\"holdings\":" ++ (compact_text (list_of holding_data why.holdings) ++ (codes ",\"offers\":" ++ (compact_text (list_of offer_data why.offers)
+    ++ (codes ",\"rule\":" ++ (compact_text (string (rule_name why.rule)) ++ codes "}")))))))))) ≡ compact_text (why_data day why exchanges)
 unfolding serde_json_on_literals
-reasons_text day why = simp append_assoc refl
+reasons_text day why exchanges = simp append_assoc refl

@@ -7,9 +7,9 @@ use Rattle.casa_filing.specs.Text.{Text}
 use Rattle.casa_flight.specs.declared.reply.ListReply.{ListReply}
 use Rattle.casa_inquiry.specs.declared.load.Step.{Step}
 use Rattle.casa_inquiry.specs.Summary.{cost_of, mean_delay}
-use Rattle.casa_wire.specs.LineTexts.{count, kind_name, line_of, list_data, list_of, object_of, or_null}
+use Rattle.casa_wire.specs.LineTexts.{count, line_of, list_data, list_of, object_of, or_null}
+use Rattle.casa_json.specs.Lists.{report_row_data, step_data}
 use Rattle.casa_selection.specs.declared.rows.ReportRow.{ReportRow}
-use Rattle.casa_selection.specs.Rows.{delay_in_list}
 
 -- a day, as "2025-06-01"
 abbrev pub day_data : Date → Data
@@ -24,28 +24,9 @@ report_data day reg list = object_of (
 abbrev pub reports_data : Date → List ListReply → Data
 reports_data day lists = object_of ((codes "day", day_data day) ∷ (codes "lists", list_of list_data lists) ∷ [])
 
--- a row as a list has it, with its delay and its regulation
-abbrev pub report_row_data : ReportRow → Data
-report_row_data r = object_of (
-    (codes "cto", count r.row.cto) ∷
-    (codes "delay", count (delay_in_list r.row)) ∷
-    (codes "eto", count r.row.eto) ∷
-    (codes "key", string r.row.key) ∷
-    (codes "kind", string (kind_name r.row.kind)) ∷
-    (codes "reg", string r.reg) ∷
-    (codes "slot", or_null count r.row.slot) ∷ [])
-
 -- rows of whichever lists, in their order
 abbrev pub rows_data : Date → List ReportRow → Data
 rows_data day rows = object_of ((codes "day", day_data day) ∷ (codes "rows", list_of report_row_data rows) ∷ [])
-
-abbrev pub step_data : Step → Data
-step_data s = object_of (
-    (codes "calculated", count s.calculated) ∷
-    (codes "from", count s.span.from) ∷
-    (codes "planned", count s.planned) ∷
-    (codes "slots", count s.slots) ∷
-    (codes "to", or_null count s.span.until) ∷ [])
 
 abbrev pub load_data : Date → Text → List Step → Data
 load_data day reg steps = object_of (

@@ -1,67 +1,24 @@
--- to believe: why a flight waits, as JSON
-use Rattle.std.specs.Prelude.{ℕ, [], ◌∷◌, ◌++◌, Option, codes}
-use Rattle.std.specs.Option.{option_map}
+-- to believe: why a flight waits, and with which flights it could exchange its slot, as JSON
+use Rattle.std.specs.Prelude.{List, [], ◌∷◌, codes}
 use Rattle.serde_json.specs.Data.{Data, string}
-use Rattle.serde_json.specs.Written.{compact_text}
 use Rattle.jiff_core.specs.declared.civil.date.Date.{Date}
 use Rattle.casa_filing.specs.Text.{Text}
-use Rattle.casa_flight.specs.declared.row.Stance.{Stance}
-use Rattle.casa_flight.specs.Entry.{Offer}
-use Rattle.casa_flight.specs.Listing.{eto_as}
-use Rattle.casa_flight.specs.Replies.{kind_of}
-use Rattle.casa_inquiry.specs.declared.why.Holding.{Holding}
+use Rattle.casa_inquiry.specs.declared.exchanging.PossibleExchange.{PossibleExchange}
 use Rattle.casa_inquiry.specs.declared.why.Reasons.{Reasons}
-use Rattle.casa_inquiry.specs.declared.why.Rule.{Rule}
-use Rattle.casa_inquiry.specs.declared.why.Rule.TheVariants.{GreatestDelay, SmallestId, SinceEntry, GovernedGone, Exempt, Gone, Outside}
-use Rattle.casa_wire.specs.LineTexts.{count, flight_data, kind_name, line_of, list_of, object_of, or_null}
+use Rattle.casa_json.specs.Flights.{exchange_data, holding_data, offer_data, rule_name}
+use Rattle.casa_wire.specs.LineTexts.{flight_data, line_of, list_of, object_of}
 use Rattle.casa_report.specs.Json.{day_data}
 
--- the rule by which a regulation governs it, or none does
-abbrev pub rule_name : Rule → Text
-rule_name GreatestDelay = codes "GreatestDelay"
-rule_name SmallestId = codes "SmallestId"
-rule_name SinceEntry = codes "SinceEntry"
-rule_name GovernedGone = codes "GovernedGone"
-rule_name Exempt = codes "Exempt"
-rule_name Gone = codes "Gone"
-rule_name Outside = codes "Outside"
-
--- what a regulation would offer it
-abbrev pub offer_data : Offer → Data
-offer_data o = object_of ((codes "cto", count o.cto) ∷ (codes "delay", count o.delay) ∷ (codes "reg", string o.id) ∷ [])
-
-abbrev pub eto_in : Option (Text × Stance) → Option ℕ
-eto_in holder = option_map (λ (e : Text × Stance). eto_as e.1) holder
-
-abbrev pub key_in : Option (Text × Stance) → Option Text
-key_in holder = option_map (λ (e : Text × Stance). e.0) holder
-
-abbrev pub kind_in : Option (Text × Stance) → Option Text
-kind_in holder = option_map (λ (e : Text × Stance). kind_name (kind_of e.1)) holder
-
--- a slot that it waits for, with a flight that has it, if there is one
-abbrev pub holding_data : Holding → Data
-holding_data h = object_of (
-    (codes "begin", count h.begin) ∷
-    (codes "eto", or_null count (eto_in h.holder)) ∷
-    (codes "key", or_null string (key_in h.holder)) ∷
-    (codes "kind", or_null string (kind_in h.holder)) ∷
-    (codes "slot", count h.slot) ∷ [])
-
--- inner: the members of a slot that tell who has it
-abbrev pub holder_members : Option (Text × Stance) → Text
-holder_members holder =
-    codes ",\"eto\":" ++ (compact_text (or_null count (eto_in holder)) ++ (codes ",\"key\":" ++ (compact_text (or_null string (key_in holder))
-    ++ (codes ",\"kind\":" ++ compact_text (or_null string (kind_in holder))))))
-
--- the flight as a reply has it, the slots that it waits for, what each regulation offers it, and the rule
-abbrev pub why_data : Date → Reasons → Data
-why_data day why = object_of (
+-- the exchanges that are possible, the flight as a reply has it, the slots that it waits for, what each regulation offers it,
+-- and the rule
+abbrev pub why_data : Date → Reasons → List PossibleExchange → Data
+why_data day why exchanges = object_of (
     (codes "day", day_data day) ∷
+    (codes "exchanges", list_of exchange_data exchanges) ∷
     (codes "flight", flight_data why.flight) ∷
     (codes "holdings", list_of holding_data why.holdings) ∷
     (codes "offers", list_of offer_data why.offers) ∷
     (codes "rule", string (rule_name why.rule)) ∷ [])
 
-abbrev pub why_json : Date → Reasons → Text
-why_json day why = line_of (why_data day why)
+abbrev pub why_json : Date → Reasons → List PossibleExchange → Text
+why_json day why exchanges = line_of (why_data day why exchanges)

@@ -1,4 +1,4 @@
--- to believe: why a flight waits, as a text
+-- to believe: why a flight waits, and with which flights it could exchange its slot, as a text
 use Rattle.std.specs.Prelude.{List, [], ◌∷◌, ◌++◌, length, ◌==◌, Bool, true, false, codes, decimal, Option, unwrap_or, if◌then◌else◌}
 use Rattle.std.specs.List.{flat_map}
 use Rattle.std.specs.Option.{option_map_or}
@@ -10,6 +10,7 @@ use Rattle.casa_flight.specs.declared.row.Stance.TheVariants.{Competing, Issued,
 use Rattle.casa_filing.specs.Text.{Text}
 use Rattle.casa_flight.specs.Listing.{eto_as}
 use Rattle.casa_flight.specs.Entry.{Offer}
+use Rattle.casa_inquiry.specs.declared.exchanging.PossibleExchange.{PossibleExchange}
 use Rattle.casa_inquiry.specs.declared.why.Reasons.{Reasons}
 use Rattle.casa_inquiry.specs.declared.why.Holding.{Holding}
 use Rattle.casa_inquiry.specs.declared.why.Rule.{Rule}
@@ -84,13 +85,21 @@ holding_columns =
 abbrev pub holder_text : Option (Text × Stance) → Text
 holder_text holder = left 10 (key_in holder) ++ 32 ∷ (left 4 (eto_in holder) ++ 32 ∷ (left 0 (stance_in holder) ++ 10 ∷ []))
 
+-- the flights with which it could exchange its slot, with the calculated take-off times that it and the other would then have
+abbrev pub exchange_columns : List (Column PossibleExchange)
+exchange_columns =
+    record { title = codes "EXCHANGE"; place = left 10; shown = λ exchange. exchange.other } ∷
+    record { title = codes "CTOT"; place = left 4; shown = λ exchange. hhmm exchange.ctot } ∷
+    record { title = codes "ITS CTOT"; place = left 0; shown = λ exchange. hhmm exchange.other_ctot } ∷ []
+
 -- an empty line, the titles and a line for each of these; nothing where there are none
 abbrev pub section : {X : Type 0} → List (Column X) → List X → Text
 section columns xs = if length xs == 0 then [] else 10 ∷ titles columns ++ flat_map (shown_line columns) xs
 
--- the heading with the flight and the day, the flight as it stands, the rule by which it is governed, the offers, and the
--- slots that it waits for
-abbrev pub why_text : Date → Reasons → Text
-why_text day why =
+-- the heading with the flight and the day, the flight as it stands, the rule by which it is governed, the offers, the slots
+-- that it waits for, and the exchanges that are possible
+abbrev pub why_text : Date → Reasons → List PossibleExchange → Text
+why_text day why exchanges =
     heading_line why.flight.key day ++ titles flight_columns ++ shown_line flight_columns why.flight
     ++ rule_line why.flight.reg why.rule ++ section offer_columns why.offers ++ section holding_columns why.holdings
+    ++ section exchange_columns exchanges

@@ -1,15 +1,16 @@
 //! What each regulation costs, as JSON.
 
 ghost use Rattle.std.specs.Prelude.{◌≡◌, ◌++◌, IfOk, OnOk, codes};
-ghost use Rattle.serde_json.specs.Data.{string};
 ghost use Rattle.serde_json.specs.Written.{compact_text};
-ghost use Rattle.casa_wire.specs.LineTexts.{count, or_null};
+ghost use Rattle.casa_wire.specs.LineTexts.{count, list_of, or_null};
+ghost use Rattle.casa_wire.specs.Parts.{more_text};
 ghost use Rattle.casa_report.specs.Json.{cost_data, summary_json};
 
-use crate::json::{Json, push_array, push_day, push_figure};
+use crate::json::push_day;
 use casa_flight::ListReply;
 use casa_inquiry::Cost;
-use casa_wire::{Part, push_parts, push_text};
+use casa_json::{push_figure, push_name};
+use casa_wire::push_text;
 use jiff::civil::Date;
 use std::alloc::{AllocError, Global};
 
@@ -25,31 +26,57 @@ pub fn summary_json(alloc: Global, day: Date, lists: &[ListReply]) -> Result<Vec
     let mut text = Vec::new(alloc);
     push_day(alloc, &mut text, day)?;
     push_text(&mut text, b",\"regs\":")?;
-    push_array(&mut text, lists)?;
+    push_costs(&mut text, lists)?;
     push_text(&mut text, b"}\n")?;
     Ok(text)
 }
 
-impl Json for ListReply {
-    ghost value = { cost_data };
+/// Appends an array of what these regulations cost.
+fn push_costs(out: &mut Vec<u8>, lists: &[ListReply]) -> Result<(), AllocError>
+    ensures { OnOk result (out.new.items
+        ≡ out.old.items ++ compact_text (list_of cost_data lists.now)) }
+{
+    let Some((first, rest)) = lists.split_first() else {
+        push_text(out, b"[]")?;
+        return Ok(());
+    };
+    push_text(out, b"[")?;
+    push_cost(out, first)?;
+    push_more_costs(out, rest)?;
+    push_text(out, b"]")?;
+    Ok(())
+}
 
-    fn push_json(&self, out: &mut Vec<u8>) -> Result<(), AllocError> {
-        let cost = Cost::of(self);
-        push_figure(out, b"{\"delay\":", cost.delay)?;
-        push_figure(out, b",\"forced\":", cost.forced)?;
-        push_figure(out, b",\"from\":", self.start.secs() as u128)?;
-        push_figure(out, b",\"governed\":", cost.governed)?;
-        push_figure(out, b",\"issued\":", cost.issued)?;
-        push_name(out, b",\"loc\":", self.loc.as_bytes())?;
-        push_figure(out, b",\"longest\":", cost.longest as u128)?;
-        push_mean(out, cost.mean())?;
-        push_figure(out, b",\"over\":", cost.over)?;
-        push_name(out, b",\"reg\":", self.reg.as_bytes())?;
-        push_figure(out, b",\"slots\":", cost.slots)?;
-        push_figure(out, b",\"to\":", self.end.secs() as u128)?;
-        push_text(out, b"}")?;
-        Ok(())
+/// Appends what these cost, each behind a comma.
+fn push_more_costs(out: &mut Vec<u8>, lists: &[ListReply]) -> Result<(), AllocError>
+    ensures { OnOk result (out.new.items ≡ out.old.items ++ more_text cost_data lists.now) }
+{
+    for list in lists {
+        push_text(out, b",")?;
+        push_cost(out, list)?;
     }
+    Ok(())
+}
+
+/// Appends what a regulation costs.
+fn push_cost(out: &mut Vec<u8>, list: &ListReply) -> Result<(), AllocError>
+    ensures { OnOk result (out.new.items ≡ out.old.items ++ compact_text (cost_data list.now)) }
+{
+    let cost = Cost::of(list);
+    push_figure(out, b"{\"delay\":", cost.delay)?;
+    push_figure(out, b",\"forced\":", cost.forced)?;
+    push_figure(out, b",\"from\":", list.start.secs() as u128)?;
+    push_figure(out, b",\"governed\":", cost.governed)?;
+    push_figure(out, b",\"issued\":", cost.issued)?;
+    push_name(out, b",\"loc\":", list.loc.as_bytes())?;
+    push_figure(out, b",\"longest\":", cost.longest as u128)?;
+    push_mean(out, cost.mean())?;
+    push_figure(out, b",\"over\":", cost.over)?;
+    push_name(out, b",\"reg\":", list.reg.as_bytes())?;
+    push_figure(out, b",\"slots\":", cost.slots)?;
+    push_figure(out, b",\"to\":", list.end.secs() as u128)?;
+    push_text(out, b"}")?;
+    Ok(())
 }
 
 /// Appends the mean delay as a member, null where there is none. `AllocError` where there is no memory for it; some of it may
@@ -62,14 +89,5 @@ pub fn push_mean(out: &mut Vec<u8>, mean: Option<u128>) -> Result<(), AllocError
         Some(mean) => push_figure(out, b",\"mean\":", mean)?,
         None => push_text(out, b",\"mean\":null")?,
     }
-    Ok(())
-}
-
-/// Appends what stands before a name, and the name in quotation marks.
-fn push_name(out: &mut Vec<u8>, before: &'static [u8], name: &[u8]) -> Result<(), AllocError>
-    ensures { OnOk result (out.new.items
-        ≡ out.old.items ++ (before.now ++ compact_text (string name.now))) }
-{
-    push_parts(out, &[Part::Text(before), Part::Name(name)])?;
     Ok(())
 }

@@ -1,64 +1,13 @@
-//! JSON: objects and arrays, written behind the bytes of a vector.
+//! JSON: the beginning of an object, with the day.
 
-ghost use Rattle.std.specs.Prelude.{◌≡◌, ◌∷◌, ◌++◌, OnOk, codes};
-ghost use Rattle.serde_json.specs.Data.{Data};
+ghost use Rattle.std.specs.Prelude.{◌≡◌, ◌++◌, OnOk, codes};
 ghost use Rattle.serde_json.specs.Written.{compact_text};
-ghost use Rattle.casa_wire.specs.LineTexts.{count, list_of};
-ghost use Rattle.casa_wire.specs.Parts.{more_text};
 ghost use Rattle.casa_report.specs.Json.{day_data};
 
 use crate::moments::date_text;
-use casa_wire::{Part, push_parts, push_text};
-use itoa::Buffer;
+use casa_wire::{Part, push_parts};
 use jiff::civil::Date;
 use std::alloc::{AllocError, Global};
-
-/// What is written as JSON.
-pub(crate) trait Json {
-    ghost use Rattle.std.specs.Prelude.{◌≡◌, ◌++◌, OnOk};
-    ghost use Rattle.serde_json.specs.Data.{Data};
-    ghost use Rattle.serde_json.specs.Written.{compact_text};
-
-    /// Its value.
-    ghost value: { Self → Data };
-
-    /// Appends it. `AllocError` where there is no memory for it; some of it may then stand there.
-    fn push_json(&self, out: &mut Vec<u8>) -> Result<(), AllocError>
-        ensures { OnOk result (out.new.items ≡ out.old.items ++ compact_text (value self.now)) };
-}
-
-/// Appends an array of these. `AllocError` where there is no memory for it; some of it may then stand there.
-pub(crate) fn push_array<T: Json>(out: &mut Vec<u8>, items: &[T]) -> Result<(), AllocError>
-    ensures { OnOk result (out.new.items
-        ≡ out.old.items ++ compact_text (list_of T.value items.now)) }
-{
-    let Some((first, rest)) = items.split_first() else {
-        push_text(out, b"[]")?;
-        return Ok(());
-    };
-    push_text(out, b"[")?;
-    first.push_json(out)?;
-    push_more(out, rest)?;
-    push_text(out, b"]")?;
-    Ok(())
-}
-
-/// Appends these, each behind a comma.
-fn push_more<T: Json>(out: &mut Vec<u8>, items: &[T]) -> Result<(), AllocError>
-    ensures { OnOk result (out.new.items ≡ out.old.items ++ more_text T.value items.now) }
-{
-    for item in items {
-        push_behind_comma(out, item)?;
-    }
-    Ok(())
-}
-
-fn push_behind_comma<T: Json>(out: &mut Vec<u8>, item: &T) -> Result<(), AllocError>
-    ensures { OnOk result (out.new.items ≡ out.old.items ++ (44 ∷ compact_text (T.value item.now))) }
-{
-    push_text(out, b",")?;
-    item.push_json(out)
-}
 
 /// Appends the beginning of an object, with the day as its first member.
 ///
@@ -73,15 +22,4 @@ pub(crate) fn push_day(alloc: Global, out: &mut Vec<u8>, day: Date) -> Result<()
         &[Part::Text(b"{\"day\":"), Part::Name(text.as_bytes())],
     )?;
     Ok(())
-}
-
-/// Appends what stands before a number, and the number. `AllocError` where there is no memory for it; some of it may then
-/// stand there.
-pub fn push_figure(out: &mut Vec<u8>, before: &'static [u8], figure: u128) -> Result<(), AllocError>
-    ensures { OnOk result (out.new.items
-        ≡ out.old.items ++ (before.now ++ compact_text (count figure))) }
-{
-    let mut buffer = Buffer::new();
-    out.extend_from_slice(before)?;
-    out.extend_from_slice(buffer.format(figure).as_bytes())
 }

@@ -31,7 +31,6 @@ pub use costs_csv::summary_csv;
 pub use costs_json::{push_mean, summary_json};
 pub use csv::{Value, number_or_absent, push_values};
 pub use holdings_csv::why_csv;
-pub use json::push_figure;
 pub use laws::csv_is_read_back;
 pub use list_csv::report_csv;
 pub use list_json::{load_json, report_json, reports_json, rows_json};

@@ -1,16 +1,16 @@
-//! Why a flight waits, as a text.
+//! Why a flight waits, and with which flights it could exchange its slot, as a text.
 
 ghost use Rattle.std.specs.Prelude.{◌≡◌, ◌+◌, ◌≤◌, ◌++◌, IfOk, OnOk, Some, length};
 ghost use Rattle.arrayvec.specs.ArrayVec.{array_vec_len};
 ghost use Rattle.casa_report.specs.Columns.{shown_line};
-ghost use Rattle.casa_report.specs.WhyText.{flight_columns, holder_text, holding_columns, offer_columns};
+ghost use Rattle.casa_report.specs.WhyText.{exchange_columns, flight_columns, holder_text, holding_columns, offer_columns};
 ghost use Rattle.casa_report.specs.WhyText.{rule_line, rule_text, section, stance_text, why_text, yes_or_no};
 
 use crate::columns::{push_left, push_name, push_number, push_text, push_time};
 use crate::heading_line::heading_line;
 use arrayvec::ArrayVec;
 use casa_flight::{FlightReply, Offer, RegId, Stance};
-use casa_inquiry::{Holding, Reasons, Rule};
+use casa_inquiry::{Holding, PossibleExchange, Reasons, Rule};
 use casa_list::Member;
 use casa_time::hhmm;
 use jiff::civil::Date;
@@ -25,16 +25,25 @@ const OFFERS: &[u8] = b"\nREG        CTO   DELAY\n";
 /// The titles above the slots.
 const HOLDINGS: &[u8] = b"\n SLOT BEGIN KEY        ETO  HELD\n";
 
+/// The titles above the exchanges.
+const EXCHANGES: &[u8] = b"\nEXCHANGE   CTOT ITS CTOT\n";
+
 /// A line; none is longer.
 type Line = ArrayVec<u8, 120>;
 
 /// Why a flight waits, as a text: a heading with its key and the day, the flight as it stands, the rule by which a regulation
-/// governs it, what each regulation offers it, and who holds each slot from the one that it asks for to the one that it
-/// has. Times are hours and minutes, delays seconds.
+/// governs it, what each regulation offers it, who holds each slot from the one that it asks for to the one that it
+/// has, and with which flights it could exchange its slot: the other's key, the calculated take-off time that the flight itself
+/// would then have, and the one that the other would have. Times are hours and minutes, delays seconds.
 ///
 /// `AllocError` where there is no memory for it.
-pub fn why_text(alloc: Global, day: Date, why: &Reasons) -> Result<Vec<u8>, AllocError>
-    ensures { IfOk result (λ text. text.items ≡ why_text day why.now) }
+pub fn why_text(
+    alloc: Global,
+    day: Date,
+    why: &Reasons,
+    exchanges: &[PossibleExchange],
+) -> Result<Vec<u8>, AllocError>
+    ensures { IfOk result (λ text. text.items ≡ why_text day why.now exchanges.now) }
 {
     let mut text = Vec::new(alloc);
     let heading = heading_line(alloc, day, &why.flight.key)?;
@@ -44,6 +53,7 @@ pub fn why_text(alloc: Global, day: Date, why: &Reasons) -> Result<Vec<u8>, Allo
     text.extend_from_slice(rule_line(&why.flight.reg, why.rule).as_slice())?;
     push_offers(&mut text, why.offers.as_slice())?;
     push_holdings(&mut text, why.holdings.as_slice())?;
+    push_exchanges(&mut text, exchanges)?;
     Ok(text)
 }
 
@@ -197,4 +207,30 @@ fn stance_text(stance: &Stance) -> &'static [u8]
         Stance::Issued { .. } => b"issued: fixed",
         Stance::Forced { .. } => b"forced: fixed",
     }
+}
+
+/// Appends the table of the exchanges, if there are any.
+fn push_exchanges(text: &mut Vec<u8>, exchanges: &[PossibleExchange]) -> Result<(), AllocError>
+    ensures { OnOk result (text.new.items
+        ≡ text.old.items ++ section exchange_columns exchanges.now) }
+{
+    if exchanges.is_empty() {
+        return Ok(());
+    }
+    text.extend_from_slice(EXCHANGES)?;
+    for exchange in exchanges {
+        text.extend_from_slice(exchange_line(exchange).as_slice())?;
+    }
+    Ok(())
+}
+
+/// The line of an exchange.
+fn exchange_line(exchange: &PossibleExchange) -> Line
+    ensures { result.items ≡ shown_line exchange_columns exchange.now }
+{
+    let mut line = Line::new();
+    push_name(&mut line, &exchange.other);
+    push_time(&mut line, exchange.ctot);
+    push_left(&mut line, &hhmm(exchange.other_ctot), 0, b'\n');
+    line
 }

@@ -9,4 +9,4 @@ returns c =
     rw (← whole_summary c.args.day c.args.lists.now)
     (both [] c.push_day.new.out.items end _ _ (rw c.new-text.ensures.items at c.in_ok-push_day.ensures)
     (both c.push_day.new.out.items c.push_text.new.out.items end _ _ c.in_ok-push_text.ensures
-    (both c.push_text.new.out.items c.push_array.new.out.items end _ _ c.in_ok-push_array.ensures c.in_ok-push_text-2.ensures)))
+    (both c.push_text.new.out.items c.push_costs.new.out.items end _ _ c.in_ok-push_costs.ensures c.in_ok-push_text-2.ensures)))

@@ -1,6 +1,0 @@
-use Rattle.serde_json.proofs.OnLiterals.{serde_json_on_literals}
-use Rattle.casa_look.proofs.flight.CrossingJson.push.Goals as goal
-
-pub returns : goal.returns
-unfolding serde_json_on_literals
-returns c = rw (c.secs.ensures.value, c.as_bytes.ensures) at c.in_ok-push_parts.ensures

@@ -1,7 +1,0 @@
-use Rattle.serde_json.proofs.OnLiterals.{serde_json_on_literals}
-use Rattle.casa_report.proofs.reasons_json.OfferJson.push_json.Goals as goal
-
-pub returns : goal.returns
-unfolding serde_json_on_literals
-returns c =
-    rw (c.secs.ensures.value, c.cto.ensures, c.delay.ensures.value, c.as_bytes.ensures, c.id-id.ensures) at c.in_ok-push_parts.ensures
