@@ -10,19 +10,18 @@ ghost use Rattle.casa_flight.specs.declared.call.Call.{Call};
 ghost use Rattle.casa_flight.specs.declared.reply.Reply.{Reply};
 ghost use Rattle.casa_flight.specs.Good.{IsGood};
 ghost use Rattle.casa_flight.specs.Replies.{reply};
-ghost use Rattle.casa_flight.specs.State.{row_of};
 ghost use Rattle.casa_footprint.specs.Stamps.{state_after};
 ghost use Rattle.casa_history.specs.declared.entry.Entry.{Entry};
 ghost use Rattle.casa_plan.specs.Rooms.{IsBoardAfter, IsSequential};
 ghost use Rattle.casa_view.specs.View.{IsFor, Shows};
-ghost use Rattle.casa_engine.specs.Looks.{IsLookBehind};
+ghost use Rattle.casa_engine.specs.Looks.{HasAll, IsLookBehind};
 
 use crate::counted::{CountedRoom, shared_all};
 use crate::lists::shared_lists;
 use crate::name::EngineName;
 use crate::shared::SharedRoom;
 use casa_commit::{Gate, Room, World};
-use casa_flight::{Call, Key, Regulation, Reply, Row};
+use casa_flight::{Call, Regulation, Reply};
 use casa_front::Front;
 use casa_history::SharedEntry;
 use casa_list::SharedList;
@@ -66,22 +65,27 @@ impl<K: Store, L: EngineName, G: Gate<Board<K>> + Drop> SharedRoom<Board<K>, L, 
         self.hold(rt).look(alloc, front)
     }
 
-    /// The same, with the flight that then has this key; `None` where there is none. What owns memory in the flight's row is
-    /// shared.
-    pub fn look_at<R: Wait>(
+    /// A view of all items behind the history that the front sees from then on, and how many entries that has. `AllocError`
+    /// where there is no memory for it; the front is then as it was.
+    ///
+    /// This takes some counts, whatever the number of items, and what is asked of the view is looked up without the lock.
+    pub fn view_all<R: Wait>(
         &self,
         rt: &R,
         front: &mut Front<Call, Reply, L>,
-        key: &Key,
-    ) -> Result<(Look, Option<Row>), AllocError>
-        ensures look { IfOk result (λ found. IsLookBehind front.new found.0) }
-        ensures row { IfOk result (λ found. found.1 ≡ row_of (state_after front.new) key.now) }
+    ) -> Result<(usize, View<K::Version>), AllocError>
+        ensures count { IfOk result (λ taken. taken.0 ≡ length front.new) }
+        ensures good { OnOk result (IsGood (state_after front.new)) }
+        ensures all { IfOk result (λ taken.
+            HasAll K.Version.item_of (state_after front.new) taken.1) }
         ensures sequential { OnOk result (IsSequential front.new) }
         ensures longer { OnOk result (IsPrefix front.old front.new) }
         ensures same_front { OnErr result (front.new ≡ front.old) }
     {
-        let alloc = self.alloc;
-        self.hold(rt).look_at(alloc, front, key)
+        // A move of the clock reads all items.
+        let call = Call::Tick(Moment::new(0).unwrap());
+        let taken = self.hold(rt).view_behind(front, &call)?;
+        Ok(taken)
     }
 
     /// What would be replied to a call behind the history that the front sees from then on, and how many entries that has.
@@ -141,25 +145,6 @@ impl<K: Store, L: EngineName> CountedRoom<Board<K>, L> {
         let look = look_of(alloc, self.room())?;
         self.see(front);
         Ok(look)
-    }
-
-    /// The same with a flight, as `look_at` of the engine.
-    fn look_at(
-        &mut self,
-        alloc: Global,
-        front: &mut Front<Call, Reply, L>,
-        key: &Key,
-    ) -> Result<(Look, Option<Row>), AllocError>
-        ensures look { IfOk result (λ found. IsLookBehind front.new found.0) }
-        ensures row { IfOk result (λ found. found.1 ≡ row_of (state_after front.new) key.now) }
-        ensures sequential { OnOk result (IsSequential front.new) }
-        ensures longer { OnOk result (IsPrefix front.old front.new) }
-        ensures same_front { OnErr result (front.new ≡ front.old) }
-    {
-        let look = look_of(alloc, self.room())?;
-        let row = shared_row(self.room(), key)?;
-        self.see(front);
-        Ok((look, row))
     }
 
     /// A view for a call, which shows the state behind the history that the front sees from then on, and how many entries
@@ -231,17 +216,6 @@ pub fn look_on<K: Store>(alloc: Global, calls: usize, board: &Board<K>) -> Resul
         regulations,
         lists,
     })
-}
-
-/// The flight that has a key behind a room's history. `AllocError` where what owns memory in it is shared too often to be
-/// counted.
-fn shared_row<K: Store>(room: &Room<Board<K>>, key: &Key) -> Result<Option<Row>, AllocError>
-    ensures { IfOk result (λ row. row ≡ row_of (state_after (entries_of room.now)) key.now) }
-{
-    match board_of(room).row(key) {
-        Some(row) => Ok(Some(row.clone()?)),
-        None => Ok(None),
-    }
 }
 
 /// What a call reads behind a room's history. `AllocError` where there is no memory for it.

@@ -17,6 +17,7 @@ use Rattle.casa_flight.specs.State.{measure_of, row_of}
 use Rattle.casa_footprint.specs.Stamps.{state_after}
 use Rattle.casa_history.specs.declared.entry.Entry.{Entry}
 use Rattle.casa_http.specs.Question.{Question, whole_state, list_named, flight_named, calls_behind, server_metrics, lines_tried}
+use Rattle.casa_inquiry.specs.Exchanges.{exchanges}
 use Rattle.casa_inquiry.specs.Why.{why}
 use Rattle.casa_look.specs.FlightText.{flight_text}
 use Rattle.casa_look.specs.ListText.{list_text}
@@ -43,9 +44,9 @@ list_in m id = option_map (λ (measure : Measure). list_reply m (regulation id m
 abbrev pub list_shown : ℕ → State → Text → Option Text
 list_shown calls m name = if is_name name then option_map (list_text calls) (list_in m name) else None
 
--- a flight that is filed, with why it stands as it does
+-- a flight that is filed, with why it stands as it does and with which flights it could exchange its slot now
 abbrev pub flight_in : ℕ → State → Text → Option Text
-flight_in calls m key = option_map (λ (row : Row). flight_text calls row.plan (why m key row)) (row_of m key)
+flight_in calls m key = option_map (λ (row : Row). flight_text calls row.plan (why m key row) (exchanges m key)) (row_of m key)
 
 -- and the flight that is filed under a name
 abbrev pub flight_shown : ℕ → State → Text → Option Text

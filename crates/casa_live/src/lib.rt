@@ -5,6 +5,7 @@
 //! all that it was shown and answered before.
 #![tactic(auto)]
 
+mod all_seen;
 mod answering;
 mod browser;
 mod counting;

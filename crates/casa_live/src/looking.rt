@@ -8,8 +8,9 @@ ghost use mathlib.Core.List.{IsPrefix};
 ghost use Rattle.casa_flight.specs.declared.call.Call.{Call};
 ghost use Rattle.casa_flight.specs.declared.reply.Reply.{Reply};
 ghost use Rattle.casa_history.specs.declared.entry.Entry.{Entry};
-ghost use Rattle.casa_engine.specs.Looks.{IsLookBehind};
-ghost use Rattle.casa_flight.specs.State.{row_of};
+ghost use Rattle.casa_engine.specs.Looks.{HasAll, IsLookBehind};
+ghost use Rattle.casa_flight.specs.declared.state.State.{State};
+ghost use Rattle.casa_flight.specs.Good.{IsGood};
 ghost use Rattle.casa_footprint.specs.Stamps.{state_after};
 ghost use Rattle.casa_http.specs.Question.{whole_state, list_named, flight_named, calls_behind};
 ghost use Rattle.casa_inquiry.specs.Shown.{AreShownOf};
@@ -18,15 +19,16 @@ ghost use Rattle.casa_live.specs.Shown.{IsShownBehind, flight_in};
 ghost use Rattle.casa_session.specs.Played.{state_after_calls};
 ghost use Rattle.casa_trial.specs.Tried.{IsLookAfter};
 
+use crate::all_seen::AllSeen;
 use crate::browser::EngineBrowser;
 use crate::gauges::Gauges;
 use casa_commit::Gate;
 use casa_engine::{EngineName, Look, legal_histories_are_sequential};
-use casa_flight::{Answer, Call, Key, RegId, Reply, Row};
+use casa_flight::{Answer, Call, Key, RegId, Reply};
 use casa_front::Front;
-use casa_inquiry::{ShownLists, explain};
+use casa_inquiry::{ShownLists, ShownRows, exchanges, explain};
 use casa_look::{flight_text, list_text, shown_text, since_text};
-use casa_view::{Board, Store};
+use casa_view::{Board, Store, Version, View};
 use std::alloc::{AllocError, Global};
 use std::sync::Wait;
 
@@ -88,8 +90,8 @@ where
             self.look_on(front);
             return Ok(None);
         };
-        let (look, row) = self.engine.look_at(self.rt, front, &key)?;
-        flight_found(self.alloc, &look, key, &row)
+        let (calls, view) = self.engine.view_all(self.rt, front)?;
+        flight_found(self.alloc, calls, &view, key)
     }
 
     /// What came of the first entries behind this position, as `since_text` writes it; `None` where there is no such position.
@@ -121,23 +123,25 @@ where
     }
 }
 
-/// A flight by what is looked at, as `flight_text` writes it, where it stands so under this key; `None` where it is not there.
+/// A flight by a view of all items behind so many calls, as `flight_text` writes it; `None` where there is none with this key.
 /// `AllocError` where there is no memory to work it out.
-fn flight_found(
+fn flight_found<V: Version>(
     alloc: Global,
-    look: &Look,
+    calls: usize,
+    view: &View<V>,
     key: Key,
-    row: &Option<Row>,
 ) -> Result<Option<Vec<u8>>, AllocError>
-    ensures { IfOk result (λ found. (history : List (Entry Call Reply)) → IsLookBehind history look.now →
-        row.now ≡ row_of (state_after history) key →
-        option_map (λ text. text.items) found ≡ flight_in (length history) (state_after history) key) }
+    ensures { IfOk result (λ found. (m : State) → IsGood m → HasAll V.item_of m view.now →
+        option_map (λ text. text.items) found ≡ flight_in calls m key) }
 {
-    let Some(row) = row else {
+    let seen = AllSeen { view };
+    let Some(row) = seen.row(&key) else {
         return Ok(None);
     };
-    let why = explain(alloc, &shown_lists(look), key, row)?;
-    Ok(Some(flight_text(alloc, look.calls, &row.plan, &why)?))
+    let why = explain(alloc, &seen, key, row)?;
+    let exchanges = exchanges(alloc, &seen, key, row)?;
+    let text = flight_text(alloc, calls, &row.plan, &why, exchanges.as_slice())?;
+    Ok(Some(text))
 }
 
 /// What a look has, as it is asked for.

@@ -80,8 +80,9 @@ fn shows_state<K: Store, L: EngineName, R: Wait + Abort>(
     front: &mut Front<Call, Reply, L>,
 ) -> bool {
     let key = Key::new(b"B").expect(rt, "a key");
-    let (look, row) = engine.look_at(rt, front, &key).expect(rt, "memory");
-    let row = row.expect(rt, "flight B");
+    let look = engine.look(rt, front).expect(rt, "memory");
+    let (calls, view) = engine.view_all(rt, front).expect(rt, "memory");
+    let row = view.row(&key).expect(rt, "flight B");
     let [first, second] = look.regulations.as_slice() else {
         return false;
     };
@@ -89,7 +90,7 @@ fn shows_state<K: Store, L: EngineName, R: Wait + Abort>(
         return false;
     };
     let again = engine.look(rt, front).expect(rt, "memory");
-    (look.calls, look.clock.secs()) == (5, 22_500)
+    (look.calls, calls, look.clock.secs()) == (5, 5, 22_500)
         && first.id.as_bytes() == b"R0".as_slice()
         && second.id.as_bytes() == b"R1".as_slice()
         && none.list().flights().is_empty()

@@ -59,7 +59,12 @@ fn ask<K: Store, L: EngineName, R: Threads + Wait + Sync>(
     Ok(match asked {
         Asked::Audit => Shown::Audit(engine.audit(rt)?),
         Asked::Look => {
-            let (look, row) = engine.look_at(rt, &mut front, &subject.key)?;
+            let look = engine.look(rt, &mut front)?;
+            let (_calls, view) = engine.view_all(rt, &mut front)?;
+            let row = match view.row(&subject.key) {
+                Some(row) => Some(row.clone()?),
+                None => None,
+            };
             Shown::Look(look, row)
         }
         Asked::WouldReply => {
