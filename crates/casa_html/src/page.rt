@@ -325,6 +325,8 @@ function why(f){const told=S.reasons[f.key];
   slots.length>1&&[h("div.queue",{role:"img","aria-label":"The slots from the one it asks for to its own"},slots.slice(-54).map(([t,k,kd,eto])=>h("i",{class:k===f.key?"me":k?"s-"+kd:"s-free","data-key":k===f.key?null:k,title:hms(t)+" "+(k?k+", planned "+hms(eto):"free")}))),
    h("p.hint",`${hm(slots[0][0])} the slot it asks for → ${own?hm(own[0])+" its own":"none left"}`)],
   told&&h("p.hint",`${f.reg} governs: ${rules[told.rule]}.`)]}
+/* The exchanges that move a flight the least, in the order of its new time. */
+const nearest=(f,told)=>[...told.exchanges].sort((p,q)=>Math.abs(p.ctot-f.ctot)-Math.abs(q.ctot-f.ctot)).slice(0,12).sort((p,q)=>p.ctot-q.ctot);
 function drawFlight(){const f=S.flights[key],told=S.reasons[key],rows=[];
  if(!f||f.etot==null)return fill("flight",h("div.head",h("h2","Flight")),h("p.hint.pad",!key?"Pick a flight, or find one by its key.":f?key+" …":`No flight is filed under ${key}.`));
  for(const r of S.regs){const q=rowOf(r.reg,key);if(q)rows.push([r.reg,q])}
@@ -336,6 +338,8 @@ function drawFlight(){const f=S.flights[key],told=S.reasons[key],rows=[];
    h("p.hint.way",(S.plans[key]||[]).map(([l,e],i)=>[i?" › ":"",h(at.includes(l)?"b":"span",l+" "+hm(e))]))),
   h("div.why",h("h2",f.delay?"Why it waits":"How it stands"),why(f)),
   offers.length>0&&h("div.why",h("h2",told?"What each regulation would offer it now":"Regulations on its way"),offers.map(([r,t,last,d])=>h("button.offer"+(r===f.reg?".on":""),{"data-reg":r,"data-value":d},h("span",r),h("span.num",t),h("span.num",last)))),
+  live&&told&&told.exchanges.length>0&&h("div.why",{id:"exchanges","data-count":told.exchanges.length},h("h2","Exchange with "+several(told.exchanges.length,"flight")),
+   nearest(f,told).map(x=>h("button.offer",{"data-act":"swap","data-reg":f.reg,"data-other":x.other,"data-ctot":x.ctot,"data-other-ctot":x.other_ctot},h("span",x.other),h("span.num","CTOT "+hm(x.ctot)),h("span.num",signed(x.ctot-f.ctot,mins(Math.abs(x.ctot-f.ctot)))+" min")))),
   h("div.why",h("h2","What to do"),live?h("div.acts",[["revise","Revise…"],["swap","Exchange…",!f.issued],["exempt","Exempt…",f.exempt],["cancel","Cancel…"]].map(([a,t,off])=>h("button.btn",{"data-act":a,"data-reg":a==="swap"?f.reg:null,disabled:off?"":null},t))):
    h("p.hint",{id:"kept"},"This is a kept record: it shows how things stood, and nothing can be sent from it.")))}
 let many=120;
@@ -351,7 +355,7 @@ function pick(k){key=k;const f=S.flights[k];if(f&&regOf(f.reg)&&!rowOf(reg,k)){r
 function find(text){const k=text.trim().toUpperCase();if(!k)return;$("find").value="";if(regOf(k)&&!S.flights[k])chooseReg(k);else pick(k)}
 const on=(id,event,what)=>(typeof id==="string"?$(id):id).addEventListener(event,what), within=(i,n)=>Math.max(0,Math.min(n-1,i));
 on(document,"click",e=>{const t=e.target.closest("[data-key],[data-reg],[data-step],[data-act]"),d=t&&t.dataset;if(!t)return;
- if(d.step){step=+d.step;drawOne();drawSlope()}else if(d.act)act(d.act,d.reg);else if(d.key)pick(d.key);else chooseReg(d.reg)});
+ if(d.step){step=+d.step;drawOne();drawSlope()}else if(d.act)act(d.act,d.reg,d.other);else if(d.key)pick(d.key);else chooseReg(d.reg)});
 on("search","submit",e=>{e.preventDefault();find($("find").value)});
 on("find","change",e=>{const k=e.target.value.trim().toUpperCase();if(S.flights[k]||regOf(k))find(k)});
 on("find","input",e=>{const t=e.target.value.trim().toUpperCase(),near=[];if(t)for(const k of[...S.regs.map(r=>r.reg),...Object.keys(S.flights)])if(k.startsWith(t)&&near.push(k)>19)break;
@@ -371,6 +375,7 @@ on(window,"beforeprint",()=>{whole=true;drawRows(true)});on(window,"afterprint",
 let form=null;
 const clock=t=>two(Math.floor(t/3600))+hm(t).slice(2)+(t%60?":"+two(t%60):"");
 const seconds=text=>{const m=/^(\d{1,2}):?([0-5]\d)(?::([0-5]\d))?$/.exec(text.trim());return m?m[1]*3600+m[2]*60+ +(m[3]||0):NaN};
+const signed=(d,t)=>(d<0?"−":d?"+":"")+t;
 const shift=d=>d?mins(Math.abs(d))+" min "+(d<0?"earlier":"later"):"at the same time";
 const does={open:["Open","Flights over the location in this time that nothing governs get a slot there."],
  rates:["Give new rates","Issued times stay; all others are placed anew. The end may come later, and that is for good. The dashed line shows the new capacity."],
@@ -380,9 +385,9 @@ const does={open:["Open","Flights over the location in this time that nothing go
  exempt:["Exempt","No regulation delays it any more. Where it was issued, its operator gets an SLC."],
  cancel:["Cancel","Its plan is removed, and its slot is free. No message goes out."]};
 const field=n=>$("form").elements[n];
-async function act(a,of){if(a==="more"){many+=120;return drawMsgs()}
+async function act(a,of,other){if(a==="more"){many+=120;return drawMsgs()}
  if(a==="back")return back();
- const r=of||reg;form={act:a,key,reg:r,rows:[],from:document.activeElement};
+ const r=of||reg;form={act:a,key,reg:r,other,rows:[],from:document.activeElement};
  if(a==="rates")form.rows=regOf(r).periods.map(p=>[clock(p.from),clock(p.to),p.rate]);
  if(a==="open"){const t=Math.ceil(S.clock/3600)*3600+7200;form.rows=[[clock(t),clock(t+7200),30]]}
  if(a==="swap"&&!S.lists[r])try{takeList(await get("/list?"+r))}catch(e){}
@@ -397,9 +402,11 @@ function drawFields(){const f=form,fixed=f.act==="rates",input=(name,value,label
   f.act==="swap"&&[label("Flight",h("select",{name:"key"},issuedIn(f.reg).map(q=>h("option",{value:q[0],selected:q[0]===f.key?"":null},q[0]+", "+hm(q[2]))))),label("with",h("select",{name:"other"})),h("p.hint",{id:"exchange"})]);
  if(f.act==="swap")partners()}
 const issuedIn=id=>rowsOf(id).filter(q=>q[3]==="issued");
-/* The flights with which one can be exchanged: neither would come before its own time. */
-function partners(){const all=issuedIn(form.reg),one=all.find(q=>q[0]===field("key").value);
- field("other").replaceChildren(...all.filter(q=>one&&q!==one&&q[2]>=one[1]&&one[2]>=q[1]).map(q=>h("option",{value:q[0]},`${q[0]}, ${hm(q[2])}: ${shift(q[2]-one[2])}`)))}
+/* The flights with which one can be exchanged, as casa tells them; of a flight that is not picked those where neither would come before its own time. */
+function partners(){const all=issuedIn(form.reg),k=field("key").value,one=all.find(q=>q[0]===k),told=S.reasons[k],
+  may=told&&S.fresh["flight "+k]>=S.n?new Set(told.exchanges.map(x=>x.other)):null;
+ field("other").replaceChildren(...all.filter(q=>one&&q!==one&&(may?may.has(q[0]):q[2]>=one[1]&&one[2]>=q[1])).map(q=>h("option",{value:q[0]},`${q[0]}, ${hm(q[2])}: ${shift(q[2]-one[2])}`)));
+ if([...field("other").options].some(o=>o.value===form.other))field("other").value=form.other}
 /* Looks at what stands in the form: shows the line, or what is wrong. */
 function check(){const f=form,wrong=[],bad=(n,text)=>wrong.push([n,text]),c={cmd:f.act},time="A time is HH:MM, up to 47:59 on the second day.",text=n=>field(n).value.trim().toUpperCase(),
   name=(n,label)=>{const t=text(n);if(!/^[A-Z0-9]{1,10}$/.test(t))bad(n,t&&label+" has 1 to 10 characters of A to Z and 0 to 9.");return t};
@@ -475,7 +482,7 @@ async function forecast(f,line){const gone=()=>form!==f||f.line!==line,c=JSON.pa
     t.rates.push([d,totals(s.after).delay]);drawForecast(t,was,true)}}}
  catch(e){if(gone())return;t.wrong=e>0?({404:"This server can't try lines",413:"It is too much to be tried",503:"The server had no memory for it"}[e]||"The server did not try it")+` (${e}).`:"No answer came."}
  say(drawForecast(t,was)+" Nothing was sent.")}
-function drawForecast({reply:r,regs,flights,rates,left,wrong,before,after},was,more){const words=wrong||(r?inWords(r,was):"…"),top=rates&&Math.max(60,...rates.map(p=>p[1])),signed=(d,t)=>(d<0?"−":d?"+":"")+t,
+function drawForecast({reply:r,regs,flights,rates,left,wrong,before,after},was,more){const words=wrong||(r?inWords(r,was):"…"),top=rates&&Math.max(60,...rates.map(p=>p[1])),
   figures=(name,id,x,y)=>{const all=FIGS.map(k=>[k,x[k]||0,y[k]||0]).filter(([,a,b])=>a!==b).map(([k,a,b],i)=>{const[p,q]=[a,b].map(n=>big(/delay|longest/.test(k)?Math.round(n/6)/10:n));
     return[i?", ":" ",h("span",{"data-reg":id,"data-fig":k,"data-before":a,"data-after":b},`${k==="over"?"without a slot":k} ${p} → ${q}`)]});return all.length>0&&h("li",h("b",name),all)},
   stands=(q,of)=>q.reg?(q.reg===of?"":q.reg+" ")+mins(q.delay)+" min":"none";
