@@ -20,9 +20,13 @@ async def stand_of(address):
     """Who leads as a server knows it, if it knows, and a line about it."""
     connection = Connection(address)
     try:
-        told, last = await connection.status(), await connection.last()
-        leads = "leads" if told["leader"] == told["header"]["member_id"] else "follows"
-        return told["leader"], f"{address} {leads}: revision {told['header']['revision']}, the last line is {last[1] or 'none'}, " \
+        told = await connection.status()
+        leader = told.get("leader")  # left out where the server knows nobody who leads
+        if leader is None:
+            return None, f"{address} knows nobody who leads"
+        leads = "leads" if leader == told["header"]["member_id"] else "follows"
+        _, line = await connection.last()
+        return leader, f"{address} {leads}: revision {told['header']['revision']}, the last line is {line or 'none'}, " \
             f"{int(told['dbSize']) // 1024} KiB"
     except Lost as lost:
         return None, f"{address} can't be used: {lost}"
