@@ -345,10 +345,12 @@ def limited(size):
 
 
 def free_port():
-    """A port on which nobody listens, and none that a connection gets by itself: another one each time."""
+    """A port on which nobody listens, and none that a connection gets by itself: another one each time. A program that another
+    thread is about to start holds this socket too for a moment, and a server may bind the port nevertheless."""
     while True:
         with counting, socket.socket() as asked, contextlib.suppress(OSError):
             port = next(PORTS)
+            asked.setsockopt(socket.SOL_SOCKET, socket.SO_REUSEADDR, 1)
             asked.bind(("127.0.0.1", port))
             return port
 
