@@ -1,13 +1,14 @@
 -- bytes read as big-endian numbers, and names filled up with zeros, are ordered as the bytes are
-use Rattle.std.proofs.Common.{◌≡◌, ℕ, zero, suc, ◌+◌, ◌-◌, ◌*◌, ◌<◌, List, [], ◌∷◌, ◌++◌, length, take, drop, replicate, get_or, true, nat_eq, refl, sym, ap, ◌∙◌, arith, true≢false}
+use Rattle.std.proofs.Common.{◌≡◌, ℕ, zero, suc, ◌+◌, ◌-◌, ◌*◌, ◌<◌, List, [], ◌∷◌, ◌++◌, length, take, drop, replicate, get_or, true, nat_eq, nat_lt, refl, sym, ap, ◌∙◌, arith, true≢false}
+use mathlib.Core.Bool.{◌||◌, ◌&&◌}
 use Rattle.std.specs.List.{list_all}
 use Rattle.std.specs.declared.cmp.Ordering.{Ordering}
 use Rattle.std.specs.declared.cmp.Ordering.TheVariants.{Less, Equal, Greater}
-use Rattle.std.specs.Ordering.{nat_cmp, ordering_then, is_eq, MatchOrdering}
+use Rattle.std.specs.Ordering.{nat_cmp, ordering_then, is_eq, is_lt, MatchOrdering}
 use Rattle.std.specs.Cmp.{ranks, unsigned_ties}
 use Rattle.std.specs.Cmp.Lexicographic.{pointwise, slice_cmp, texts_ties}
 use Rattle.std.specs.Slice.Scan.{big_endian}
-use Rattle.std.proofs.lemmas.Bool.{and_parts}
+use Rattle.std.proofs.lemmas.Bool.{and_parts, lt-ltb, le-ltb}
 use Rattle.std.proofs.lemmas.List.{take-append-drop, length-take-le, length-drop}
 use Rattle.casa_filing.specs.Text.{is_name_byte, is_name}
 use Rattle.casa_filing.specs.NameInside.{IsInside}
@@ -113,6 +114,22 @@ pub by_first : (r s q : Ordering) → (r ≡ Equal → ⊥) → ordering_then r 
 by_first Less s q tied e = e
 by_first Greater s q tied e = e
 by_first Equal s q tied e = absurd (tied refl)
+
+lt_by : (x y : ℕ) (r : Ordering) → MatchOrdering r (x < y) (x ≡ y) (y < x) → nat_lt x y ≡ is_lt r
+lt_by x y Less l = lt-ltb x y l
+lt_by x y Equal e = le-ltb x y (omega (arith, e))
+lt_by x y Greater g = le-ltb x y (omega (arith, g))
+
+by_both : (r s : Ordering) → (is_lt r || (is_eq r && is_lt s)) ≡ is_lt (ordering_then r s)
+by_both Less s = refl
+by_both Equal s = refl
+by_both Greater s = refl
+
+-- a pair of numbers comes before another by the firsts, or by the seconds where the firsts are the same
+pub pair_before : (a b c d : ℕ) → (nat_lt a b || (nat_eq a b && nat_lt c d)) ≡ is_lt (ordering_then (nat_cmp a b) (nat_cmp c d))
+pair_before a b c d =
+    (λ i. lt_by a b (nat_cmp a b) (ranks a b) i || (unsigned_ties a b i && lt_by c d (nat_cmp c d) (ranks c d) i))
+    ∙ by_both (nat_cmp a b) (nat_cmp c d)
 
 -- where the first numbers are the same, the second tell whether the bytes are
 pub same_by_second : (xs ys : List ℕ) → length xs ≡ 10 → length ys ≡ 10 → AreBytes xs → AreBytes ys → big_endian 0 (take 8 xs) ≡ big_endian 0 (take 8 ys)

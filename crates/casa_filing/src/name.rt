@@ -1,6 +1,6 @@
 ghost use Rattle.std.specs.Prelude.{◌≡◌, ◌==◌, ◌↔◌, ◌≤◌, length, take, drop, true, IsSome, IfSome, Some};
 ghost use Rattle.std.specs.List.{list_all};
-ghost use Rattle.std.specs.Ordering.{nat_cmp, as_partial_cmp};
+ghost use Rattle.std.specs.Ordering.{nat_cmp, as_partial_cmp, is_lt};
 ghost use Rattle.std.specs.Cmp.{partial_order_from_own_ties};
 ghost use Rattle.std.specs.Cmp.Lexicographic.{pointwise, slice_cmp};
 ghost use Rattle.std.specs.Cmp.Rules.{comparing};
@@ -115,6 +115,14 @@ fn order(one: &[u8; MAX_LEN], other: &[u8; MAX_LEN]) -> Ordering
     }
 }
 
+/// Whether the one's bytes come before the other's. Nothing is skipped, since no processor can foresee which name is sought.
+fn are_before(one: &[u8; MAX_LEN], other: &[u8; MAX_LEN]) -> bool
+    ensures { result ≡ is_lt (slice_cmp nat_cmp one.now other.now) }
+{
+    let (head_of_one, head_of_other) = (head(one), head(other));
+    (head_of_one < head_of_other) | ((head_of_one == head_of_other) & (tail(one) < tail(other)))
+}
+
 impl<Kind> Name<Kind> {
     /// The name with these bytes, or `None` where they are not 1 to 10 characters of A to Z and 0 to 9.
     pub fn new(text: &[u8]) -> Option<Name<Kind>>
@@ -139,6 +147,13 @@ impl<Kind> Name<Kind> {
         ensures { result.now ≡ self.now }
     {
         &self.bytes[..self.len as usize]
+    }
+
+    /// Whether this name comes before the other.
+    pub fn is_before(&self, other: &Name<Kind>) -> bool
+        ensures { result ≡ is_lt (slice_cmp nat_cmp self.now other.now) }
+    {
+        are_before(&self.bytes, &other.bytes)
     }
 
     /// How many characters there are, 1 to 10.
