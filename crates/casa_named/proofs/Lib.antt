@@ -1,3 +1,4 @@
 pub mod Found
 pub mod Ahead
 pub mod Merging
+pub mod Counted

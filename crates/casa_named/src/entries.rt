@@ -1,15 +1,44 @@
 //! Entries of names and values, gone through in the order of the names.
 
-ghost use Rattle.std.specs.Prelude.{◌≡◌, ◌∷◌, [], length, drop, unwrap_or, MatchOption};
+ghost use Rattle.std.specs.Prelude.{◌≡◌, ◌∷◌, [], length, drop, MatchOption};
 ghost use Rattle.std.specs.Option.{option_map};
 ghost use Rattle.std.specs.Iterator.{at_most};
 ghost use Rattle.std.specs.Map.Iter.{TakesFirst, deref_pair};
 ghost use Rattle.casa_flight.specs.Good.{AreInOrder};
-ghost use Rattle.casa_named.specs.Named.{ahead};
+ghost use Rattle.casa_named.specs.Named.{ahead, held, left};
 
+use crate::others::Others;
 use casa_flight::Name;
 use std::collections::{BTreeMap, btree_map};
 use std::marker::Model;
+
+/// What is left of entries, by how they are kept.
+#[derive(Drop)]
+enum Left<'a, Kind, X> {
+    /// Of those that stand one behind the other.
+    Row(&'a [(Name<Kind>, X)]),
+    /// Of a map.
+    Map(btree_map::Iter<'a, Name<Kind>, X>),
+    /// Nothing.
+    Nothing,
+}
+
+impl<'a, Kind, X> Left<'a, Kind, X> {
+    /// The next entry, if one is left.
+    fn pass(&mut self) -> Option<(&'a Name<Kind>, &'a X)>
+        ensures { ahead (option_map deref_pair result) (left self.new) ≡ left self.old }
+    {
+        match self {
+            Left::Row(entries) => {
+                let (entry, behind) = entries.split_first()?;
+                *entries = behind;
+                Some((&entry.0, &entry.1))
+            }
+            Left::Map(entries) => entries.next(),
+            Left::Nothing => None,
+        }
+    }
+}
 
 /// Entries of which the first can be looked at before it is passed.
 ///
@@ -17,22 +46,22 @@ use std::marker::Model;
 #[derive(Drop)]
 pub struct Entries<'a, Kind, X> {
     first: Option<(&'a Name<Kind>, &'a X)>,
-    others: Option<btree_map::Iter<'a, Name<Kind>, X>>,
+    others: Left<'a, Kind, X>,
 }
 
 impl<'a, Kind, X> Model for Entries<'a, Kind, X> {
-    ghost use Rattle.std.specs.Prelude.{List, [], unwrap_or};
+    ghost use Rattle.std.specs.Prelude.{List};
     ghost use Rattle.std.specs.Map.Iter.{deref_pair};
     ghost use Rattle.std.specs.Option.{option_map};
     ghost use Rattle.casa_filing.specs.Text.{Text};
     ghost use Rattle.casa_flight.specs.Good.{AreInOrder};
-    ghost use Rattle.casa_named.specs.Named.{ahead};
+    ghost use Rattle.casa_named.specs.Named.{ahead, left};
 
     ghost Value = { List (Text × X) };
 
-    ghost view = { λ a. ahead (option_map deref_pair a.first) (unwrap_or a.others []) };
+    ghost view = { λ a. ahead (option_map deref_pair a.first) (left a.others) };
 
-    ghost invariant = { λ a. AreInOrder (ahead (option_map deref_pair a.first) (unwrap_or a.others [])) };
+    ghost invariant = { λ a. AreInOrder (ahead (option_map deref_pair a.first) (left a.others)) };
 }
 
 impl<'a, Kind, X> Entries<'a, Kind, X> {
@@ -42,26 +71,27 @@ impl<'a, Kind, X> Entries<'a, Kind, X> {
     {
         Entries {
             first: None,
-            others: None,
+            others: Left::Nothing,
         }
     }
 
-    /// The first entry, if there is one, and those of a map behind it.
+    /// The first entry, if there is one, and others behind it.
     pub(crate) fn behind(
         first: &'a Option<(Name<Kind>, X)>,
-        others: &'a BTreeMap<Name<Kind>, X>,
+        others: &'a Others<Kind, X>,
     ) -> Entries<'a, Kind, X>
-        requires { AreInOrder (ahead first.now others.now.entries) }
-        ensures { result ≡ ahead first.now others.now.entries }
+        requires { AreInOrder (ahead first.now (held others.now)) }
+        ensures { result ≡ ahead first.now (held others.now) }
     {
         let first = match first {
             Some((name, value)) => Some((name, value)),
             None => None,
         };
-        Entries {
-            first,
-            others: Some(others.iter()),
-        }
+        let others = match others {
+            Others::Row(row) => Left::Row(row.as_slice()),
+            Others::Map(map) => Left::Map(map.iter()),
+        };
+        Entries { first, others }
     }
 
     /// The entries of a map.
@@ -72,7 +102,7 @@ impl<'a, Kind, X> Entries<'a, Kind, X> {
         let mut entries = map.iter();
         Entries {
             first: entries.next(),
-            others: Some(entries),
+            others: Left::Map(entries),
         }
     }
 
@@ -90,21 +120,8 @@ impl<'a, Kind, X> Entries<'a, Kind, X> {
         ensures { self.new ≡ drop 1 self.old }
     {
         if self.first.is_some() {
-            self.first = next_of(&mut self.others);
+            self.first = self.others.pass();
         }
-    }
-}
-
-/// The next entry, if there are entries.
-fn next_of<'a, Kind, X>(
-    entries: &mut Option<btree_map::Iter<'a, Name<Kind>, X>>,
-) -> Option<(&'a Name<Kind>, &'a X)>
-    ensures { ahead (option_map deref_pair result) (unwrap_or entries.new [])
-        ≡ unwrap_or entries.old [] }
-{
-    match entries {
-        Some(entries) => entries.next(),
-        None => None,
     }
 }
 

@@ -1,12 +1,13 @@
 //! Few values under names.
 
-ghost use Rattle.std.specs.Prelude.{◌≡◌, [], None, OnOk, OnErr, IfErr};
+ghost use Rattle.std.specs.Prelude.{◌≡◌, [], OnOk, OnErr};
 ghost use Rattle.std.specs.Option.{option_copied};
 ghost use Rattle.casa_filing.specs.Text.{at_name, put, without};
 ghost use Rattle.casa_flight.specs.Good.{AreInOrder};
-ghost use Rattle.casa_named.specs.Named.{ahead};
 
 use crate::entries::Entries;
+use crate::others::Others;
+use crate::sorted::Sorted;
 use casa_flight::Name;
 use std::alloc::{AllocError, Global};
 use std::cmp::Ordering;
@@ -14,24 +15,24 @@ use std::collections::BTreeMap;
 use std::marker::Model;
 
 /// Values under names, in the order of the names. One alone takes no memory, and mostly there is no other: so is what a
-/// call on a flight reads, and what it writes.
+/// call on a flight reads, and what it writes. Others stand one behind the other, or in a map where it was asked for.
 ///
 /// Contracts see the entries.
 pub struct Few<Kind, X> {
     first: Option<(Name<Kind>, X)>,
-    others: BTreeMap<Name<Kind>, X>,
+    others: Others<Kind, X>,
 }
 
 impl<Kind, X> Model for Few<Kind, X> {
     ghost use Rattle.std.specs.Prelude.{List};
     ghost use Rattle.casa_filing.specs.Text.{Text};
-    ghost use Rattle.casa_named.specs.Named.{ahead, IsFew};
+    ghost use Rattle.casa_named.specs.Named.{ahead, held, IsFew};
 
     ghost Value = { List (Text × X) };
 
-    ghost view = { λ f. ahead f.first f.others.entries };
+    ghost view = { λ f. ahead f.first (held f.others) };
 
-    ghost invariant = { λ f. IsFew f.first f.others.entries };
+    ghost invariant = { λ f. IsFew f.first (held f.others) };
 }
 
 impl<Kind, X: Drop> Drop for Few<Kind, X> {
@@ -44,13 +45,23 @@ impl<Kind, X: Drop> Drop for Few<Kind, X> {
 }
 
 impl<Kind, X> Few<Kind, X> {
-    /// No values.
+    /// No values. Those that are put will mostly come in the order of their names, or be few.
     pub fn new(alloc: Global) -> Few<Kind, X>
         ensures { result ≡ [] }
     {
         Few {
             first: None,
-            others: BTreeMap::new(alloc),
+            others: Others::Row(Sorted::new(alloc)),
+        }
+    }
+
+    /// No values, for thousands of them, which come in any order.
+    pub fn in_any_order(alloc: Global) -> Few<Kind, X>
+        ensures { result ≡ [] }
+    {
+        Few {
+            first: None,
+            others: Others::Map(BTreeMap::new(alloc)),
         }
     }
 
@@ -80,30 +91,6 @@ impl<Kind, X> Few<Kind, X> {
     }
 }
 
-/// Moves an entry into a map; it comes back where there is no memory for it.
-fn moved<Kind, X: Drop>(
-    map: &mut BTreeMap<Name<Kind>, X>,
-    name: Name<Kind>,
-    value: X,
-) -> Result<(), (Name<Kind>, X)>
-    ensures moved { OnOk result (map.new.entries ≡ put map.old.entries name value) }
-    ensures refused { IfErr result (λ entry. (entry ≡ (name, value))
-        × (map.new.entries ≡ map.old.entries)) }
-{
-    match map.insert(name, value) {
-        Ok(_none) => Ok(()),
-        Err(refused) => Err(refused.value),
-    }
-}
-
-/// Takes the first entry out of a map, if there is one.
-fn first_of<Kind, X>(map: &mut BTreeMap<Name<Kind>, X>) -> Option<(Name<Kind>, X)>
-    ensures first { ahead result map.new.entries ≡ map.old.entries }
-    ensures alone { result ≡ None → map.new.entries ≡ [] }
-{
-    map.pop_first()
-}
-
 impl<Kind, X: Drop> Few<Kind, X> {
     /// Puts a value under a name. `AllocError` where there is no memory for it; the values are then as they were.
     pub fn put(&mut self, name: Name<Kind>, value: X) -> Result<(), AllocError>
@@ -115,13 +102,13 @@ impl<Kind, X: Drop> Few<Kind, X> {
             return Ok(());
         };
         match name.cmp(&first) {
-            Ordering::Less => match moved(&mut self.others, first, held) {
+            Ordering::Less => match self.others.put(first, held) {
                 Ok(()) => {
                     self.first = Some((name, value));
                     Ok(())
                 }
-                Err(entry) => {
-                    self.first = Some(entry);
+                Err(refused) => {
+                    self.first = Some(refused.value);
                     Err(AllocError)
                 }
             },
@@ -131,7 +118,7 @@ impl<Kind, X: Drop> Few<Kind, X> {
             }
             Ordering::Greater => {
                 self.first = Some((first, held));
-                self.others.insert(name, value)?;
+                self.others.put(name, value)?;
                 Ok(())
             }
         }
@@ -145,11 +132,11 @@ impl<Kind, X: Drop> Few<Kind, X> {
     {
         let (first, value) = self.first.take()?;
         if first == *name {
-            self.first = first_of(&mut self.others);
+            self.first = self.others.pop_first();
             Some(value)
         } else {
             self.first = Some((first, value));
-            self.others.remove(name)
+            self.others.take(name)
         }
     }
 }

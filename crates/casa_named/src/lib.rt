@@ -3,7 +3,9 @@
 
 mod entries;
 mod few;
+mod others;
 mod overlaid;
+mod sorted;
 
 pub use entries::Entries;
 pub use few::Few;

@@ -62,7 +62,7 @@ impl Change {
             alloc,
             clock: None,
             catalogue: None,
-            rows: Few::new(alloc),
+            rows: Few::in_any_order(alloc),
             lists: Few::new(alloc),
         }
     }
