@@ -1,5 +1,5 @@
-//! Tests of casa_history, casa_commit and casa_day, through what is public of them: of histories, of commits, and of their
-//! journal.
+//! Tests of casa_history, casa_commit, casa_tape and casa_day, through what is public of them: of histories, of commits, and
+//! of their journal.
 //!
 //! They stand in a crate of their own, so that each library is proved once. Commits are tried on a world of four cells, the
 //! smallest on which they can meet. A call copies one cell's value, plus one, into another. Each cell is an item, and its
@@ -15,6 +15,8 @@ mod days;
 mod history;
 mod lines;
 mod plan;
+#[cfg(test)]
+mod tapes;
 mod world;
 
 pub use cell::{Answer, Cell, Change, Copying, View};

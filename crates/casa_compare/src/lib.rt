@@ -7,8 +7,6 @@ mod changes;
 mod figures_json;
 mod standings;
 mod table;
-#[cfg(test)]
-mod tests;
 mod values;
 
 pub use figures_json::compare_json;

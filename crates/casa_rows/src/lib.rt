@@ -11,6 +11,3 @@ mod walk;
 
 pub use row::Row;
 pub use table::{Table, read_table};
-
-#[cfg(test)]
-mod tests;

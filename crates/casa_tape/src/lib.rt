@@ -19,6 +19,3 @@ pub use lines::{first_line, whole_end};
 pub use memory::MemoryTape;
 pub use recovery::{look, mend};
 pub use tape::{Tape, TapeError};
-
-#[cfg(test)]
-mod tests;

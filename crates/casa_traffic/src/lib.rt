@@ -9,8 +9,6 @@ mod lines;
 mod making;
 mod sheets;
 mod telling;
-#[cfg(test)]
-mod tests;
 mod titles;
 
 pub use fault::{ColumnFault, ReadFault, TrafficFault};

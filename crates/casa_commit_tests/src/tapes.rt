@@ -1,7 +1,9 @@
+//! Files that fail, that are cut at any byte, or have holes.
+
 ghost use Rattle.std.specs.Prelude.{OnOk};
 ghost use Rattle.casa_tape.specs.Tape.{IsSynced};
 
-use super::*;
+use casa_tape::{Found, MemoryTape, Tape, TapeError, append, first_line, look, mend, whole_end};
 use std::alloc::Global;
 use std::test::*;
 

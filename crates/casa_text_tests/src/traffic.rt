@@ -1,6 +1,6 @@
 //! Files as they are given.
 
-use crate::{
+use casa_traffic::{
     Asked, ImportFault, Imported, Kind, Order, Source, Sources, Title, TitleFault, import,
 };
 use jiff::civil::Date;

@@ -1,4 +1,6 @@
-use crate::{Row, Table, read_table};
+//! Texts of comma-separated values, and the lines on which their rows begin.
+
+use casa_rows::{Row, Table, read_table};
 use std::process::Abort;
 use std::test::Fail;
 

@@ -1,6 +1,6 @@
 //! Two days as texts: the second has twice the slots, one flight more, and one less. The figures were worked out by hand.
 
-use crate::{compare_csv, compare_json, compare_text};
+use casa_compare::{compare_csv, compare_json, compare_text};
 use casa_difference::{Comparison, Difference, Standing, Totals};
 use casa_flight::{Key, RegId, SharedSlice};
 use casa_inquiry::Cost;
