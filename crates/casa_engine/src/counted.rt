@@ -152,11 +152,13 @@ impl<W: World, L: EngineName> CountedRoom<W, L> {
         Ok(CountedPass { pass, share, front })
     }
 
-    /// Accepts a prepared answer, and counts it.
+    /// Accepts a prepared answer to a call, and counts it. What it wrote is then moved in, where there is memory for that: the
+    /// next desk would do it before it takes its view, and on another processor.
     pub(crate) fn commit(
         &mut self,
         desk: &mut CountedPass<W, L>,
         prepared: Prepared<W>,
+        call: &W::Call,
     ) -> Result<Receipt<W::Call, W::Reply>, (CommitFault, Prepared<W>)>
         requires { W.is_of (view_of prepared) (world_of self.old.room) }
         ensures stands { IfOk result (λ r. IsReceiptOf W.World (pass_of desk.old)
@@ -174,6 +176,7 @@ impl<W: World, L: EngineName> CountedRoom<W, L> {
         let CountedPass { pass, share, front } = desk;
         let receipt = commit(room, pass, prepared)?;
         enter(keeper, book, front, share, &receipt);
+        let _moved_in = room.consolidate(call);
         Ok(receipt)
     }
 

@@ -215,7 +215,7 @@ where
             return Err(CommitFault::NoMemory);
         };
         // The lock is free again before a stale answer is dropped.
-        let committed = self.hold(rt).commit(desk, prepared);
+        let committed = self.hold(rt).commit(desk, prepared, call);
         committed.map_err(|(fault, _)| fault)
     }
 

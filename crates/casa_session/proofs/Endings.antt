@@ -1,19 +1,21 @@
 -- how a session ends
-use Rattle.std.proofs.Common.{◌≡◌, ℕ, ◌+◌, ◌<◌, List, [], ◌∷◌, ◌++◌, length, true, false, Option, refl, sym, ap, ◌∙◌, subst, append-nil, append_assoc, length-append, inl, inr}
+use Rattle.std.proofs.Common.{◌≡◌, ℕ, ◌+◌, ◌<◌, List, [], ◌∷◌, ◌++◌, length, map, true, false, Option, refl, sym, ap, ◌∙◌, subst, append-nil, append_assoc, length-append, inl, inr}
 use Rattle.std.proofs.lemmas.Option.{IfSome_then}
-use Rattle.std.specs.Prelude.{Ok, Err, IfSome}
+use Rattle.std.specs.Prelude.{Result, Ok, Err, IfSome}
 use Rattle.std.specs.Io.KnownBytes.{Appends, Consumes, IsAtEnd}
 use Rattle.std.proofs.KnownBytes.{Consumes-whole}
+use Rattle.casa_flight.specs.declared.call.Call.{Call}
+use Rattle.casa_wire.specs.declared.fault.WireFault.{WireFault}
 use Rattle.casa_wire.specs.Commands.{line_call}
 use Rattle.casa_session.specs.declared.fault.SessionFault.{SessionFault}
 use Rattle.casa_session.specs.declared.fault.SessionFault.TheVariants.{LineTooLong, ReadFailed, WriteFailed, ForeignPass, NoMemory}
 use Rattle.casa_session.specs.Lines.{ended_lines, lines_of, has_too_long, is_too_long, HasNoLf}
 use Rattle.casa_session.specs.Replies.{EndsBy, IsUnwritten, MayReply, TooLongEnds}
-use Rattle.casa_session.proofs.Moments.{Start, Moment, EndsAt, IsAnswered, IsFailed}
+use Rattle.casa_session.proofs.Moments.{Start, Moment, AreFailed, EndsAt, IsAnswered, IsFailed}
 use Rattle.casa_session.proofs.Parts.{no_lf_append}
-use Rattle.casa_session.proofs.Progress.{AreFirst, Progress, Writes, answered, cut_done, cut_line, cut_more, progress_line, progress_written, stopped, stopped_after, too_long_written}
-use Rattle.casa_session.proofs.Runs.{Between, line_next, lines_known}
-use Rattle.casa_session.proofs.Splitting.{ended_kept, has_too_long-append, line_only, lines_of-append, long_first, short_part}
+use Rattle.casa_session.proofs.Progress.{AreFirst, Progress, Writes, answered, cut_done, cut_line, cut_more, next_first, progress_line, progress_written, rest_first, stopped, stopped_after, too_long_written}
+use Rattle.casa_session.proofs.Runs.{Between, Reading, lines_known, waiting_first}
+use Rattle.casa_session.proofs.Splitting.{ended_kept, has_too_long-append, line_only, lines_of-append, long_first, or_false, short_part}
 
 module _ {start : Start} {now : Moment} {done : List (List ℕ)} (p : Progress start now done) (foreign : Type 0) where
   -- all was written before a line that has no reply
@@ -55,12 +57,27 @@ module _ {start : Start} {now : Moment} {done : List (List ℕ)} (p : Progress s
       (done, q.0, q.1, stopped_after p (record now { output = output }) q.0 [] same (inl refl) by.1)))
   ends_without_memory ended output (inr h) = ends_unwritten ended output h
 
--- a line that ended has no reply
-pub ends_at_line : {start : Start} {now : Moment} {count : ℕ} {line pending : List ℕ}
-    → Between start now count line (10 ∷ pending) → (foreign : Type 0) (fault : SessionFault) (next : Moment)
-    → IsFailed foreign fault line now next → EndsAt foreign (Err fault) start next
-ends_at_line {line = line} p foreign fault next h =
-    ends_failing p.progress foreign fault next line p.short (line_next p) h
+-- one of some lines has no reply
+ends_among : {start : Start} {now : Moment} {done : List (List ℕ)} (lines : List (List ℕ)) → Progress start now done
+    → has_too_long lines ≡ false → AreFirst start.input (done ++ lines) → (foreign : Type 0) (fault : SessionFault)
+    (next : Moment) → AreFailed foreign fault (map line_call lines) now next → EndsAt foreign (Err fault) start next
+ends_among [] p short first foreign fault next h = absurd h
+ends_among {start} {now} {done} (line ∷ lines) p short first foreign fault next (inl fails) =
+    let shorts = or_false (is_too_long line) (has_too_long lines) short in
+    ends_failing p foreign fault next line shorts.0 (next_first start.input done line lines first) fails
+ends_among {start} {now} {done} (line ∷ lines) p short first foreign fault next (inr (receipts, replies, output, answers, more)) =
+    let then : Moment = record { left = now.left; receipts = receipts; output = output; replies = replies } in
+    let shorts = or_false (is_too_long line) (has_too_long lines) short in
+    let one = progress_line p then line shorts.0 (next_first start.input done line lines first) answers in
+    ends_among lines one shorts.1 (rest_first start.input done line lines first) foreign fault next more
+
+-- a line that was asked has no reply
+pub ends_at_asked : {start : Start} {now : Moment} {count : ℕ} {asked : List (Result Call WireFault)} {line bytes : List ℕ}
+    → Reading start now count asked line bytes → (foreign : Type 0) (fault : SessionFault) (next : Moment)
+    → AreFailed foreign fault asked now next → EndsAt foreign (Err fault) start next
+ends_at_asked {now = now} p foreign fault next h =
+    ends_among p.waiting p.progress p.are_short (waiting_first p) foreign fault next
+    (subst (λ ms. AreFailed foreign fault ms now next) p.means h)
 
 -- the lines that are done, and then one that is too long
 abbrev IsLong : (done lines : List (List ℕ)) → Type 0
@@ -73,9 +90,9 @@ module _ {start : Start} {now : Moment} {count : ℕ} {line bytes : List ℕ}
   long_next : (part rest : List ℕ) × HasNoLf part × (bytes ≡ part ++ rest) × (is_too_long (line ++ part) ≡ true)
       → IfSome start.input (λ xs. IsLong (ended_lines p.taken) (lines_of xs))
   long_next (part, rest, no_lf, split, long) =
-      lines_known p (IsLong (ended_lines p.taken)) (λ ys.
+      lines_known p.bytes (IsLong (ended_lines p.taken)) (λ ys.
       let all : line ++ (bytes ++ ys) ≡ (line ++ part) ++ (rest ++ ys) = rw split (simp append_assoc) in
-      let joined = no_lf_append line part p.no_lf no_lf in
+      let joined = no_lf_append line part p.bytes.no_lf no_lf in
       let (first, tail, is, first_long) = long_first (line ++ part) (rest ++ ys) joined long in
       (first, tail, ap (λ ls. ended_lines p.taken ++ ls) (ap lines_of all ∙ is), first_long))
 
@@ -112,23 +129,23 @@ pub record Finished (start : Start) (now : Moment) (count : ℕ) : Type 0 where
 
 module _ {start : Start} {now : Moment} {count : ℕ} {line : List ℕ} (p : Between start now count line []) where
   joined : lines_of (p.taken ++ line) ≡ ended_lines p.taken ++ lines_of line
-  joined = lines_of-append p.taken line p.whole
+  joined = lines_of-append p.taken line p.bytes.whole
 
   -- a read failed
   pub ends_unread : (foreign : Type 0) → now.replies.bytes.items ≡ [] → EndsAt foreign (Err ReadFailed) start now
   ends_unread foreign none = (
     p.taken ++ line,
-    subst (λ (l : List ℕ). Consumes start.input now.left (p.taken ++ l)) (append-nil line) p.consumed,
-    rw (ended_kept p.taken line p.no_lf) (answered p.progress none),
+    subst (λ (l : List ℕ). Consumes start.input now.left (p.taken ++ l)) (append-nil line) p.bytes.consumed,
+    rw (ended_kept p.taken line p.bytes.no_lf) (answered p.progress none),
     rw joined (
-        has_too_long-append (ended_lines p.taken) (lines_of line) p.progress.short ∙ short_part line p.no_lf p.short),
+        has_too_long-append (ended_lines p.taken) (lines_of line) p.progress.short ∙ short_part line p.bytes.no_lf p.bytes.short),
   )
 
   -- at the end of the input nothing comes behind the line that is begun
   lines_at_end : IsAtEnd now.left → IfSome start.input (λ xs. lines_of xs ≡ ended_lines p.taken ++ lines_of line)
   lines_at_end end =
       Consumes-whole start.input now.left (p.taken ++ (line ++ []))
-      (λ xs. lines_of xs ≡ ended_lines p.taken ++ lines_of line) p.consumed end
+      (λ xs. lines_of xs ≡ ended_lines p.taken ++ lines_of line) p.bytes.consumed end
       (ap (λ l. lines_of (p.taken ++ l)) (append-nil line) ∙ joined)
 
   -- the input ended after a line
@@ -136,7 +153,7 @@ module _ {start : Start} {now : Moment} {count : ℕ} {line : List ℕ} (p : Bet
   finished end no_line = record {
     done = ended_lines p.taken;
     all = IfSome_then start.input (lines_at_end end) (λ xs is. is ∙ rw no_line (append-nil (ended_lines p.taken)));
-    lines = sym p.lines;
+    lines = sym p.bytes.lines;
     progress = p.progress;
   }
 
@@ -145,7 +162,7 @@ module _ {start : Start} {now : Moment} {count : ℕ} {line : List ℕ} (p : Bet
     last_line : IfSome start.input (λ xs. lines_of xs ≡ ended_lines p.taken ++ line ∷ [])
     last_line =
         IfSome_then start.input (lines_at_end end)
-        (λ xs is. is ∙ ap (λ ls. ended_lines p.taken ++ ls) (line_only line p.no_lf some))
+        (λ xs is. is ∙ ap (λ ls. ended_lines p.taken ++ ls) (line_only line p.bytes.no_lf some))
 
     last_next : AreFirst start.input (ended_lines p.taken ++ line ∷ [])
     last_next =
@@ -154,15 +171,15 @@ module _ {start : Start} {now : Moment} {count : ℕ} {line : List ℕ} (p : Bet
     -- the last line has no reply
     pub ends_at_last : (foreign : Type 0) (fault : SessionFault) (next : Moment) → IsFailed foreign fault line now next
         → EndsAt foreign (Err fault) start next
-    ends_at_last foreign fault next h = ends_failing p.progress foreign fault next line p.short last_next h
+    ends_at_last foreign fault next h = ends_failing p.progress foreign fault next line p.bytes.short last_next h
 
     -- the last line was answered
     pub finished_last : (next : Moment) → IsAnswered line now next → Finished start next (count + 1)
     finished_last next answers = record {
       done = ended_lines p.taken ++ line ∷ [];
       all = last_line;
-      lines = sym (length-append (ended_lines p.taken) (line ∷ []) ∙ ap (λ k. k + 1) p.lines);
-      progress = progress_line p.progress next line p.short last_next answers;
+      lines = sym (length-append (ended_lines p.taken) (line ∷ []) ∙ ap (λ k. k + 1) p.bytes.lines);
+      progress = progress_line p.progress next line p.bytes.short last_next answers;
     }
 
 module _ {start : Start} {now : Moment} {count : ℕ} (f : Finished start now count) where

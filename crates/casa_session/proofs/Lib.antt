@@ -3,6 +3,7 @@ pub mod Parts
 pub mod Splitting
 pub mod Transcripts
 pub mod Gathered
+pub mod Several
 pub mod Moments
 pub mod Progress
 pub mod Runs

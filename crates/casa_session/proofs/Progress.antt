@@ -1,9 +1,10 @@
 -- how far a session has come: which lines were answered, and how much of their transcript was written
-use Rattle.std.proofs.Common.{◌≡◌, ℕ, ◌+◌, List, [], ◌∷◌, ◌++◌, length, take, true, false, Option, None, Some, refl, sym, ap, ◌∙◌, subst, append-nil, append_assoc, length-append, arith, inl, inr}
+use Rattle.std.proofs.Common.{◌≡◌, ℕ, ◌+◌, List, [], ◌∷◌, ◌++◌, length, map, take, true, false, Option, None, Some, refl, sym, ap, ◌∙◌, subst, append-nil, append_assoc, length-append, arith, inl, inr}
 use Rattle.std.specs.Prelude.{IfSome, ◌⊎◌}
 use Rattle.std.specs.Io.KnownBytes.{Appends}
 use Rattle.std.proofs.KnownBytes.{Appends-nil, Appends-trans}
 use Rattle.std.proofs.Math.Seq.{take-append-add}
+use Rattle.std.proofs.lemmas.Option.{IfSome_then}
 use Rattle.casa_session.specs.Sending.{saturating_count}
 use Rattle.casa_wire.specs.Commands.{line_call}
 use Rattle.casa_wire.specs.LineTexts.{too_long_line}
@@ -12,8 +13,8 @@ use Rattle.casa_session.specs.Lines.{lines_of, is_too_long, has_too_long}
 use Rattle.casa_session.specs.Replies.{CutText, MayReply}
 use Rattle.casa_session.specs.Receipts.{Receipts}
 use Rattle.casa_session.specs.Transcript.{calls_of, calls, transcript, AnswersLines, Cut, Stopped}
-use Rattle.casa_session.proofs.Moments.{Start, Moment, first_moment, IsAnswered}
-use Rattle.casa_session.proofs.Splitting.{has_too_long-append}
+use Rattle.casa_session.proofs.Moments.{Start, Moment, first_moment, AreAnswered, IsAnswered}
+use Rattle.casa_session.proofs.Splitting.{has_too_long-append, or_false}
 use Rattle.casa_session.proofs.Transcripts.{called-append, grown, one_call, one_line, transcript-append}
 
 -- the lines of the input begin with these
@@ -105,6 +106,21 @@ module _ {start : Start} {now : Moment} {done : List (List ℕ)} (p : Progress s
         counts = omega (arith, g.reported, p.counts, length-append p.sent g.sent);
         written = Appends-trans start.output now.output next.output p.sent g.sent p.written g.written;
       }
+
+  -- a moment that stands as this one
+  pub progress_same : (next : Moment) → next.receipts ≡ now.receipts → next.replies ≡ now.replies
+      → next.output ≡ now.output → Progress start next done
+  progress_same next receipts replies output = record {
+    first = p.first;
+    short = p.short;
+    receipts = p.receipts;
+    grows = receipts ∙ p.grows;
+    called = p.called;
+    sent = p.sent;
+    split = p.split ∙ ap (λ (r : Replies). p.sent ++ r.bytes.items) (sym replies);
+    counts = ap (λ (r : Replies). r.written) replies ∙ p.counts;
+    written = subst (λ w. Appends start.output w p.sent) (sym output) p.written;
+  }
 
   -- all is written
   pub answered : now.replies.bytes.items ≡ [] → AnswersLines start.receipts now.receipts start.output now.output done
@@ -209,3 +225,31 @@ module _ {start : Start} {now : Moment} {done : List (List ℕ)} (p : Progress s
             (sym (transcript_more [] (first ∷ tail) ∙ ap (λ l. p.sent ++ (now.replies.bytes.items ++ l)) text))
             (Appends-trans start.output now.output output p.sent after p.written sent);
       }
+
+-- of more lines that are first the next one is
+pub next_first : (input : Option (List ℕ)) (done : List (List ℕ)) (line : List ℕ) (lines : List (List ℕ))
+    → AreFirst input (done ++ line ∷ lines) → AreFirst input (done ++ line ∷ [])
+next_first input done line lines first =
+    IfSome_then input first (λ xs q. (
+      lines ++ q.0,
+      q.1 ∙ append_assoc done (line ∷ lines) q.0 ∙ sym (append_assoc done (line ∷ []) (lines ++ q.0)),
+    ))
+
+-- and so they are behind it
+pub rest_first : (input : Option (List ℕ)) (done : List (List ℕ)) (line : List ℕ) (lines : List (List ℕ))
+    → AreFirst input (done ++ line ∷ lines) → AreFirst input ((done ++ line ∷ []) ++ lines)
+rest_first input done line lines first =
+    subst (AreFirst input) (sym (append_assoc done (line ∷ []) lines)) first
+
+-- lines were answered one after the other
+pub progress_lines : {start : Start} {now : Moment} {done : List (List ℕ)} (lines : List (List ℕ))
+    → Progress start now done → has_too_long lines ≡ false → AreFirst start.input (done ++ lines) → (next : Moment)
+    → AreAnswered (map line_call lines) now next → Progress start next (done ++ lines)
+progress_lines {done = done} [] p short first next (receipts, (replies, output)) =
+    rw (append-nil done) (progress_same p next receipts replies output)
+progress_lines {start} {now} {done} (line ∷ lines) p short first next (receipts, replies, output, answers, more) =
+    let then : Moment = record { left = now.left; receipts = receipts; output = output; replies = replies } in
+    let shorts = or_false (is_too_long line) (has_too_long lines) short in
+    let one = progress_line p then line shorts.0 (next_first start.input done line lines first) answers in
+    let all = progress_lines lines one shorts.1 (rest_first start.input done line lines first) next more in
+    subst (Progress start next) (append_assoc done (line ∷ []) lines) all

@@ -1,7 +1,10 @@
 -- inner contracts: what a reader of lines gives
-use Rattle.std.specs.Prelude.{◌≡◌, ℕ, ◌+◌, ◌-◌, ◌*◌, List, [], ◌∷◌, ◌++◌, Bool, true, false, Option}
+use Rattle.std.specs.Prelude.{◌≡◌, ℕ, ◌+◌, ◌-◌, ◌*◌, List, [], ◌∷◌, ◌++◌, Bool, true, false, Option, Result}
 use Rattle.std.specs.List.{slice_range}
 use Rattle.std.specs.Io.KnownBytes.{Consumes, IsAtEnd}
+use Rattle.casa_flight.specs.declared.call.Call.{Call}
+use Rattle.casa_wire.specs.declared.fault.WireFault.{WireFault}
+use Rattle.casa_wire.specs.Commands.{line_call}
 use Rattle.casa_session.specs.declared.lines.LineReader.{LineReader}
 use Rattle.casa_session.specs.declared.lines.Chunk.{Chunk}
 use Rattle.casa_session.specs.declared.lines.Chunk.TheVariants.{More, End, Failed}
@@ -24,3 +27,12 @@ abbrev pub IsGiven : Chunk → (r s : Option (List ℕ)) → List ℕ → Type 0
 IsGiven More r s bytes = Consumes r s bytes
 IsGiven End r s bytes = Consumes r s [] × IsAtEnd s
 IsGiven Failed r s bytes = Consumes r s []
+
+-- so many lines are read, where they are there, before the first of them is answered
+abbrev pub most_asked : ℕ
+most_asked = 64
+
+-- where a line is whole it is read behind those that were asked, and the next one begins; else it is only begun
+abbrev pub IsTaken : Bool → (whole line : List ℕ) → (old new : List (Result Call WireFault)) → Type 0
+IsTaken true whole line old new = (line ≡ []) × (new ≡ old ++ line_call whole ∷ [])
+IsTaken false whole line old new = (line ≡ whole) × (new ≡ old)

@@ -1,5 +1,5 @@
 -- inner contracts: how the reply to a line is made, and how replies are gathered and written
-use Rattle.std.specs.Prelude.{◌≡◌, ◌⊎◌, ℕ, ◌+◌, ◌<◌, List, [], ◌++◌, length, take, Option, Result}
+use Rattle.std.specs.Prelude.{◌≡◌, ◌⊎◌, ℕ, ◌+◌, ◌<◌, List, [], ◌∷◌, ◌++◌, length, take, Option, Result}
 use Rattle.std.specs.Io.KnownBytes.{Appends}
 use Rattle.casa_flight.specs.declared.call.Call.{Call}
 use Rattle.casa_session.specs.Sending.{saturating_count}
@@ -55,6 +55,21 @@ Fails foreign NoMemory meaning a b old v w = (text : List ℕ) × MayReply a b m
 Fails foreign ForeignPass meaning a b old v w = foreign × ((text : List ℕ) × MayReply a b meaning text × Appends v w old.bytes.items)
 Fails foreign LineTooLong meaning a b old v w = ⊥
 Fails foreign ReadFailed meaning a b old v w = ⊥
+
+-- lines of these meanings were answered one after the other, and their texts gathered
+abbrev pub AnswersAll : List (Result Call WireFault) → (a b : Receipts) (old new : Replies) (v w : Option (List ℕ)) → Type 0
+AnswersAll [] a b old new v w = (b ≡ a) × ((new ≡ old) × (w ≡ v))
+AnswersAll (meaning ∷ more) a b old new v w =
+    (c : Receipts) × (mid : Replies) × (x : Option (List ℕ))
+    × Answers meaning a c old mid v x × AnswersAll more c b mid new x w
+
+-- one of the lines of these meanings has no reply, and those before it were answered
+abbrev pub FailsAmong : (foreign : Type 0) → SessionFault → List (Result Call WireFault) → (a b : Receipts) → Replies → (v w : Option (List ℕ)) → Type 0
+FailsAmong foreign fault [] a b old v w = ⊥
+FailsAmong foreign fault (meaning ∷ more) a b old v w =
+    Fails foreign fault meaning a b old v w
+    ⊎ ((c : Receipts) × (mid : Replies) × (x : Option (List ℕ))
+    × Answers meaning a c old mid v x × FailsAmong foreign fault more c b mid x w)
 
 -- a write failed before all that was gathered was written
 abbrev pub IsUnwritten : SessionFault → Replies → (v w : Option (List ℕ)) → Type 0

@@ -3,6 +3,7 @@
 //! What a session writes is the transcript of its lines, whatever the desk answers, or the beginning of it.
 #![tactic(auto)]
 
+mod asked;
 mod fault;
 mod lines;
 mod lone;

@@ -1,10 +1,11 @@
 //! Gathers replies, and writes many at once.
 
-ghost use Rattle.std.specs.Prelude.{◌≡◌, ℕ, ◌+◌, ◌<◌, ◌^◌, [], ◌++◌, List, length, OnOk, OnErr, IfErr};
+ghost use Rattle.std.specs.Prelude.{◌≡◌, ℕ, ◌+◌, ◌<◌, ◌^◌, [], ◌++◌, List, length, OnOk, OnErr, IfErr, if◌then◌else◌};
 ghost use Rattle.std.specs.Io.KnownBytes.{Appends};
 ghost use Rattle.casa_session.specs.Sending.{saturating_count};
 ghost use Rattle.casa_wire.specs.Commands.{line_call};
 
+use crate::asked::Asked;
 use crate::fault::SessionFault;
 use crate::sending::send;
 use casa_commit::{CallFault, Desk};
@@ -25,7 +26,7 @@ pub struct Replies {
 }
 
 impl Replies {
-    ghost use Rattle.casa_session.specs.Replies.{Answers, EndsBy, Fails, IsRefused, IsUnwritten, MayReply, Replied, TooLongEnds};
+    ghost use Rattle.casa_session.specs.Replies.{Answers, AnswersAll, EndsBy, Fails, FailsAmong, IsRefused, IsUnwritten, MayReply, Replied, TooLongEnds};
 
     /// None, and nothing written.
     pub fn new(alloc: Global) -> Replies
@@ -38,10 +39,56 @@ impl Replies {
         }
     }
 
+    /// Answers the lines that were read, one after the other, if that is wanted now.
+    ///
+    /// Where one has no reply, none behind it is answered, and what was gathered before it is written first.
+    pub fn answer_asked<W: Write, D: Desk<Call = Call, Reply = Reply>>(
+        &mut self,
+        alloc: Global,
+        wanted: bool,
+        asked: &mut Asked,
+        desk: &mut D,
+        writer: &mut W,
+    ) -> Result<(), SessionFault>
+        ensures ok { OnOk result (AnswersAll (if wanted then asked.old else [])
+            (D.answered desk.old) (D.answered desk.new)
+            self.old self.new (W.contents writer.old) (W.contents writer.new)) }
+        ensures left { OnOk result (asked.new ≡ (if wanted then [] else asked.old)) }
+        ensures err { IfErr result (λ fault. FailsAmong D.may_be_foreign fault asked.old
+            (D.answered desk.old) (D.answered desk.new) self.old (W.contents writer.old)
+            (W.contents writer.new)) }
+    {
+        if wanted {
+            self.answer_all(alloc, asked.as_slice(), desk, writer)?;
+            asked.clear();
+        }
+        Ok(())
+    }
+
+    /// Answers lines that ask this, one after the other.
+    fn answer_all<W: Write, D: Desk<Call = Call, Reply = Reply>>(
+        &mut self,
+        alloc: Global,
+        asked: &[Result<Call, WireFault>],
+        desk: &mut D,
+        writer: &mut W,
+    ) -> Result<(), SessionFault>
+        ensures ok { OnOk result (AnswersAll asked.now (D.answered desk.old) (D.answered desk.new)
+            self.old self.new (W.contents writer.old) (W.contents writer.new)) }
+        ensures err { IfErr result (λ fault. FailsAmong D.may_be_foreign fault asked.now
+            (D.answered desk.old) (D.answered desk.new) self.old (W.contents writer.old)
+            (W.contents writer.new)) }
+    {
+        for meaning in asked {
+            self.answer(alloc, meaning, desk, writer)?;
+        }
+        Ok(())
+    }
+
     /// Answers a line, and writes what was gathered where that is much.
     ///
     /// Where the line has no reply, what was gathered before it is written first.
-    pub fn answer<W: Write, D: Desk<Call = Call, Reply = Reply>>(
+    pub fn answer_line<W: Write, D: Desk<Call = Call, Reply = Reply>>(
         &mut self,
         alloc: Global,
         line: &[u8],
@@ -55,7 +102,29 @@ impl Replies {
             (D.answered desk.old) (D.answered desk.new) self.old (W.contents writer.old)
             (W.contents writer.new)) }
     {
-        if let Err(fault) = self.gather(alloc, line, desk) {
+        match read_call(alloc, line) {
+            Err(WireFault::NoMemory) => Err(self.end(writer, SessionFault::NoMemory)),
+            meaning => self.answer(alloc, &meaning, desk, writer),
+        }
+    }
+
+    /// Answers a line that asks this, and writes what was gathered where that is much.
+    ///
+    /// Where the line has no reply, what was gathered before it is written first.
+    fn answer<W: Write, D: Desk<Call = Call, Reply = Reply>>(
+        &mut self,
+        alloc: Global,
+        meaning: &Result<Call, WireFault>,
+        desk: &mut D,
+        writer: &mut W,
+    ) -> Result<(), SessionFault>
+        ensures ok { OnOk result (Answers meaning.now (D.answered desk.old) (D.answered desk.new)
+            self.old self.new (W.contents writer.old) (W.contents writer.new)) }
+        ensures err { IfErr result (λ fault. Fails D.may_be_foreign fault meaning.now
+            (D.answered desk.old) (D.answered desk.new) self.old (W.contents writer.old)
+            (W.contents writer.new)) }
+    {
+        if let Err(fault) = self.gather(alloc, meaning, desk) {
             return Err(self.end(writer, fault));
         }
         if self.bytes.len() >= MANY {
@@ -64,24 +133,24 @@ impl Replies {
         Ok(())
     }
 
-    /// Makes the reply to a line.
+    /// Makes the reply to a line that asks this.
     fn gather<D: Desk<Call = Call, Reply = Reply>>(
         &mut self,
         alloc: Global,
-        line: &[u8],
+        meaning: &Result<Call, WireFault>,
         desk: &mut D,
     ) -> Result<(), SessionFault>
         ensures ok { OnOk result ((text : List ℕ) ×
-            Replied (D.answered desk.old) (D.answered desk.new) (line_call line.now) text ×
+            Replied (D.answered desk.old) (D.answered desk.new) meaning.now text ×
             (self.new.bytes.items ≡ self.old.bytes.items ++ text)) }
         ensures err { OnErr result ((text : List ℕ) ×
-            MayReply (D.answered desk.old) (D.answered desk.new) (line_call line.now) text) }
+            MayReply (D.answered desk.old) (D.answered desk.new) meaning.now text) }
         ensures kept { OnErr result (self.new.bytes.items ≡ self.old.bytes.items) }
         ensures written { self.new.written ≡ self.old.written }
         ensures refused { IfErr result (IsRefused D.may_be_foreign) }
     {
-        match read_call(alloc, line) {
-            Ok(call) => match desk.answer(alloc, &call) {
+        match meaning {
+            Ok(call) => match desk.answer(alloc, call) {
                 Ok(receipt) => match push_reply(&mut self.bytes, &receipt) {
                     Ok(()) => Ok(()),
                     Err(_) => Err(SessionFault::NoMemory),
@@ -89,8 +158,7 @@ impl Replies {
                 Err(CallFault::ForeignPass) => Err(SessionFault::ForeignPass),
                 Err(CallFault::NoMemory) => Err(SessionFault::NoMemory),
             },
-            Err(WireFault::NoMemory) => Err(SessionFault::NoMemory),
-            Err(fault) => match push_fault(&mut self.bytes, fault) {
+            Err(fault) => match push_fault(&mut self.bytes, *fault) {
                 Ok(()) => Ok(()),
                 Err(_) => Err(SessionFault::NoMemory),
             },

@@ -2,7 +2,7 @@ use Rattle.std.proofs.Common.{◌+◌, ◌<◌, ◌^◌}
 use Rattle.casa_session.specs.declared.replies.Replies.{Replies}
 use Rattle.casa_session.specs.LineReader.{pending, steps_left}
 use Rattle.casa_session.proofs.Moments.{Start, Moment}
-use Rattle.casa_session.proofs.Runs.{Between}
+use Rattle.casa_session.proofs.Runs.{Reading}
 use Rattle.casa_session.proofs.session.run.Given as goal
 
 -- what a session starts with, by its reader, desk and writer
@@ -24,8 +24,8 @@ moment g reader desk writer replies = record {
 
 abbrev pub invariant-lines : goal.invariant-lines
 invariant-lines g l = record {
-  between : Between (start g l.fn.reader l.fn.desk l.fn.writer) (moment g l.reader l.desk l.writer l.replies)
-      l.count l.line.items (pending l.lines);
+  reading : Reading (start g l.fn.reader l.fn.desk l.fn.writer) (moment g l.reader l.desk l.writer l.replies)
+      l.count l.asked l.line.items (pending l.lines);
   few : l.count + steps_left l.lines < 2 ^ 49;
 }
 
