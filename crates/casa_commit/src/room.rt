@@ -254,38 +254,36 @@ impl<W: World> Room<W> {
         ensures refused { OnErr result (IsUnchanged self.old self.new) }
         ensures back { IfErr result (λ answer. answer ≡ (answered, change)) }
     {
-        let Ok(given) = self.grow(&answered, &change) else {
+        let Ok(given) = self.grow(&answered) else {
             return Err((answered, change));
         };
-        let desk = answered.desk;
         let position = given.position;
+        if let Err(change) = self.world.write(position, change) {
+            return Err((answered, change));
+        }
+        let desk = answered.desk;
         self.history.push(answered);
-        self.world.apply(position, change);
         let tally = &mut self.desks[desk as usize];
         tally.calls += 1;
         tally.last = position;
         Ok(given)
     }
 
-    /// Makes the growths of an entry and its change: of the history, of the world, and the entry's receipt.
+    /// Makes the growth of the history for an entry, and the entry's receipt. `AllocError` where there is no memory for
+    /// one of them; nothing but spare memory has changed in either case.
     fn grow(
         &mut self,
         answered: &SharedEntry<W::Call, W::Reply>,
-        change: &W::Change,
     ) -> Result<Receipt<W::Call, W::Reply>, AllocError>
-        ensures world { W.same_but_capacity (world_of self.old) (world_of self.new) }
+        ensures world { world_of self.new ≡ world_of self.old }
         ensures history { entries_of self.new ≡ entries_of self.old }
         ensures number { room_number self.new ≡ room_number self.old }
         ensures desks { self.new.desks ≡ self.old.desks }
         ensures history_room { OnOk result (HasRoomForEntry (history_of self.new)) }
-        ensures world_room { OnOk result (W.has_room (world_of self.new)
-            (next_position self.old) change.now) }
         ensures given { IfOk result (λ r. r ≡ receipt (next_position self.old) answered.now) }
     {
         self.history.reserve()?;
-        let given = receipt(self.history.len() + 1, answered)?;
-        self.world.fits(given.position, change)?;
-        Ok(given)
+        receipt(self.history.len() + 1, answered)
     }
 }
 

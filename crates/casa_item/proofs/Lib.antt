@@ -4,3 +4,4 @@ pub mod Row
 pub mod Sorted
 pub mod Crossed
 pub mod Listed
+pub mod InPlace

@@ -4,3 +4,4 @@ pub mod Crossed
 pub mod Copies
 pub mod Versions
 pub mod Numbers
+pub mod Stood

@@ -1,17 +1,21 @@
 ghost use Rattle.std.specs.Prelude.{◌≡◌, IfOk};
+ghost use Rattle.casa_item.specs.Stood.{AreStood, DoneOr};
 
 use crate::item::{Item, same_item};
 use crate::seal::Seal;
-use crate::version::{Store, Version};
+use crate::stood::{Stands, stand_in_all};
+use crate::version::{Stand, Store, Version};
 use boxcar::tag::Tag;
-use std::alloc::AllocError;
+use casa_flight::RegId;
+use std::alloc::{AllocError, Global};
+use std::collections::BTreeMap;
 use std::marker::Model;
 use std::sync::Arc;
 
 /// A version in memory: its stamp with the item, which copies of the version share.
 pub struct Copied {
-    stamp: usize,
-    item: Arc<Item>,
+    pub(crate) stamp: usize,
+    pub(crate) item: Arc<Item>,
 }
 
 impl Model for Copied {
@@ -72,6 +76,9 @@ impl Version for Copied {
     ghost same_stamp = { same_copy_stamp };
 }
 
+/// The largest number of lists that are changed where they lie, since the change of each waits for that of the next.
+const MOST_STOOD: usize = 500;
+
 /// The store that keeps each version in memory, as long as anyone has it.
 #[derive(Drop)]
 pub struct Copies;
@@ -95,6 +102,26 @@ impl Store for Copies {
             stamp: position,
             item,
         })
+    }
+
+    fn stand(
+        &mut self,
+        alloc: Global,
+        lists: &mut BTreeMap<RegId, Copied>,
+        position: usize,
+        stands: &[(RegId, Stand)],
+        place: &Copied,
+    ) -> Result<bool, AllocError> {
+        if MOST_STOOD < stands.len() {
+            return Ok(false);
+        }
+        let all = Stands {
+            alloc,
+            position,
+            stands,
+            place,
+        };
+        stand_in_all(lists, &all)
     }
 
     fn again(&self) -> Copies {

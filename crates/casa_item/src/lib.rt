@@ -7,6 +7,7 @@ mod crossings;
 mod item;
 mod seal;
 mod spare;
+mod stood;
 mod version;
 
 pub use catalogue::Catalogue;
@@ -15,4 +16,4 @@ pub use crossings::Crossings;
 pub use item::{Item, row_in};
 pub use seal::{Seal, Seals};
 pub use spare::Spare;
-pub use version::{Store, Version};
+pub use version::{Stand, Store, Version};

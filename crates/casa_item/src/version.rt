@@ -2,11 +2,14 @@ ghost use Rattle.std.specs.Prelude.{◌≡◌, ℕ, List, Bool, true, IfOk, IfSo
 ghost use Rattle.std.specs.Arc.{arc_value};
 ghost use Rattle.boxcar.specs.Table.{Shelves};
 ghost use Rattle.casa_item.specs.declared.item.Item.{Item};
+ghost use Rattle.casa_item.specs.Stood.{AreStood, DoneOr};
 
 use crate::item::Item;
 use crate::seal::Seal;
 use boxcar::tag::Tag;
-use std::alloc::AllocError;
+use casa_flight::{Key, RegId, Stance};
+use std::alloc::{AllocError, Global};
+use std::collections::BTreeMap;
 use std::sync::Arc;
 
 /// A version of an item: its stamp, and what it takes to read the item.
@@ -58,6 +61,9 @@ pub trait Version: Drop {
     ghost same_stamp: { (v w : Self) → is_same v w ≡ true → stamp_of v ≡ stamp_of w };
 }
 
+/// How a flight is to stand in a list: so, or not at all.
+pub type Stand = (Key, Option<Stance>);
+
 /// A store that keeps versions of items.
 pub trait Store: Drop {
     type Version: Version;
@@ -67,6 +73,26 @@ pub trait Store: Drop {
     fn put(&mut self, position: usize, item: Arc<Item>) -> Result<Self::Version, AllocError>
         ensures item { IfOk result (λ version. Self.Version.item_of version ≡ arc_value item) }
         ensures number { IfOk result (λ version. Self.Version.stamp_of version ≡ position) };
+
+    /// Has a flight stand so in each of these lists where they lie, or not at all, as the entry at this position writes
+    /// them, and says whether: not where one of them is not there, or where the store can't. `place` is any version, which
+    /// stands in for one that is being changed. `AllocError` where memory is refused. Nothing has changed where it isn't
+    /// done.
+    fn stand(
+        &mut self,
+        _alloc: Global,
+        lists: &mut BTreeMap<RegId, Self::Version>,
+        position: usize,
+        stands: &[(RegId, Stand)],
+        _place: &Self::Version,
+    ) -> Result<bool, AllocError>
+        ensures { DoneOr result
+            (AreStood Self.Version.item_of Self.Version.stamp_of position stands.now
+            lists.old.entries lists.new.entries)
+            (lists.new.entries ≡ lists.old.entries) }
+    {
+        Ok(false)
+    }
 
     /// The store once more, for a board that changes apart from this one's. What each keeps, the other's versions know. It
     /// takes no memory.

@@ -363,6 +363,23 @@ impl SlotList {
         true
     }
 
+    /// Gives a forced flight another estimated time over, and says whether there was a forced one with this key. It takes no
+    /// memory.
+    pub fn reforce(&mut self, comp: Comp) -> bool
+        ensures answer { result ≡ is_forced self.old comp.key }
+        ensures forced { self.new ≡ (if result then record self.old {
+          flights = put
+              self.old.flights comp.key (Stance.Forced comp.eto);
+        } else self.old) }
+    {
+        let Some(Stance::Forced { .. }) = self.stance_of(&comp.key) else {
+            return false;
+        };
+        let stance = Stance::Forced { eto: comp.eto };
+        self.flights.put(comp.key, stance).unwrap();
+        true
+    }
+
     /// Takes a governed flight out and gives the place that it had: of a competitor its own, of an issued
     /// flight the slot whose window holds its calculated time over, `Over` without one. `None` where the
     /// regulation governs no flight with this key.

@@ -75,6 +75,16 @@ impl<'a, Kind, X> Entries<'a, Kind, X> {
         }
     }
 
+    /// These entries, which stand one behind the other.
+    pub(crate) fn of_row(entries: &'a [(Name<Kind>, X)]) -> Entries<'a, Kind, X>
+        requires { AreInOrder entries.now }
+        ensures { result ≡ entries.now }
+    {
+        let mut others = Left::Row(entries);
+        let first = others.pass();
+        Entries { first, others }
+    }
+
     /// The first entry, if there is one, and others behind it.
     pub(crate) fn behind(
         first: &'a Option<(Name<Kind>, X)>,

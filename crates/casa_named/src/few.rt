@@ -1,6 +1,6 @@
 //! Few values under names.
 
-ghost use Rattle.std.specs.Prelude.{◌≡◌, [], OnOk, OnErr};
+ghost use Rattle.std.specs.Prelude.{◌≡◌, ◌↔◌, [], IsTrue, OnOk, OnErr};
 ghost use Rattle.std.specs.Option.{option_copied};
 ghost use Rattle.casa_filing.specs.Text.{at_name, put, without};
 ghost use Rattle.casa_flight.specs.Good.{AreInOrder};
@@ -80,6 +80,13 @@ impl<Kind, X> Few<Kind, X> {
                 }
             }
         }
+    }
+
+    /// Whether there are no values.
+    pub fn is_empty(&self) -> bool
+        ensures { IsTrue result ↔ self.now ≡ [] }
+    {
+        self.first.is_none()
     }
 
     /// The entries, in the order of the names.

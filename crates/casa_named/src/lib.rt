@@ -10,3 +10,4 @@ mod sorted;
 pub use entries::Entries;
 pub use few::Few;
 pub use overlaid::Overlaid;
+pub use sorted::Sorted;

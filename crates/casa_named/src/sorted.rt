@@ -1,12 +1,13 @@
 //! Values under names, one behind the other in memory.
 
-ghost use Rattle.std.specs.Prelude.{◌≡◌, [], length, true, false, OnOk, IfErr, MatchOption, ◌∷◌};
+ghost use Rattle.std.specs.Prelude.{◌≡◌, ◌↔◌, [], length, true, false, IsTrue, OnOk, IfErr, MatchOption, ◌∷◌};
 ghost use Rattle.std.specs.List.{slice_get};
 ghost use Rattle.std.specs.Option.{option_copied, option_map_or};
 ghost use Rattle.casa_filing.specs.Text.{Text, at_name, put, same_text, without};
 ghost use Rattle.casa_flight.specs.Good.{AreInOrder};
 ghost use Rattle.casa_list.specs.Standings.{count_before, sought};
 
+use crate::entries::Entries;
 use casa_flight::Name;
 use std::alloc::{AllocFailed, Global};
 use std::marker::Model;
@@ -15,7 +16,7 @@ use std::marker::Model;
 /// they come in this order.
 ///
 /// Contracts see the entries.
-pub(crate) struct Sorted<Kind, X> {
+pub struct Sorted<Kind, X> {
     entries: Vec<(Name<Kind>, X)>,
 }
 
@@ -38,8 +39,8 @@ impl<Kind, X: Drop> Drop for Sorted<Kind, X> {
 }
 
 impl<Kind, X> Sorted<Kind, X> {
-    /// No values.
-    pub(crate) fn new(alloc: Global) -> Sorted<Kind, X>
+    /// No values. It takes no memory.
+    pub fn new(alloc: Global) -> Sorted<Kind, X>
         ensures { result ≡ [] }
     {
         Sorted {
@@ -47,8 +48,23 @@ impl<Kind, X> Sorted<Kind, X> {
         }
     }
 
-    /// The entries.
-    pub(crate) fn as_slice(&self) -> &[(Name<Kind>, X)]
+    /// Whether there are no values.
+    pub fn is_empty(&self) -> bool
+        ensures { IsTrue result ↔ self.now ≡ [] }
+    {
+        self.entries.is_empty()
+    }
+
+    /// The entries, to be gone through in the order of the names.
+    pub fn iter(&self) -> Entries<'_, Kind, X>
+        ensures entries { result ≡ self.now }
+        ensures ordered { AreInOrder self.now }
+    {
+        Entries::of_row(self.as_slice())
+    }
+
+    /// The entries, in the order of the names.
+    pub fn as_slice(&self) -> &[(Name<Kind>, X)]
         ensures entries { result.now ≡ self.now }
         ensures ordered { AreInOrder self.now }
     {
@@ -114,11 +130,7 @@ impl<Kind, X> Sorted<Kind, X> {
 
 impl<Kind, X: Drop> Sorted<Kind, X> {
     /// Puts a value under a name. The entry comes back where there is no memory for it; the values are then as they were.
-    pub(crate) fn put(
-        &mut self,
-        name: Name<Kind>,
-        value: X,
-    ) -> Result<(), AllocFailed<(Name<Kind>, X)>>
+    pub fn put(&mut self, name: Name<Kind>, value: X) -> Result<(), AllocFailed<(Name<Kind>, X)>>
         ensures put { OnOk result (self.new ≡ put self.old name value) }
         ensures refused { IfErr result (λ refused. (refused.value ≡ (name, value))
             × (self.new ≡ self.old)) }

@@ -8,3 +8,4 @@ pub mod Members
 pub mod Rows
 pub mod Served
 pub mod Stood
+pub mod WholeLists

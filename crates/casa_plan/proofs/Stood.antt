@@ -9,8 +9,8 @@ use Rattle.casa_filing.proofs.Entries.{each_found}
 use Rattle.casa_flight.specs.Good.{AreInOrder}
 use Rattle.casa_flight.specs.Listing.{Listing, stance_of}
 use Rattle.casa_laws.proofs.Kept.{put_same}
-use Rattle.casa_plan_spec.specs.Sight.{Sight, list_in}
-use Rattle.casa_plan_spec.specs.Write.{Lists, with_flight, with_stances, stances_gone}
+use Rattle.casa_plan_spec.specs.Sight.{Sight, list_in, with_flight}
+use Rattle.casa_plan_spec.specs.Write.{Lists, with_stances, stances_gone}
 use Rattle.casa_stance.proofs.Standing.{with_same}
 
 leaves_none : (has es : List (Text × ℕ)) → AllByRecursion (λ (e : Text × ℕ). at_name has e.0 ≡ Some e.1) es → stances_gone es has ≡ []

@@ -15,6 +15,7 @@ mod rates;
 mod recalling;
 mod replies;
 mod rooms;
+mod settled;
 mod shown;
 mod swapping;
 mod taking_in;
@@ -22,6 +23,6 @@ mod tick;
 mod write;
 
 pub use laws::views_show_what_is_read;
-pub use planning::{Direct, plan};
-pub use recalling::Recalling;
+pub use planning::{Direct, plan, plan_whole};
+pub use recalling::{Recalling, RecallingShared};
 pub use rooms::{board_of, competitor_of};

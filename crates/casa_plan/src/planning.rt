@@ -6,6 +6,7 @@ ghost use Rattle.casa_flight.specs.Good.{IsGood};
 ghost use Rattle.casa_flight.specs.Replies.{reply};
 ghost use Rattle.casa_footprint.specs.Change.{IsChange};
 ghost use Rattle.casa_view.specs.View.{IsFor, Shows};
+ghost use Rattle.casa_flight.specs.Listing.{list_of};
 ghost use Rattle.casa_plan_spec.specs.Sight.{IsPlanned, says};
 
 use crate::closing::close_reg;
@@ -13,6 +14,7 @@ use crate::list_reply::list;
 use crate::one_flight::{amend, cancel, exempt, file, revise, show};
 use crate::opening::open_reg;
 use crate::rates::rates;
+use crate::settled::settled;
 use crate::shown::Shown;
 use crate::swapping::swap;
 use crate::tick::tick;
@@ -54,9 +56,24 @@ pub fn plan<V: Version>(
 ) -> Result<(Reply, Change), AllocError>
     requires for_call { IsFor V.item_of view.now call.now }
     ensures { IfOk result (λ p. (m : State) → IsGood m → Shows V.item_of m view.now →
-        (p.0 ≡ reply m call.now) × IsChange m call.now (says p.1)) }
+        (p.0 ≡ reply m call.now) × IsChange m call.now (says (list_of m) p.1)) }
 {
     planned(alloc, &Shown::by(view), call)
+}
+
+/// As `plan`, with whole lists in the change: each list that the view shows, and in which a flight is to stand so, is copied
+/// with the flight standing there so. `AllocError` where there is no memory for them.
+pub fn plan_whole<V: Version>(
+    alloc: Global,
+    view: &View<V>,
+    call: &Call,
+) -> Result<(Reply, Change), AllocError>
+    requires for_call { IsFor V.item_of view.now call.now }
+    ensures { IfOk result (λ p. (m : State) → IsGood m → Shows V.item_of m view.now →
+        (p.0 ≡ reply m call.now) × IsChange m call.now (says (list_of m) p.1)) }
+{
+    let (reply, change) = plan(alloc, view, call)?;
+    Ok((reply, settled(alloc, &Shown::by(view), change)?))
 }
 
 /// The gate of programs: works each answer out at once.

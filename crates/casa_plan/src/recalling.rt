@@ -2,7 +2,7 @@
 
 ghost use Rattle.std.specs.Prelude.{◌≡◌};
 
-use crate::planning::plan;
+use crate::planning::{plan, plan_whole};
 use casa_commit::Gate;
 use casa_flight::{Call, RegId, Reply, reply_equality};
 use casa_view::{Board, Change, Store, View};
@@ -28,6 +28,36 @@ impl Recalling {
     pub fn new(alloc: Global) -> Recalling {
         Recalling {
             latest: Mutex::new(BTreeMap::new(alloc)),
+        }
+    }
+
+    /// The same reply to a call, which shares its rows with an equal earlier one where it asks for a list.
+    fn recall(&self, call: &Call, reply: Reply) -> Reply
+        ensures { result ≡ reply }
+    {
+        match call {
+            // Nobody waits here: where another desk looks up a reply at this moment, this one stays as it is.
+            Call::List(id) => match self.latest.try_lock() {
+                Some(mut latest) => recalled(&mut latest, id, reply),
+                None => reply,
+            },
+            _ => reply,
+        }
+    }
+}
+
+/// The same gate for a board that many desks share: what it answers has whole lists, so that none has to be copied while
+/// the board is locked.
+#[derive(Drop)]
+pub struct RecallingShared {
+    recalling: Recalling,
+}
+
+impl RecallingShared {
+    /// The gate that has answered nothing yet. It takes no memory.
+    pub fn new(alloc: Global) -> RecallingShared {
+        RecallingShared {
+            recalling: Recalling::new(alloc),
         }
     }
 }
@@ -62,13 +92,20 @@ impl<K: Store> Gate<Board<K>> for Recalling {
         call: &Call,
     ) -> Result<(Reply, Change), AllocError> {
         let (reply, change) = plan(alloc, view, call)?;
-        match call {
-            // Nobody waits here: where another desk looks up a reply at this moment, this one stays as it is.
-            Call::List(id) => match self.latest.try_lock() {
-                Some(mut latest) => Ok((recalled(&mut latest, id, reply), change)),
-                None => Ok((reply, change)),
-            },
-            _ => Ok((reply, change)),
-        }
+        Ok((self.recall(call, reply), change))
+    }
+}
+
+impl<K: Store> Gate<Board<K>> for RecallingShared {
+    fn plan(
+        &self,
+        alloc: Global,
+        _desk: u32,
+        _attempt: u32,
+        view: &View<K::Version>,
+        call: &Call,
+    ) -> Result<(Reply, Change), AllocError> {
+        let (reply, change) = plan_whole(alloc, view, call)?;
+        Ok((self.recalling.recall(call, reply), change))
     }
 }

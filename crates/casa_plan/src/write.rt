@@ -2,18 +2,20 @@
 
 ghost use Rattle.std.specs.Prelude.{◌≡◌, ◌++◌, [], ◌∷◌, List, true, IfOk, OnOk, option_copied};
 ghost use Rattle.std.specs.Option.{option_map};
-ghost use Rattle.casa_flight.specs.Listing.{Listing};
+ghost use Rattle.casa_flight.specs.State.{is_governed_by};
+ghost use Rattle.casa_flight.specs.Listing.{Listing, stance};
 ghost use Rattle.casa_filing.specs.Text.{without};
 ghost use Rattle.casa_filing.specs.declared.regulation.Regulation.{Regulation};
 ghost use Rattle.casa_flight.specs.Good.{AreInOrder};
-ghost use Rattle.casa_plan_spec.specs.Sight.{Sight, regulations_in, list_with};
-ghost use Rattle.casa_plan_spec.specs.Write.{with_flight, with_stances, crossed_by, stances_gone, stances_now, write_flight};
+ghost use Rattle.casa_plan_spec.specs.Sight.{Sight, regulations_in, list_with, with_flight};
+ghost use Rattle.casa_plan_spec.specs.Write.{with_stances, with_stands, crossed_by, stances_gone, stances_now, write_flight, write_stands};
 ghost use Rattle.casa_plan_spec.specs.OneFlight.{flight_written};
 
 use crate::shown::Shown;
 use casa_flight::{Key, RegId, Row, Stance};
 use casa_list::SharedList;
 use casa_stance::with_flight;
+use casa_time::Moment;
 use casa_view::{Change, Crossings, Version};
 use std::alloc::{AllocError, Global};
 
@@ -93,25 +95,11 @@ pub(crate) fn stand<V: Version>(
     draft.set_list(id, list)
 }
 
-/// Has a flight stand no more in the lists that it had and has not now. `AllocError` where there is no memory for them.
-fn leave_lists<V: Version>(
-    alloc: Global,
-    view: &Shown<V>,
-    draft: &mut Change,
-    key: Key,
-    had: &Crossings,
-    has: &Crossings,
-) -> Result<(), AllocError>
-    ensures { OnOk result (draft.new ≡ record draft.old {
-      lists = with_stances view.now key draft.old.lists (stances_gone had.now has.now);
-    }) }
+/// How a flight stands in the list of a regulation that it passes at this time, as its row says.
+fn stance_by(row: &Row, id: RegId, eto: Moment) -> Stance
+    ensures { result ≡ stance (is_governed_by id row.now) row.now.issued eto }
 {
-    for (id, _) in had.as_slice() {
-        if !has.contains(id) {
-            stand(alloc, view, draft, key, *id, None)?;
-        }
-    }
-    Ok(())
+    Stance::of(row.is_governed_by(id), row.issued, eto)
 }
 
 /// Has a flight stand in the lists that it has, if there is a flight, as its row says. `AllocError` where there is no memory
@@ -135,29 +123,10 @@ fn stand_in_lists<V: Version>(
         return Ok(());
     };
     for (id, eto) in over {
-        let stance = Stance::of(row.is_governed_by(*id), row.issued, *eto);
+        let stance = stance_by(row, *id, *eto);
         stand(alloc, view, draft, key, *id, Some(stance))?;
     }
     Ok(())
-}
-
-/// Writes a flight that crossed these regulations and crosses those: its row, or that there is none, and in each of their
-/// lists how it stands. `AllocError` where there is no memory for that.
-pub(crate) fn write_flight<V: Version>(
-    alloc: Global,
-    view: &Shown<V>,
-    draft: &mut Change,
-    key: Key,
-    now: Option<Row>,
-    had: &Crossings,
-    has: &Crossings,
-) -> Result<(), AllocError>
-    ensures { OnOk result (draft.new ≡ write_flight view.now draft.old key now
-        (stances_gone had.now has.now ++ stances_now now has.now)) }
-{
-    leave_lists(alloc, view, draft, key, had, has)?;
-    stand_in_lists(alloc, view, draft, key, now.as_ref(), has)?;
-    draft.set_row(key, now)
 }
 
 /// Writes a flight that crosses the regulations that it crossed: its row, or that there is none, and in each of their lists
@@ -203,8 +172,85 @@ fn keeps_plan(was: Option<&Row>, now: &Option<Row>) -> bool
     }
 }
 
-/// What is written of a flight that stood so and now stands so, subject to these regulations: its row and its lists.
-/// `AllocError` where there is no memory for that.
+/// Says of a flight that it stands no more in the lists that it had and has not now. `AllocError` where there is no memory
+/// for that.
+fn leave_lists(
+    draft: &mut Change,
+    key: Key,
+    had: &Crossings,
+    has: &Crossings,
+) -> Result<(), AllocError>
+    ensures { OnOk result (draft.new ≡ record draft.old {
+      stands = with_stands key draft.old.stands (stances_gone had.now has.now);
+    }) }
+{
+    for (id, _) in had.as_slice() {
+        if !has.contains(id) {
+            draft.stand(*id, key, None)?;
+        }
+    }
+    Ok(())
+}
+
+/// Says of a flight that it stands in the lists that it has, if there is a flight, as its row says. `AllocError` where there
+/// is no memory for that.
+fn take_lists(
+    draft: &mut Change,
+    key: Key,
+    now: Option<&Row>,
+    has: &Crossings,
+) -> Result<(), AllocError>
+    ensures stands { OnOk result (draft.new ≡ record draft.old {
+      stands = with_stands key draft.old.stands
+          (stances_now (option_copied now.entry) has.now);
+    }) }
+    ensures ordered { AreInOrder has.now }
+{
+    let over = has.as_slice();
+    let Some(row) = now else {
+        return Ok(());
+    };
+    for (id, eto) in over {
+        let stance = stance_by(row, *id, *eto);
+        draft.stand(*id, key, Some(stance))?;
+    }
+    Ok(())
+}
+
+/// Writes a flight that crossed these regulations and crosses those: its row, or that there is none, and how it is to stand
+/// in each of their lists. `AllocError` where there is no memory for that.
+fn write_anew(
+    draft: &mut Change,
+    key: Key,
+    now: Option<Row>,
+    had: &Crossings,
+    has: &Crossings,
+) -> Result<(), AllocError>
+    ensures { OnOk result (draft.new ≡ write_stands draft.old key now
+        (stances_gone had.now has.now ++ stances_now now has.now)) }
+{
+    leave_lists(draft, key, had, has)?;
+    take_lists(draft, key, now.as_ref(), has)?;
+    draft.set_row(key, now)
+}
+
+/// Writes a flight that crosses the regulations that it crossed: its row, or that there is none, and how it is to stand in
+/// each of their lists. `AllocError` where there is no memory for that.
+fn write_moved(
+    draft: &mut Change,
+    key: Key,
+    now: Option<Row>,
+    has: &Crossings,
+) -> Result<(), AllocError>
+    ensures { OnOk result (draft.new ≡ write_stands draft.old key now
+        (stances_gone has.now has.now ++ stances_now now has.now)) }
+{
+    take_lists(draft, key, now.as_ref(), has)?;
+    draft.set_row(key, now)
+}
+
+/// What is written of a flight that stood so and now stands so, subject to these regulations: its row, and how it is to
+/// stand in each of the lists that it had or has. `AllocError` where there is no memory for that.
 pub(crate) fn flight_written<V: Version>(
     alloc: Global,
     view: &Shown<V>,
@@ -219,10 +265,10 @@ pub(crate) fn flight_written<V: Version>(
 {
     let mut draft = Change::new(alloc);
     if keeps_plan(was, &now) {
-        write_again(alloc, view, &mut draft, key, now, has)?;
+        write_moved(&mut draft, key, now, has)?;
         return Ok(draft);
     }
     let had = crossed_by(alloc, view, was)?;
-    write_flight(alloc, view, &mut draft, key, now, &had, has)?;
+    write_anew(&mut draft, key, now, &had, has)?;
     Ok(draft)
 }

@@ -1,6 +1,6 @@
 -- a change, laid over what a view shows
-use Rattle.std.proofs.Common.{◌≡◌, List, [], ◌∷◌, map, Bool, true, false, cond, refl, sym, ap, Option, None, Some, is_some, if◌then◌else◌, unwrap_or}
-use Rattle.std.specs.Option.{option_map, option_flatten}
+use Rattle.std.proofs.Common.{◌≡◌, List, [], ◌∷◌, map, Bool, true, false, cond, refl, sym, ap, ◌∙◌, Option, None, Some, is_some, if◌then◌else◌, unwrap_or}
+use Rattle.std.specs.Option.{option_map, option_flatten, option_or}
 use Rattle.std.specs.Ordering.{is_eq}
 use Rattle.casa_flight.specs.declared.call.Call.{Call}
 use Rattle.casa_filing.specs.declared.regulation.Measure.{Measure}
@@ -13,13 +13,14 @@ use Rattle.casa_filing.proofs.Entries.{text_cmp, same_name}
 use Rattle.casa_footprint.specs.Items.{the_clock, the_catalogue, a_row, a_list, moment, regulations, row_or_none, list_or_none}
 use Rattle.casa_footprint.specs.Footprint.{would_write}
 use Rattle.casa_flight.specs.State.{catalogue}
-use Rattle.casa_plan_spec.specs.Sight.{Sight, Written, nothing_written, row_in, list_in, row_with, list_with}
+use Rattle.casa_plan_spec.specs.Sight.{Sight, Written, nothing_written, row_in, list_in, row_with, list_with, with_flight, Stand}
 use Rattle.casa_plan_spec.proofs.Changes.{Says, at-put_by}
 
 -- with the change, what the view shows are the flights and the lists of this state
 pub record Shows (v : Sight) (w : Written) (s : State) : Type 0 where
   pub rows : (key : Text) → row_with v w key ≡ row_of s key
   pub lists : (id : Text) → list_with v w id ≡ list_of s id
+  pub stands : w.stands ≡ []
 
 -- the lists of the open regulations, as a view shows them
 abbrev lists_of : List (Text × Row) → List (Text × Measure) → List (Text × Option Listing)
@@ -41,7 +42,7 @@ pub whole-list : (v : Sight) (m : State) (id : Text) → list_in (whole v m) id 
 whole-list v m id = list-among m.rows id m.regs
 
 pub whole-shown : (v : Sight) (m : State) → Shows (whole v m) nothing_written m
-whole-shown v m = record { rows = λ key. refl; lists = whole-list v m }
+whole-shown v m = record { rows = λ key. refl; lists = whole-list v m; stands = refl }
 
 -- what a change has of an item is what it has of the state, where it has anything
 pub of_shown : {X Y : Type 0} (f : X → Y) (o : Option X) (x y : X) (b : Bool) → is_some o ≡ b → unwrap_or o x ≡ y → option_map f o ≡ (if b then Some (f y) else None)
@@ -61,7 +62,9 @@ pub says_shown : (m : State) (call : Call) (v : Sight) (w : Written) (n : State)
 says_shown m call v w n s clock catalogued rows lists the_clock = clock
 says_shown m call v w n s clock catalogued rows lists the_catalogue = catalogued
 says_shown m call v w n s clock catalogued rows lists (a_row key) = of_shown row_or_none (at_name w.rows key) (row_in v key) (row_of n key) _ (rows key) (s.rows key)
-says_shown m call v w n s clock catalogued rows lists (a_list id) = of_shown list_or_none (at_name w.lists id) (list_in v id) (list_of n id) _ (lists id) (s.lists id)
+says_shown m call v w n s clock catalogued rows lists (a_list id) =
+    ap (λ (es : List (Text × Stand)). option_or (option_map (λ (e : Stand). list_or_none (option_map (λ (l : Listing). with_flight l e.0 e.1) (list_of m id))) (at_name es id)) (option_map list_or_none (at_name w.lists id))) s.stands
+    ∙ of_shown list_or_none (at_name w.lists id) (list_in v id) (list_of n id) _ (lists id) (s.lists id)
 
 pub row_put : (s : State) (key : Text) (new : Row) (q : Text) → row_of (with_row s key new) q ≡ (if same_text key q then Some new else row_of s q)
 row_put s key new q = at-put_by q key new s.rows

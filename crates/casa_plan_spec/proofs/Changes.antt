@@ -1,5 +1,5 @@
 -- what a change says
-use Rattle.std.proofs.Common.{◌≡◌, List, [], true, false, cond, refl, sym, ap, subst, ◌∙◌, ◌&&◌, None, Some, if◌then◌else◌}
+use Rattle.std.proofs.Common.{◌≡◌, List, [], true, false, cond, refl, sym, ap, subst, ◌∙◌, ◌&&◌, Option, None, Some, if◌then◌else◌}
 use Rattle.std.specs.Ordering.{is_eq}
 use Rattle.std.specs.Option.{option_map}
 use Rattle.casa_flight.specs.declared.call.Call.{Call}
@@ -9,28 +9,29 @@ use Rattle.casa_flight.specs.declared.state.State.{State}
 use Rattle.casa_filing.specs.Text.{Text, same_text, at_name, put}
 use Rattle.casa_flight.specs.Steps.{Step, refused, leads, step, after, next}
 use Rattle.casa_flight.specs.declared.reply.Reply.{Reply}
+use Rattle.casa_flight.specs.Listing.{Listing, list_of}
 use Rattle.casa_flight.specs.Replies.{reply_of, answer, messages}
 use Rattle.casa_filing.proofs.Entries.{text_cmp, itself, named, apart, at-put}
 use Rattle.casa_footprint.specs.Items.{ItemName, the_clock, the_catalogue, a_row, a_list, contents}
 use Rattle.casa_footprint.specs.Footprint.{would_write, is_accepted}
 use Rattle.casa_plan_spec.specs.Sight.{Written, nothing_written, says, IsAnswerIn}
 
-pub says-nothing : (i : ItemName) → says nothing_written i ≡ None
-says-nothing the_clock = refl
-says-nothing the_catalogue = refl
-says-nothing (a_row key) = refl
-says-nothing (a_list id) = refl
+pub says-nothing : (lists : Text → Option Listing) (i : ItemName) → says lists nothing_written i ≡ None
+says-nothing lists the_clock = refl
+says-nothing lists the_catalogue = refl
+says-nothing lists (a_row key) = refl
+says-nothing lists (a_list id) = refl
 
 -- a refused call is answered by its refusal and writes nothing
 pub refusal : (m : State) (call : Call) (r : Refusal) → step m call ≡ refused r → IsAnswerIn m call (Refused r, nothing_written)
 refusal m call r e = (
   sym (ap (reply_of m call) e),
-  λ i. says-nothing i ∙ sym (ap (λ (s : Step). if is_accepted s && would_write m call i then Some (contents (next m call) i) else None) e),
+  λ i. says-nothing (list_of m) i ∙ sym (ap (λ (s : Step). if is_accepted s && would_write m call i then Some (contents (next m call) i) else None) e),
 )
 
 -- what a change says that has what a call would write, as it is in this state
 abbrev pub Says : State → Call → State → Written → Type 0
-Says m call n w = (i : ItemName) → says w i ≡ (if would_write m call i then Some (contents n i) else None)
+Says m call n w = (i : ItemName) → says (list_of m) w i ≡ (if would_write m call i then Some (contents n i) else None)
 
 -- a call that leads to a state is answered in it, and writes what it would write
 pub acceptance : (m : State) (call : Call) (n : State) (r : Reply) (w : Written) → step m call ≡ leads n → r ≡ Answered (answer n call) (messages m n) → Says m call n w → IsAnswerIn m call (r, w)

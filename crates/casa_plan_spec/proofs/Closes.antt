@@ -92,7 +92,7 @@ closes m id measure l v good is opened listed =
     let stepped : step m call ≡ leads n = ap (close_regulation m id) opened in
     let then_good : IsGood n = subst (λ t. IsGood (after m t)) stepped (next-good m call good) in
     let rows : (q : Text) → is_some (at_name w.rows q) ≡ governs m id q = λ q. all.rows q ∙ among q in
-    let shows : Shows v w n = record { rows = λ q. as_shown q (at_name w.rows q) refl (rows q) ∙ all.shows.rows q; lists = all.shows.lists } in
+    let shows : Shows v w n = record { rows = λ q. as_shown q (at_name w.rows q) refl (rows q) ∙ all.shows.rows q; lists = all.shows.lists; stands = all.shows.stands } in
     let stays : (key other : Text) (row : Row) → at_name w.rows key ≡ None → row_of n key ≡ Some row → row.governing ≡ Some other → StaysOpen m n other =
     λ key other row none found by a there.
     let before_too : row_of m key ≡ Some row = sym (is.row key refl) ∙ sym (ap (λ o. unwrap_or o (row_in v key)) none) ∙ shows.rows key ∙ found in
@@ -174,7 +174,7 @@ closes m id measure l v good is opened listed =
         ∙ entries_as m.clock rs v s.rows begin cs same_rest
 
     before : Shows v nothing_written m
-    before = record { rows = λ q. is.row q refl; lists = λ q. is.list q refl }
+    before = record { rows = λ q. is.row q refl; lists = λ q. is.list q refl; stands = refl }
 
     -- as they are freed the change shows them, and the lists
     list_now : (q : Text) → unwrap_or (at_name gone q) (list_in v q) ≡ list_of s q
@@ -186,7 +186,7 @@ closes m id measure l v good is opened listed =
         ] refl)
 
     begun : Shows u begin s
-    begun = record { rows = λ q. refl; lists = list_now }
+    begun = record { rows = λ q. refl; lists = list_now; stands = refl }
 
     freed_row : (key : Text) (row : Row) → row_of m key ≡ Some row → row_of s key ≡ Some (ungoverned_if (is_governed_by id row) row)
     freed_row key row f = row-closed m id key ∙ ap (option_map (λ (row : Row). ungoverned_if (is_governed_by id row) row)) f

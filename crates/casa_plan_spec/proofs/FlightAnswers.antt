@@ -19,7 +19,7 @@ use Rattle.casa_flight.specs.Replies.{reply_of, answer, flight_answer, flight_re
 use Rattle.casa_flight.specs.Good.{IsGood}
 use Rattle.casa_filing.proofs.Entries.{at-put_same}
 use Rattle.casa_laws.proofs.ChangeMessages.{messages_one}
-use Rattle.casa_footprint.specs.Items.{ItemName, the_clock, the_catalogue, a_row, a_list, contents}
+use Rattle.casa_footprint.specs.Items.{ItemName, contents}
 use Rattle.casa_footprint.specs.Footprint.{is_subject, governs, would_write, is_accepted}
 use Rattle.casa_footprint.proofs.Messages.{own_row, messages_self}
 use Rattle.casa_footprint.proofs.OneFlight.{is_over_in, has_written}
@@ -29,6 +29,7 @@ use Rattle.casa_plan_spec.specs.Sight.{Sight, Written, says, nothing_written, Is
 use Rattle.casa_plan_spec.specs.OneFlight.{entry_offer, with_offer, offered_delay, reply_with_message, flight_written, ctot_shown_if, reply_to_change}
 use Rattle.casa_plan_spec.specs.FlightCalls.{refusal, leave_unchanged, rewrite_flight}
 use Rattle.casa_plan_spec.proofs.FlightOffers.{offer_found, Finds, entry_same, entered_is, entered_delay}
+use Rattle.casa_plan_spec.proofs.Changes.{says-nothing}
 use Rattle.casa_plan_spec.proofs.FlightLists.{Rewrites, change_is}
 
 -- the reply to a call that writes the row of one flight
@@ -39,23 +40,16 @@ told_one m key row delay good is =
     (λ i. Answered (option_map_or (λ (r : Row). Flight (flight_reply n key r)) (at-put_same key row m.rows i) Done) (messages_one m key row good i))
     ∙ ap (λ d. reply_with_message key row d (is_issued (row_of m key)) (ctot_before m key)) is
 
--- a change that writes nothing says nothing
-says_nothing : (i : ItemName) → says nothing_written i ≡ None
-says_nothing the_clock = refl
-says_nothing the_catalogue = refl
-says_nothing (a_row key) = refl
-says_nothing (a_list id) = refl
-
 -- a refused call is answered by its refusal
 pub refused_answer : (m : State) (call : Call) (r : Refusal) → step m call ≡ refused r → IsAnswerIn m call (refusal r)
 refused_answer m call r is = (
   ap (reply_of m call) (sym is),
-  λ i. says_nothing i ∙ sym (ap (λ (s : Step). cond (is_accepted s && would_write m call i) (Some (contents (after m s) i)) None) is),
+  λ i. says-nothing (list_of m) i ∙ sym (ap (λ (s : Step). cond (is_accepted s && would_write m call i) (Some (contents (after m s) i)) None) is),
 )
 
 -- a call that leads to a state which differs in these items
 pub led_change : (m n : State) (call : Call) (d : Written) (has : ItemName → Bool) → step m call ≡ leads n → ((i : ItemName) → would_write m call i ≡ has i)
-    → ((i : ItemName) → says d i ≡ (if has i then Some (contents n i) else None)) → IsChange m call (says d)
+    → ((i : ItemName) → says (list_of m) d i ≡ (if has i then Some (contents n i) else None)) → IsChange m call (says (list_of m) d)
 led_change m n call d has is written says_so i =
     says_so i ∙ sym (λ j. cond (is_accepted (is j) && written i j) (Some (contents (after m (is j)) i)) None)
 
@@ -152,5 +146,5 @@ unchanged_answer v m call key row good found governs is answers spares = (
       ∙ sym (ap (reply_of m call) is
       ∙ (λ i. Answered (answers i) (messages_self m good i))
       ∙ ap (λ (w : Option Row). Answered (option_map_or (λ (r : Row). Flight (flight_reply m key r)) w Done) []) found),
-  led_change m m call nothing_written (λ i. false) is spares says_nothing,
+  led_change m m call nothing_written (λ i. false) is spares (says-nothing (list_of m)),
 )

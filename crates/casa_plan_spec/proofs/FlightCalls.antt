@@ -15,7 +15,7 @@ use Rattle.casa_filing.specs.Text.{Text, same_text}
 use Rattle.casa_filing.specs.FlightPlan.{FlightPlan, etot}
 use Rattle.casa_filing.specs.Subject.{is_gone}
 use Rattle.casa_flight.specs.State.{row_of, with_row, catalogue, is_exempt, ungoverned}
-use Rattle.casa_flight.specs.Listing.{Listing, governing_list, delay_in, delay_of, ctot_of}
+use Rattle.casa_flight.specs.Listing.{Listing, list_of, governing_list, delay_in, delay_of, ctot_of}
 use Rattle.casa_flight.specs.Entry.{Offer, situation, row_after_entry}
 use Rattle.casa_flight.specs.Steps.{Step, leads, step, new_row, file, amend, cancel, is_revised, state_if, revise, exempt, exempt_if, show}
 use Rattle.casa_flight.specs.Replies.{reply_of, messages}
@@ -144,7 +144,7 @@ cancel_planned v key m good of = by (row_in v key) found
           lists = λ id s. of.list id (cancel_writes m key (a_list id) ∙ s);
         } in (
           sym (ap (reply_of m (Cancel key)) is ∙ ap (λ (ms : List Message). Answered Done ms) silent),
-          subst (λ (w : Option Row). IsChange m (Cancel key) (says (flight_written v key w None))) e (led_change m n (Cancel key) (flight_written v key (row_of m key) None) (has_written m key None) is (cancel_writes m key) (change_is v m key None r)),
+          subst (λ (w : Option Row). IsChange m (Cancel key) (says (list_of m) (flight_written v key w None))) e (led_change m n (Cancel key) (flight_written v key (row_of m key) None) (has_written m key None) is (cancel_writes m key) (change_is v m key None r)),
         )
 
 pub show_planned : (v : Sight) (key : Text) → IsPlanned v (Show key) (planned.show v key)

@@ -80,7 +80,7 @@ lists m id v l measure good is here opened =
     let told : ListAnswer (list_shown v r l) ≡ list_answer m id =
     (λ i. ListAnswer (record { reg = r.id; loc = r.loc; start = r.start; end = r.end; slots = length (slots l.profile); rows = rows_are m id l v here is i }))
     ∙ sym (answer_at m id measure l opened here) in
-    acceptance m (ListOf id) m (Answered (ListAnswer (list_shown v r l)) []) nothing_written (ap (step_list m) opened) (λ i. Answered (told i) (sym (messages_self m good) i)) (λ i. says-nothing i)
+    acceptance m (ListOf id) m (Answered (ListAnswer (list_shown v r l)) []) nothing_written (ap (step_list m) opened) (λ i. Answered (told i) (sym (messages_self m good) i)) (λ i. says-nothing (list_of m) i)
 
 pub list_planned : (v : Sight) (id : Text) → IsPlanned v (ListOf id) (list v id)
 list_planned v id m good is =

@@ -11,10 +11,10 @@ use Rattle.casa_filing.specs.Text.{Text, at_name, put}
 use Rattle.casa_flight.specs.State.{measure_of, catalogue, is_governed_by}
 use Rattle.casa_flight.specs.Listing.{Listing, stance}
 use Rattle.casa_flight.specs.Good.{AreInOrder}
-use Rattle.casa_filing.proofs.Entries.{text_cmp, itself, same_name, at-put}
+use Rattle.casa_filing.proofs.Entries.{text_cmp, same_name, at-put}
 use Rattle.casa_laws.proofs.Kept.{kept_by, at-kept_by, sorted-kept_by, at_above}
-use Rattle.casa_plan_spec.specs.Sight.{Sight, list_in}
-use Rattle.casa_plan_spec.specs.Write.{Lists, Stances, with_flight, with_stances, stances_gone, stances_now, stances, crossed_by}
+use Rattle.casa_plan_spec.specs.Sight.{Sight, Stand, list_in, with_flight}
+use Rattle.casa_plan_spec.specs.Write.{Lists, Stances, with_stands, with_stances, stances_gone, stances_now, stances, crossed_by}
 use Rattle.casa_plan_spec.proofs.Crossings.{time_over, at-crossed, sorted-crossed}
 
 -- each name stands once
@@ -67,16 +67,26 @@ lists_named v key ls es q once = ap is_some (at-with_stances v key ls es q once)
     by (Some s) None = refl
     by (Some s) (Some y) = refl
 
--- nothing but the lists that are named is looked at
-pub same_lists : (v u : Sight) (key : Text) (ls : Lists) (es : Stances) → ((q : Text) → is_some (at_name es q) ≡ true → list_in v q ≡ list_in u q) → AreOnce es → with_stances v key ls es ≡ with_stances u key ls es
-same_lists v u key ls [] same once = refl
-same_lists v u key ls (e ∷ es) same once =
-    ap (λ (l : Option Listing). with_stances v key (put ls e.0 (set_in key (unwrap_or (at_name ls e.0) l) e.1)) es) (same e.0 (ap (λ b. is_some (cond b (Some e.1) (at_name es e.0))) (itself e.0)))
-    ∙ same_lists v u key (put ls e.0 (set_in key (unwrap_or (at_name ls e.0) (list_in u e.0)) e.1)) es (λ q h. same q (later q h (is_eq (text_cmp q e.0)))) once.1
-  where
-    later : (q : Text) → is_some (at_name es q) ≡ true → (b : Bool) → is_some (cond b (Some e.1) (at_name es q)) ≡ true
-    later q h true = refl
-    later q h false = h
+-- how the flight is to stand
+abbrev pub stand_of : Text → Option (Option Stance) → Option Stand
+stand_of key o = option_map (λ (s : Option Stance). let stand : Stand = (key, s) in stand) o
+
+-- a flight is to stand so in the lists that are named, and in others as is said already
+pub at-with_stands : (key : Text) (all : List (Text × Stand)) (es : Stances) (q : Text) → AreOnce es
+    → at_name (with_stands key all es) q ≡ option_or (stand_of key (at_name es q)) (at_name all q)
+at-with_stands key all [] q once = refl
+at-with_stands key all (e ∷ es) q once =
+    let x : Stand = (key, e.1) in
+    at-with_stands key (put all e.0 x) es q once.1
+    ∙ ap (option_or (stand_of key (at_name es q))) (at-put q e.0 x all)
+    ∙ (elim (is_eq (text_cmp q e.0)) as (λ b. is_eq (text_cmp q e.0) ≡ b
+    → option_or (stand_of key (at_name es q)) (cond b (Some x) (at_name all q))
+    ≡ option_or (stand_of key (cond b (Some e.1) (at_name es q))) (at_name all q)) [
+      | true ↦ λ t.
+          subst (λ k. option_or (stand_of key (at_name es k)) (Some x) ≡ Some x) (sym (same_name q e.0 t))
+          (ap (λ o. option_or (stand_of key o) (Some x)) once.0)
+      | false ↦ λ t. refl
+    ] refl)
 
 -- the lists that a flight leaves, and those in which it stands, by name
 abbrev left_as : List (Text × ℕ) → Text → ℕ → Option (Option Stance)

@@ -25,8 +25,8 @@ use Rattle.casa_laws.proofs.Swap.{SharedBy, shared_by}
 use Rattle.casa_footprint.specs.Footprint.{governs}
 use Rattle.casa_footprint.proofs.Names.{text_itself}
 use Rattle.casa_footprint.proofs.OneFlight.{other_row}
-use Rattle.casa_plan_spec.specs.Sight.{Sight, Written, nothing_written, IsSightOf, IsAnswerIn, IsPlanned, clock_in, list_with, list_in, row_in}
-use Rattle.casa_plan_spec.specs.Write.{with_flight, write_flight}
+use Rattle.casa_plan_spec.specs.Sight.{Sight, Written, nothing_written, IsSightOf, IsAnswerIn, IsPlanned, clock_in, list_with, list_in, row_in, with_flight}
+use Rattle.casa_plan_spec.specs.Write.{write_flight}
 use Rattle.casa_plan_spec.specs.Issue.{governed_stance, with_issued_row}
 use Rattle.casa_plan_spec.specs.Messages.{ctot_by, ctot_shown, message_shown, messages_shown, answer_done}
 use Rattle.casa_plan_spec.specs.Swapping.{exchange_written, swap_if, swap_issued, swap_at, swap}

@@ -149,7 +149,7 @@ takes_in m call id measure v good is takes =
     some_if false = refl
 
     before : Shows v nothing_written m
-    before = record { rows = row_is; lists = list_is }
+    before = record { rows = row_is; lists = list_is; stands = refl }
 
     found : AllByRecursion (λ (e : Text × Row). row_of m e.0 ≡ Some e.1) m.rows
     found = each_found m.rows good.rows_in_order
@@ -163,6 +163,7 @@ takes_in m call id measure v good is takes =
     begun : Shows v begin started
     begun = record {
       rows = row_is;
+      stands = refl;
       lists = λ q.
           ap (λ o. unwrap_or o (list_in v q)) (at-put_by q id (Some list) []) ∙
           (elim (same_text id q) as (λ b. same_text id q ≡ b → unwrap_or (if b then Some (Some list) else None) (list_in v q) ≡ list_of started q) [

@@ -73,11 +73,11 @@ ticks m at v good is back =
     let rows : v.rows ≡ m.rows = is.rows (λ q. refl) in
     let ordered : AreInOrder v.rows = subst (λ (es : List (Text × Row)). AreInOrder es) (sym rows) good.rows_in_order in
     let same_keys : due_keys at m.rows ≡ keys = ap (due_keys at) (sym rows) in
-    let before : Shows v nothing_written m = record { rows = λ q. is.row q refl; lists = λ q. is.list q refl } in
-    let begun : Shows v (clock_written at) start = record { rows = λ q. is.row q refl; lists = λ q. is.list q refl } in
+    let before : Shows v nothing_written m = record { rows = λ q. is.row q refl; lists = λ q. is.list q refl; stands = refl } in
+    let begun : Shows v (clock_written at) start = record { rows = λ q. is.row q refl; lists = λ q. is.list q refl; stands = refl } in
     let held : AllByRecursion (IsHeld start) keys = subst (AllByRecursion (IsHeld start)) same_keys (due_held m at good) in
     let all : Issues v (clock_written at) start start keys =
-    issues v (clock_written at) start start keys (record { rows = λ q. is.row q refl; lists = λ q. is.list q refl }) good.rows_in_order begun good.rows_in_order refl (due_rising at v.rows ordered) (all-always (λ (k : Text). row_of m k ≡ row_of m k) (λ k. refl) keys) held in
+    issues v (clock_written at) start start keys (record { rows = λ q. is.row q refl; lists = λ q. is.list q refl; stands = refl }) good.rows_in_order begun good.rows_in_order refl (due_rising at v.rows ordered) (all-always (λ (k : Text). row_of m k ≡ row_of m k) (λ k. refl) keys) held in
     let ends : issue_each start start keys ≡ n = ap (issue_each start start) (sym same_keys) ∙ at_once start good.rows_in_order (subst (AllByRecursion (IsHeld start)) (sym same_keys) held) in
     let shows : Shows v w n = subst (Shows v w) ends all.shows in
     let sorted : AreInOrder n.rows = subst (IsStrictlySortedBy text_cmp) (sym (keys-map (λ (e : Text × Row). issue_if (is_to_issue at e.1) start e.0 e.1) m.rows)) good.rows_in_order in

@@ -18,8 +18,8 @@ use Rattle.casa_laws.proofs.Outcomes.{set_row}
 use Rattle.casa_laws.proofs.Lists.{list-with_row, list_cancelled, stance_is, with_same}
 use Rattle.casa_laws.proofs.Planned.{list_sorted}
 use Rattle.casa_footprint.proofs.OneFlight.{is_over_in}
-use Rattle.casa_plan_spec.specs.Sight.{Sight, Written, list_in, row_in}
-use Rattle.casa_plan_spec.specs.Write.{Stances, with_flight, with_stances, write_flight, stances}
+use Rattle.casa_plan_spec.specs.Sight.{Sight, Written, list_in, row_in, with_flight}
+use Rattle.casa_plan_spec.specs.Write.{Stances, with_stances, write_flight, stances}
 use Rattle.casa_plan_spec.proofs.Changes.{at-put_by, test_same}
 use Rattle.casa_plan_spec.proofs.Naming.{governed_other, forced_either}
 use Rattle.casa_plan_spec.proofs.Board.{Shows}
@@ -54,7 +54,7 @@ Covers s key now es =
 
 pub flight_shown : (v : Sight) (w : Written) (s : State) (key : Text) (now : Option Row) (es : Stances) → Shows v w s → AreInOrder s.rows → AreOnce es → Covers s key now es
     → Shows v (write_flight v w key now es) (set_row s key now)
-flight_shown v w s key now es shows sorted once covers = record { rows = rows; lists = lists }
+flight_shown v w s key now es shows sorted once covers = record { rows = rows; lists = lists; stands = shows.stands }
   where
     n : State
     n = set_row s key now

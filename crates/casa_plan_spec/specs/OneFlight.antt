@@ -15,7 +15,7 @@ use Rattle.casa_flight.specs.Entry.{Offer, offer_in, most_penalising, governed}
 use Rattle.casa_flight.specs.Replies.{flight_with, message_of, is_issued}
 use Rattle.casa_footprint.specs.Finding.{crossed}
 use Rattle.casa_plan_spec.specs.Sight.{Sight, Written, nothing_written, clock_in, regulations_in, list_in}
-use Rattle.casa_plan_spec.specs.Write.{write_flight, stances}
+use Rattle.casa_plan_spec.specs.Write.{stances, write_stands}
 use Rattle.casa_plan_spec.specs.Messages.{ctot_by}
 
 -- what these regulations offer a flight with these times over, each by its list
@@ -38,10 +38,9 @@ with_offer clock row o = option_map_or (governed clock row) o row
 abbrev pub offered_delay : Option Offer → ℕ
 offered_delay o = option_map_or (λ (o : Offer). o.delay) o 0
 
--- what is written where a flight stood so and now stands so: its row and its lists
+-- what is written where a flight stood so and now stands so: its row, and how it is to stand in its lists
 abbrev pub flight_written : Sight → Text → Option Row → Option Row → Written
-flight_written v key was now =
-    write_flight v nothing_written key now (stances (regulations_in v) was now)
+flight_written v key was now = write_stands nothing_written key now (stances (regulations_in v) was now)
 
 -- the reply with this flight and its message, by whether it was issued before and its calculated take-off time then
 abbrev pub reply_with_message : Text → Row → ℕ → Bool → ℕ → Reply

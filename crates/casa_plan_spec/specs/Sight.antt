@@ -1,12 +1,13 @@
 -- inner contracts: what a view shows to a planner, and when an answer by it is the right one
 use Rattle.std.specs.Prelude.{◌≡◌, ℕ, List, [], true, Option, None, Some, unwrap_or}
-use Rattle.std.specs.Option.{option_map, option_flatten}
+use Rattle.std.specs.Option.{option_map, option_flatten, option_or}
 use Rattle.casa_flight.specs.declared.call.Call.{Call}
 use Rattle.casa_filing.specs.declared.regulation.Regulation.{Regulation}
 use Rattle.casa_flight.specs.declared.reply.Reply.{Reply}
 use Rattle.casa_flight.specs.declared.row.Row.{Row}
+use Rattle.casa_flight.specs.declared.row.Stance.{Stance}
 use Rattle.casa_flight.specs.declared.state.State.{State}
-use Rattle.casa_filing.specs.Text.{Text, at_name}
+use Rattle.casa_filing.specs.Text.{Text, at_name, put, without}
 use Rattle.casa_flight.specs.State.{row_of, catalogue}
 use Rattle.casa_flight.specs.Listing.{Listing, list_of}
 use Rattle.casa_flight.specs.Entry.{Situation}
@@ -51,23 +52,38 @@ regulations_in v = unwrap_or v.catalogue []
 abbrev pub situation_in : Sight → Situation
 situation_in v = record { clock = clock_in v; regulations = regulations_in v; lists = list_in v }
 
--- to believe: what a change writes: the clock, the catalogue, and rows and lists by their names, or that there is none
+-- to believe: how a flight is to stand in a list: so, or not at all
+abbrev pub Stand : Type 0
+Stand = Text × Option Stance
+
+-- to believe: the list with the flight standing so, or not at all
+abbrev pub with_flight : Listing → Text → Option Stance → Listing
+with_flight l key None = record l { flights = without l.flights key }
+with_flight l key (Some s) = record l { flights = put l.flights key s }
+
+-- to believe: what a change writes: the clock, the catalogue, and rows and lists by their names, or that there is none; and, of
+-- other lists, how a flight is to stand there
 pub record Written : Type 0 where
   pub clock : Option ℕ
   pub catalogue : Option (List Regulation)
   pub rows : List (Text × Option Row)
   pub lists : List (Text × Option Listing)
+  pub stands : List (Text × Stand)
 
 -- to believe: nothing
 abbrev pub nothing_written : Written
-nothing_written = record { clock = None; catalogue = None; rows = []; lists = [] }
+nothing_written = record { clock = None; catalogue = None; rows = []; lists = []; stands = [] }
 
--- to believe: what a change says of an item, if it says anything
-abbrev pub says : Written → ItemName → Option Content
-says w the_clock = option_map moment w.clock
-says w the_catalogue = option_map regulations w.catalogue
-says w (a_row key) = option_map row_or_none (at_name w.rows key)
-says w (a_list id) = option_map list_or_none (at_name w.lists id)
+-- to believe: what a change says of an item, if it says anything, where the lists stand so before it
+abbrev pub says : (Text → Option Listing) → Written → ItemName → Option Content
+says lists w the_clock = option_map moment w.clock
+says lists w the_catalogue = option_map regulations w.catalogue
+says lists w (a_row key) = option_map row_or_none (at_name w.rows key)
+says lists w (a_list id) =
+    option_or
+    (option_map (λ (s : Stand). list_or_none (option_map (λ (l : Listing). with_flight l s.0 s.1) (lists id)))
+    (at_name w.stands id))
+    (option_map list_or_none (at_name w.lists id))
 
 -- the row under a key and the list under an identifier, as a view shows them with a change laid over it
 abbrev pub row_with : Sight → Written → Text → Option Row
@@ -78,7 +94,7 @@ list_with v w id = unwrap_or (at_name w.lists id) (list_in v id)
 
 -- the answer to a call in a state: its reply, and a change of what it writes
 abbrev pub IsAnswerIn : State → Call → Reply × Written → Type 0
-IsAnswerIn m call p = (p.0 ≡ reply m call) × IsChange m call (says p.1)
+IsAnswerIn m call p = (p.0 ≡ reply m call) × IsChange m call (says (list_of m) p.1)
 
 -- and so in every good state of which the view shows what the call reads
 abbrev pub IsPlanned : Sight → Call → Reply × Written → Type 0

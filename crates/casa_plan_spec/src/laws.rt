@@ -1,6 +1,8 @@
 //! Laws of the definitions, each on a function that does nothing.
 
-ghost use Rattle.std.specs.Prelude.{◌≡◌, None};
+ghost use Rattle.std.specs.Prelude.{◌≡◌, Option, None};
+ghost use Rattle.casa_filing.specs.Text.{Text};
+ghost use Rattle.casa_flight.specs.Listing.{Listing};
 ghost use Rattle.casa_flight.specs.declared.call.Call.{Call};
 ghost use Rattle.casa_flight.specs.declared.state.State.{State};
 ghost use Rattle.casa_flight.specs.Good.{IsGood};
@@ -11,7 +13,7 @@ ghost use Rattle.casa_plan_spec.specs.Sight.{says, nothing_written};
 
 /// A change that writes nothing says nothing of any item.
 pub fn nothing_is_said()
-    ensures { (i : ItemName) → says nothing_written i ≡ None }
+    ensures { (lists : Text → Option Listing) (i : ItemName) → says lists nothing_written i ≡ None }
 {}
 
 /// What a call reads decides its reply: it is the same in two good states that contain the same there.

@@ -7,7 +7,7 @@ use casa_html::live_page;
 use casa_http::{Backend, Hosts, Site, browse};
 use casa_keeper::Keeper;
 use casa_live::Browser;
-use casa_plan::Recalling;
+use casa_plan::RecallingShared;
 use casa_sockets::{LineEnd, Patience};
 use casa_view::Store;
 use std::alloc::{AllocError, Global};
@@ -72,7 +72,7 @@ pub(crate) fn seat_browsers<
     scope: &'s Scope<'s, E>,
     rt: &'s R,
     alloc: Global,
-    engine: &'s Engine<K, L, Recalling>,
+    engine: &'s Engine<K, L, RecallingShared>,
     door: &'s PageDoor<'d, R, P>,
 ) {
     let log = door.entrance.log;
@@ -100,7 +100,7 @@ fn begin_seats<
     scope: &'s Scope<'s, E>,
     rt: &'s R,
     alloc: Global,
-    engine: &'s Engine<K, L, Recalling>,
+    engine: &'s Engine<K, L, RecallingShared>,
     door: &'s PageDoor<'d, R, P>,
 ) -> u32 {
     for seats in 0..SEATS {
@@ -121,7 +121,7 @@ fn begin_seats<
 fn answer_browsers<K: Store, L: EngineName, R: Wait + Clock + Eprint + RandomSource, P: Keeper>(
     rt: &R,
     alloc: Global,
-    engine: &Engine<K, L, Recalling>,
+    engine: &Engine<K, L, RecallingShared>,
     door: PageDoor<R, P>,
 ) {
     let PageDoor { entrance, hosts } = door;

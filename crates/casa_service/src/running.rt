@@ -16,7 +16,7 @@ use casa_engine::{
     Blank, DeskPass, Engine, EngineDesk, EngineName, blank, legal_histories_are_sequential,
 };
 use casa_keeper::{Held, JournalKeeper, Keeper, LastError, Unkept};
-use casa_plan::Recalling;
+use casa_plan::RecallingShared;
 use casa_session::{SessionFault, run};
 use casa_shelf::{Seals, Shelf, Shelving};
 use casa_view::{Board, Store};
@@ -92,8 +92,8 @@ fn run_on<
     }) result.0 }
 {
     let shelf: Shelf<V, R> = Shelf::new(shelf, rt);
-    let gate = Recalling::new(alloc);
-    match Engine::<Shelf<V, R>, L, Recalling>::new(alloc, shelf, blank, ENGINE, gate) {
+    let gate = RecallingShared::new(alloc);
+    match Engine::<Shelf<V, R>, L, RecallingShared>::new(alloc, shelf, blank, ENGINE, gate) {
         Ok(engine) => run_kept(rt, alloc, &engine, file, reader, writer),
         Err(_) => (Err(ServiceFault::NoMemory), writer),
     }
@@ -109,7 +109,7 @@ fn run_kept<
 >(
     rt: &R,
     alloc: Global,
-    engine: &Engine<K, L, Recalling>,
+    engine: &Engine<K, L, RecallingShared>,
     file: &Journal,
     reader: &mut I,
     writer: O,

@@ -15,7 +15,7 @@ use casa_day::Script;
 use casa_engine::{Blank, Engine, EngineName, blank};
 use casa_flight::{Call, Reply};
 use casa_keeper::{JournalKeeper, Keeper, LastError, NoKeeper, SharedJournal, Syncs, Unkept};
-use casa_plan::Recalling;
+use casa_plan::RecallingShared;
 use casa_server::{DayClock, ServeFault, Served, moment_at, serve, serve_with_timer};
 use casa_shelf::{Seals, Shelf, Shelving};
 use casa_sockets::{Listener, Patience};
@@ -145,8 +145,8 @@ fn serve_on<
     ensures { IfOk result (λ served. served.sessions ≡ span.connections) }
 {
     let shelf: Shelf<V, R> = Shelf::new(shelf, rt);
-    let gate = Recalling::new(alloc);
-    let engine = Engine::<Shelf<V, R>, L, Recalling>::new(alloc, shelf, blank, ENGINE, gate)?;
+    let gate = RecallingShared::new(alloc);
+    let engine = Engine::<Shelf<V, R>, L, RecallingShared>::new(alloc, shelf, blank, ENGINE, gate)?;
     match journal {
         Some(file) => serve_kept(rt, alloc, listener, &engine, span, &file),
         None => serve_without(rt, alloc, listener, &engine, span),
@@ -162,7 +162,7 @@ fn serve_kept<
     rt: &R,
     alloc: Global,
     listener: Arc<Listener>,
-    engine: &Engine<K, L, Recalling>,
+    engine: &Engine<K, L, RecallingShared>,
     span: Span,
     file: &Journal,
 ) -> Result<Served, ServiceFault>
@@ -195,7 +195,7 @@ fn serve_written<
     rt: &R,
     alloc: Global,
     listener: Arc<Listener>,
-    engine: &Engine<K, L, Recalling>,
+    engine: &Engine<K, L, RecallingShared>,
     span: Span,
     log: &Log<R>,
     journal: &SharedJournal<S, L, T>,
@@ -216,7 +216,7 @@ fn serve_noting<
     rt: &R,
     alloc: Global,
     listener: Arc<Listener>,
-    engine: &Engine<K, L, Recalling>,
+    engine: &Engine<K, L, RecallingShared>,
     span: Span,
     log: &Log<R>,
     asked: &E,
@@ -243,7 +243,7 @@ fn serve_keeping<
     rt: &R,
     alloc: Global,
     listener: Arc<Listener>,
-    engine: &Engine<K, L, Recalling>,
+    engine: &Engine<K, L, RecallingShared>,
     span: Span,
     log: &Log<R>,
     keeper: &P,
@@ -272,7 +272,7 @@ fn serve_without<
     rt: &R,
     alloc: Global,
     listener: Arc<Listener>,
-    engine: &Engine<K, L, Recalling>,
+    engine: &Engine<K, L, RecallingShared>,
     span: Span,
 ) -> Result<Served, ServiceFault>
     ensures { IfOk result (λ served. served.sessions ≡ span.connections) }
@@ -313,7 +313,7 @@ fn serve_by<
     rt: &R,
     alloc: Global,
     door: OpenDoor<R, P>,
-    engine: &Engine<K, L, Recalling>,
+    engine: &Engine<K, L, RecallingShared>,
     span: Span,
     standing: &Standing,
 ) -> Result<Served, ServeFault>

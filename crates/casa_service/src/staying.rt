@@ -18,7 +18,7 @@ use casa_day::Script;
 use casa_engine::{Blank, Engine, EngineName, blank};
 use casa_flight::{Call, Reply};
 use casa_keeper::{JournalKeeper, Keeper, LastError, NoKeeper, SharedJournal, Syncs, Unkept};
-use casa_plan::Recalling;
+use casa_plan::RecallingShared;
 use casa_server::{Sat, SeatFault, ServeFault, Stayed, stay, stay_with_timer};
 use casa_shelf::{Seals, Shelf, Shelving};
 use casa_sockets::Patience;
@@ -86,8 +86,8 @@ fn stay_on<
     requires history { history_name blank.history ≡ L.history }
 {
     let shelf: Shelf<V, R> = Shelf::new(shelf, rt);
-    let gate = Recalling::new(alloc);
-    let engine = Engine::<Shelf<V, R>, L, Recalling>::new(alloc, shelf, blank, ENGINE, gate)?;
+    let gate = RecallingShared::new(alloc);
+    let engine = Engine::<Shelf<V, R>, L, RecallingShared>::new(alloc, shelf, blank, ENGINE, gate)?;
     match &service.journal {
         Some(file) => stay_kept(rt, alloc, log, addresses, &engine, service, file),
         None => stay_without(rt, alloc, log, addresses, &engine, service),
@@ -104,7 +104,7 @@ fn stay_kept<
     alloc: Global,
     log: &Log<R>,
     addresses: &Addresses,
-    engine: &Engine<K, L, Recalling>,
+    engine: &Engine<K, L, RecallingShared>,
     service: &Service,
     file: &Journal,
 ) -> Result<Vec<Sat>, ServiceFault> {
@@ -136,7 +136,7 @@ fn stay_written<
     alloc: Global,
     log: &Log<R>,
     addresses: &Addresses,
-    engine: &Engine<K, L, Recalling>,
+    engine: &Engine<K, L, RecallingShared>,
     service: &Service,
     journal: &SharedJournal<S, L, T>,
 ) -> Result<Vec<Sat>, ServiceFault> {
@@ -155,7 +155,7 @@ fn stay_noting<
     alloc: Global,
     log: &Log<R>,
     addresses: &Addresses,
-    engine: &Engine<K, L, Recalling>,
+    engine: &Engine<K, L, RecallingShared>,
     service: &Service,
     asked: &E,
     journal: &J,
@@ -179,7 +179,7 @@ fn stay_keeping<
     alloc: Global,
     log: &Log<R>,
     addresses: &Addresses,
-    engine: &Engine<K, L, Recalling>,
+    engine: &Engine<K, L, RecallingShared>,
     service: &Service,
     keeper: &P,
 ) -> Result<Vec<Sat>, ServiceFault> {
@@ -205,7 +205,7 @@ fn stay_without<
     alloc: Global,
     log: &Log<R>,
     addresses: &Addresses,
-    engine: &Engine<K, L, Recalling>,
+    engine: &Engine<K, L, RecallingShared>,
     service: &Service,
 ) -> Result<Vec<Sat>, ServiceFault> {
     let standing = Standing::new();
@@ -226,7 +226,7 @@ fn stay_at<
     alloc: Global,
     log: &Log<R>,
     addresses: &Addresses,
-    engine: &Engine<K, L, Recalling>,
+    engine: &Engine<K, L, RecallingShared>,
     service: &Service,
     standing: &Standing,
     keeper: &P,
@@ -313,7 +313,7 @@ fn stay_with_page<
     alloc: Global,
     doors: Vec<Door<R, P>>,
     page: &PageDoor<R, P>,
-    engine: &Engine<K, L, Recalling>,
+    engine: &Engine<K, L, RecallingShared>,
     service: &Service,
 ) -> Stayed {
     thread::scope(
@@ -337,7 +337,7 @@ fn stay_beside<
     alloc: Global,
     doors: Vec<Door<R, P>>,
     page: &'s PageDoor<'d, R, P>,
-    engine: &'s Engine<K, L, Recalling>,
+    engine: &'s Engine<K, L, RecallingShared>,
     service: &Service,
 ) -> Stayed {
     let (rt, log) = (page.entrance.rt, page.entrance.log);
@@ -359,7 +359,7 @@ fn stay_by<
     alloc: Global,
     log: &Log<R>,
     doors: Vec<Door<R, P>>,
-    engine: &Engine<K, L, Recalling>,
+    engine: &Engine<K, L, RecallingShared>,
     service: &Service,
     standing: &Standing,
 ) -> Stayed {

@@ -1,19 +1,19 @@
 //! A flight in a list: how it comes, goes or stands otherwise.
 
-ghost use Rattle.std.specs.Prelude.{◌≡◌, ℕ, true, Some, None, IfOk, OnOk, IfSome, if◌then◌else◌};
+ghost use Rattle.std.specs.Prelude.{◌≡◌, ℕ, true, Some, None, IfOk, OnOk, OnErr, IfSome, if◌then◌else◌};
 ghost use Rattle.casa_flight.specs.Good.{AreInOrder};
 ghost use Rattle.casa_flight.specs.Listing.{stance_of};
 ghost use Rattle.casa_flight.specs.declared.row.Stance.{Stance};
 ghost use Rattle.casa_flight.specs.IssuedTimes.{with_issued};
 ghost use Rattle.casa_list.specs.Standings.{governed_place};
-ghost use Rattle.casa_plan_spec.specs.Write.{with_flight};
+ghost use Rattle.casa_plan_spec.specs.Sight.{with_flight};
 
 use casa_flight::{Comp, Key, Stance};
 use casa_list::{SharedList, SlotList};
 use std::alloc::{AllocError, Global};
 
 /// Takes a flight out, which stands in this way, if it is there.
-fn take_out(list: &mut SlotList, key: &Key, was: &Option<Stance>)
+pub(crate) fn take_out(list: &mut SlotList, key: &Key, was: &Option<Stance>)
     requires { stance_of list.old key.now ≡ was.now }
     ensures { list.new ≡ with_flight list.old key.now None }
 {
@@ -45,11 +45,12 @@ fn make_way(list: &mut SlotList, key: &Key, was: &Option<Stance>, stance: &Stanc
 }
 
 /// Puts a flight in that the list does not govern, and that is not there where it is to be forced. `AllocError` where there
-/// is no memory for it.
-fn put_in(list: &mut SlotList, key: Key, stance: Stance) -> Result<(), AllocError>
+/// is no memory for it; the list is then as it was.
+pub(crate) fn put_in(list: &mut SlotList, key: Key, stance: Stance) -> Result<(), AllocError>
     requires ungoverned { governed_place list.old key ≡ None }
     requires free { (eto : ℕ) → stance ≡ Stance.Forced eto → stance_of list.old key ≡ None }
-    ensures { OnOk result (list.new ≡ with_flight list.old key (Some stance)) }
+    ensures stands { OnOk result (list.new ≡ with_flight list.old key (Some stance)) }
+    ensures unchanged { OnErr result (list.new ≡ list.old) }
 {
     match stance {
         Stance::Competing { eto } => {
@@ -62,7 +63,7 @@ fn put_in(list: &mut SlotList, key: Key, stance: Stance) -> Result<(), AllocErro
 }
 
 /// How a flight that stands in one way stands once it is issued at the time that it has; `None` where it does not compete.
-fn once_issued(list: &SlotList, key: &Key, was: &Option<Stance>) -> Option<Stance>
+pub(crate) fn once_issued(list: &SlotList, key: &Key, was: &Option<Stance>) -> Option<Stance>
     requires { stance_of list.now key.now ≡ was.now }
     ensures { IfSome result (λ stance.
         with_issued list.now key.now ≡ with_flight list.now key.now (Some stance)) }
@@ -97,7 +98,7 @@ fn issued_in_place(
 
 /// The list with a flight, which stands in one way, standing in another, or not at all. `AllocError` where there is no
 /// memory for it.
-fn with_stance(
+pub(crate) fn with_stance(
     list: SlotList,
     key: Key,
     was: &Option<Stance>,
@@ -121,7 +122,7 @@ fn with_stance(
 }
 
 /// Whether the one stance is the other.
-fn is_stance(was: &Option<Stance>, stance: &Option<Stance>) -> bool
+pub(crate) fn is_stance(was: &Option<Stance>, stance: &Option<Stance>) -> bool
     ensures { result ≡ true → was.now ≡ stance.now }
 {
     *was == *stance

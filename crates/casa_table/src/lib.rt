@@ -8,7 +8,9 @@ mod table;
 mod validation;
 
 pub use asking::{FlightOver, due_named, flights_over_named};
-pub use casa_item::{Catalogue, Copied, Copies, Crossings, Item, Spare, Store, Version, row_in};
+pub use casa_item::{
+    Catalogue, Copied, Copies, Crossings, Item, Spare, Stand, Store, Version, row_in,
+};
 pub use flights::FlightIndex;
 pub use index::{Index, NoIndex};
 pub use table::{Changes, Shared, Table, Values};

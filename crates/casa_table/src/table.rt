@@ -5,13 +5,14 @@ ghost use Rattle.std.specs.Arc.{arc_value};
 ghost use Rattle.std.specs.Option.{option_copied, option_or};
 ghost use Rattle.casa_filing.specs.Text.{Text, same_text, at_name, put, without};
 ghost use Rattle.casa_flight.specs.Good.{AreInOrder};
+ghost use Rattle.casa_item.specs.Stood.{AreStood, DoneOr};
 ghost use Rattle.casa_table.specs.Laid.{with_value, with_changes};
 ghost use Rattle.casa_table.specs.Sealed.{numbers_of, IsSealOf, IsSameSeal};
 
-use crate::index::Index;
+use crate::index::{Index, NoIndex};
 use boxcar::tag::{Names, Tag};
-use casa_flight::Name;
-use casa_item::{Seal, Spare, Store, Version};
+use casa_flight::{Name, OfRegulation, RegId};
+use casa_item::{Seal, Spare, Stand, Store, Version};
 use std::alloc::{AllocError, Global};
 use std::collections::BTreeMap;
 use std::collections::btree_map::Entry;
@@ -171,6 +172,27 @@ impl<Kind: Copy, V: Version, I: Index<Kind, V>> Base<Kind, V, I> {
             merged.write(name, change)?;
         }
         Ok(merged)
+    }
+}
+
+impl<V: Version> Base<OfRegulation, V, NoIndex> {
+    /// Has a flight stand so in each of these lists where they lie, or not at all, as the entry at this position writes
+    /// them, and says whether: not where one of them is not there, or where the store can't. `AllocError` where there is no
+    /// memory for it. Nothing has changed where it isn't done.
+    fn stand<K: Store<Version = V>>(
+        &mut self,
+        alloc: Global,
+        store: &mut K,
+        position: usize,
+        stands: &[(RegId, Stand)],
+        place: &V,
+    ) -> Result<bool, AllocError>
+        ensures stood { DoneOr result
+            (AreStood V.item_of V.stamp_of position stands.now self.old self.new)
+            (self.new ≡ self.old) }
+        ensures ordered { AreInOrder self.new }
+    {
+        store.stand(alloc, &mut self.values, position, stands, place)
     }
 }
 
@@ -365,6 +387,37 @@ impl<Kind: Copy, V: Version, I: Index<Kind, V>> Table<Kind, V, I> {
         ensures next { self.new.next ≡ self.old.entries }
     {
         mem::swap(&mut self.recent, &mut self.coming);
+    }
+}
+
+impl<V: Version> Table<OfRegulation, V, NoIndex> {
+    /// Has a flight stand so in each of these lists where they lie, or not at all, as the entry at this position writes
+    /// them, and says whether: not where a view has them, where changes lie beside them, where one of them is not there, or
+    /// where the store can't. `place` is any version. `AllocError` where there is no memory for it. Nothing has changed
+    /// where it isn't done.
+    pub fn stand<K: Store<Version = V>>(
+        &mut self,
+        store: &mut K,
+        position: usize,
+        stands: &[(RegId, Stand)],
+        place: &V,
+    ) -> Result<bool, AllocError>
+        ensures stood { DoneOr result
+            (AreStood V.item_of V.stamp_of position stands.now self.old.entries self.new.entries)
+            (self.new.entries ≡ self.old.entries) }
+        ensures ordered { AreInOrder self.old.entries → AreInOrder self.new.entries }
+    {
+        if !self.recent.is_empty() {
+            return Ok(false);
+        }
+        let Some(base) = Arc::get_mut(&mut self.base) else {
+            return Ok(false);
+        };
+        let done = base.stand(self.alloc, store, position, stands, place)?;
+        if done {
+            self.seal = None;
+        }
+        Ok(done)
     }
 }
 

@@ -1,5 +1,6 @@
 pub mod Pushed
 pub mod Turned
+pub mod Stood
 pub mod Orderly
 pub mod Held
 pub mod Viewed

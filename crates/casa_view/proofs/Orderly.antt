@@ -1,6 +1,6 @@
 -- a change keeps the versions of a board orderly
-use Rattle.std.proofs.Common.{◌≡◌, ℕ, true, false, not, is_some, refl, sym, ap, ◌∙◌, Option, None, Some}
-use Rattle.std.specs.Prelude.{IsSome}
+use Rattle.std.proofs.Common.{◌≡◌, ℕ, true, false, not, is_some, refl, sym, ap, subst, ◌∙◌, Option, None, Some}
+use Rattle.std.specs.Prelude.{IsSome, Result, Ok, Err, OnOk, OnErr}
 use Rattle.std.specs.Option.{option_map}
 use Rattle.casa_flight.specs.declared.row.Row.{Row}
 use Rattle.casa_filing.specs.Text.{Text, at_name}
@@ -34,3 +34,10 @@ orderly_kept {V} item_of stamp_of says n before now done orderly =
                 ∙ done.written (a_row key) x p) ∙ q)
           ] refl
         ] refl
+
+-- so is a board that is written, or else as it was
+pub orderly_written : {V U E : Type 0} (item_of : V → Item) (stamp_of : V → ℕ) (says : ItemName → Option Content) (n : ℕ)
+    (before now : Versions V) (r : Result U E) → OnOk r (IsApplied item_of stamp_of says n before now)
+    → OnErr r (now ≡ before) → IsOrderly item_of before → IsOrderly item_of now
+orderly_written item_of stamp_of says n before now (Ok u) done same = orderly_kept item_of stamp_of says n before now done
+orderly_written item_of stamp_of says n before now (Err e) done same = subst (IsOrderly item_of) (sym same)

@@ -2,7 +2,7 @@
 use Rattle.std.proofs.Common.{◌≡◌, ℕ, List, [], ◌∷◌, Bool, true, false, cond, refl, sym, ap, ◌∙◌, subst}
 use Rattle.std.proofs.Common.{Option, None, Some, unwrap_or}
 use Rattle.std.specs.Prelude.{if◌then◌else◌}
-use Rattle.std.specs.Option.{option_map, option_map_or}
+use Rattle.std.specs.Option.{option_map, option_map_or, option_or}
 use Rattle.std.specs.Ordering.{is_eq}
 use Rattle.casa_filing.specs.declared.regulation.Regulation.{Regulation}
 use Rattle.casa_flight.specs.declared.row.Row.{Row}
@@ -15,10 +15,12 @@ use Rattle.casa_footprint.specs.Items.{row_or_none, list_or_none}
 use Rattle.casa_item.specs.declared.item.Item.{Item}
 use Rattle.casa_table.specs.Laid.{with_changes}
 use Rattle.casa_item.specs.Versions.{Versions, IsInOrder, moment_of, regulations_of, content_as}
-use Rattle.casa_item.specs.Versions.{version_at}
+use Rattle.casa_item.specs.Versions.{version_at, list_at}
 use Rattle.casa_view.specs.Change.{is_absence, IsApplied}
-use Rattle.casa_plan_spec.specs.Sight.{Written, says}
-use Rattle.casa_view.specs.Next.{AreAlike, NextOne, NextRow, NextList}
+use Rattle.casa_plan_spec.specs.Sight.{Stand, Written, says, with_flight}
+use Rattle.casa_view.specs.declared.items.Items.{Items}
+use Rattle.casa_view.specs.Board.{versions, next_versions}
+use Rattle.casa_view.specs.Next.{AreAlike, NextOne, NextRow, NextList, TurnsTo, OthersAreReady, listed, list_among}
 use Rattle.casa_table.proofs.Layers.{at-laid, sorted-laid}
 
 -- what two lists of entries with the same names have under a name
@@ -40,6 +42,18 @@ alike_at {X} {Y} Q q (d ∷ ds) (w ∷ ws) h =
       | false ↦ λ p. subst (λ (b : Bool). Alike Q (at_name ds q) (cond b (Some w.1) (at_name ws q))) (sym p)
           (alike_at Q q ds ws h.1)
     ] (ap (λ (t : Text). is_eq (text_cmp q t)) h.0.0)
+
+-- what a change has of a list, where the lists stand so before it
+pub says_listed : (lists : Text → Option Listing) (d : Written) (q : Text)
+    → says lists d (a_list q) ≡ option_map list_or_none (listed lists d q)
+says_listed lists d q = by (at_name d.stands q)
+  where
+    by : (o : Option Stand)
+        → option_or (option_map (λ (s : Stand). list_or_none (option_map (λ (l : Listing). with_flight l s.0 s.1) (lists q))) o)
+        (option_map list_or_none (at_name d.lists q))
+        ≡ option_map list_or_none (option_or (option_map (λ (s : Stand). option_map (λ (l : Listing). with_flight l s.0 s.1) (lists q)) o) (at_name d.lists q))
+    by None = refl
+    by (Some s) = refl
 
 no_absence : {A : Type 0} → false ≡ true → A
 no_absence h = cc
@@ -69,16 +83,18 @@ module _ {V : Type 0} (item_of : V → Item) (stamp_of : V → ℕ) (n : ℕ) wh
       subst (Shows (a_row q) (Some m)) (same_some (row_or_none (Some r)) x e)
       (ap row_or_none h.0, h.1, λ a. no_absence a)
 
-  list_written : (q : Text) (o : Option (Option Listing)) (p : Option (Option V)) (old : Option V)
-      → Alike (NextList item_of stamp_of n) o p
-      → (x : Content) → option_map list_or_none o ≡ Some x → Shows (a_list q) (unwrap_or p old) x
-  list_written q None None old h x e = cc
-  list_written q None (Some w) old h x e = absurd h
-  list_written q (Some l) None old h x e = absurd h
-  list_written q (Some l) (Some None) old h x e = absurd h
-  list_written q (Some l) (Some (Some m)) old h x e =
+  list_written : (q : Text) (o : Option (Option Listing)) (was now : Option V) → TurnsTo item_of stamp_of n o was now
+      → (x : Content) → option_map list_or_none o ≡ Some x → Shows (a_list q) now x
+  list_written q None was now h x e = cc
+  list_written q (Some l) was None h x e = absurd h
+  list_written q (Some l) was (Some m) h x e =
       subst (Shows (a_list q) (Some m)) (same_some (list_or_none l) x e)
       (ap list_or_none h.0, h.1, λ a. no_absence a)
+
+  list_stays : (o : Option (Option Listing)) (was now : Option V) → TurnsTo item_of stamp_of n o was now
+      → option_map list_or_none o ≡ None → now ≡ was
+  list_stays None was now h e = h
+  list_stays (Some l) was now h e = cc
 
   clock_written : (o : Option ℕ) (w : Option V) (old : V) → NextOne item_of stamp_of n moment_of o w
       → (x : Content) → option_map moment o ≡ Some x → Shows the_clock (Some (unwrap_or w old)) x
@@ -109,33 +125,38 @@ module _ {V : Type 0} (item_of : V → Item) (stamp_of : V → ℕ) (n : ℕ) wh
   stays Q content None (Some w) old h e = absurd h
   stays Q content (Some x) p old h e = cc
 
-  -- the versions after a change, of which the rows and the lists are these, and the clock and the catalogue come if
-  -- they do
-  module _ (d : Written) (before now : Versions V) (clock catalogue : Option V) (rows lists : List (Text × Option V))
-      (order : IsInOrder before) (rows_order : AreInOrder rows) (lists_order : AreInOrder lists)
+  -- what is laid over the lists turns them to what comes
+  pub laid_lists : (o : Option (Option Listing)) (p : Option (Option V)) (was now : Option V) → now ≡ unwrap_or p was
+      → Alike (NextList item_of stamp_of n) o p → TurnsTo item_of stamp_of n o was now
+  laid_lists None None was now is h = is
+  laid_lists None (Some w) was now is h = absurd h
+  laid_lists (Some l) None was now is h = absurd h
+  laid_lists (Some l) (Some None) was now is h = absurd h
+  laid_lists (Some l) (Some (Some m)) was now is h =
+      subst (λ (w : Option V). TurnsTo item_of stamp_of n (Some l) was w) (sym is) h
+
+  -- the versions after a change, of which the rows are these, the lists turn to what is written, and the clock and the catalogue
+  -- come if they do
+  module _ (d : Written) (before now : Versions V) (clock catalogue : Option V) (rows : List (Text × Option V))
+      (order : IsInOrder before) (rows_order : AreInOrder rows) (lists_order : AreInOrder now.lists)
       (clock_next : NextOne item_of stamp_of n moment_of d.clock clock)
       (catalogue_next : NextOne item_of stamp_of n regulations_of d.catalogue catalogue)
       (rows_next : AreAlike (NextRow item_of stamp_of n) d.rows rows)
-      (lists_next : AreAlike (NextList item_of stamp_of n) d.lists lists)
+      (lists_next : (q : Text) → TurnsTo item_of stamp_of n (listed (list_at item_of before) d q) (at_name before.lists q) (at_name now.lists q))
       (clock_is : now.clock ≡ unwrap_or clock before.clock)
       (catalogue_is : now.catalogue ≡ unwrap_or catalogue before.catalogue)
-      (rows_are : now.rows ≡ with_changes rows before.rows) (lists_are : now.lists ≡ with_changes lists before.lists) where
+      (rows_are : now.rows ≡ with_changes rows before.rows) where
     row_now : (q : Text) → at_name now.rows q ≡ unwrap_or (at_name rows q) (at_name before.rows q)
     row_now q = ap (λ (es : List (Text × V)). at_name es q) rows_are ∙ at-laid q rows before.rows rows_order order.rows
-
-    list_now : (q : Text) → at_name now.lists q ≡ unwrap_or (at_name lists q) (at_name before.lists q)
-    list_now q =
-        ap (λ (es : List (Text × V)). at_name es q) lists_are ∙ at-laid q lists before.lists lists_order order.lists
 
     row_next : (q : Text)
         → Alike (NextRow item_of stamp_of n) (at_name d.rows q) (at_name rows q)
     row_next q = alike_at _ q d.rows rows rows_next
 
-    list_next : (q : Text)
-        → Alike (NextList item_of stamp_of n) (at_name d.lists q) (at_name lists q)
-    list_next q = alike_at _ q d.lists lists lists_next
+    abbrev there : Text → Option (Option Listing)
+    there = listed (list_at item_of before) d
 
-    shown : (i : ItemName) (x : Content) → says d i ≡ Some x → Shows i (version_at now i) x
+    shown : (i : ItemName) (x : Content) → says (list_at item_of before) d i ≡ Some x → Shows i (version_at now i) x
     shown the_clock x e =
         subst (λ (v : V). Shows the_clock (Some v) x) (sym clock_is)
         (clock_written d.clock clock before.clock clock_next x e)
@@ -146,11 +167,10 @@ module _ {V : Type 0} (item_of : V → Item) (stamp_of : V → ℕ) (n : ℕ) wh
         subst (λ (w : Option V). Shows (a_row q) w x) (sym (row_now q))
         (row_written q (at_name d.rows q) (at_name rows q) (at_name before.rows q) (row_next q) x e)
     shown (a_list q) x e =
-        subst (λ (w : Option V). Shows (a_list q) w x) (sym (list_now q))
-        (list_written q (at_name d.lists q) (at_name lists q) (at_name before.lists q)
-        (list_next q) x e)
+        list_written q (there q) (at_name before.lists q) (at_name now.lists q) (lists_next q) x
+        (sym (says_listed (list_at item_of before) d q) ∙ e)
 
-    same : (i : ItemName) → says d i ≡ None → version_at now i ≡ version_at before i
+    same : (i : ItemName) → says (list_at item_of before) d i ≡ None → version_at now i ≡ version_at before i
     same the_clock e = ap Some (clock_is ∙ one_stays moment_of moment d.clock clock before.clock clock_next e)
     same the_catalogue e =
         ap Some (catalogue_is
@@ -160,21 +180,27 @@ module _ {V : Type 0} (item_of : V → Item) (stamp_of : V → ℕ) (n : ℕ) wh
         ∙ stays _ row_or_none (at_name d.rows q) (at_name rows q) (at_name before.rows q)
         (row_next q) e
     same (a_list q) e =
-        list_now q
-        ∙ stays _ list_or_none (at_name d.lists q) (at_name lists q) (at_name before.lists q)
-        (list_next q) e
+        list_stays (there q) (at_name before.lists q) (at_name now.lists q) (lists_next q)
+        (sym (says_listed (list_at item_of before) d q) ∙ e)
 
-    pub turned : IsApplied item_of stamp_of (says d) n before now
+    pub turned : IsApplied item_of stamp_of (says (list_at item_of before) d) n before now
     turned = record {
       were_in_order = order;
       in_order = record {
         rows = subst (λ (es : List (Text × V)). AreInOrder es) (sym rows_are) (sorted-laid rows before.rows order.rows);
-        lists =
-            subst (λ (es : List (Text × V)). AreInOrder es) (sym lists_are)
-            (sorted-laid lists before.lists order.lists);
+        lists = lists_order;
       };
       written = λ i x e. (shown i x e).0;
       stamped = λ i x e. (shown i x e).1;
       without = λ i x e. (shown i x e).2;
       others = same;
     }
+
+  -- what is ready, and lists that turn to what is written
+  pub ready_turned : (d : Written) (items : Items V) (lists : List (Text × V)) → IsInOrder (versions items) → AreInOrder lists
+      → OthersAreReady item_of stamp_of n d items.next_clock items.next_catalogue items.rows.entries items.rows.next
+      → ((q : Text) → TurnsTo item_of stamp_of n (listed (list_among item_of items.lists.entries) d q) (at_name items.lists.entries q) (at_name lists q))
+      → IsApplied item_of stamp_of (says (list_at item_of (versions items)) d) n (versions items) (record (next_versions items) { lists = lists })
+  ready_turned d items lists order lists_order ready turns =
+      turned d (versions items) (record (next_versions items) { lists = lists }) items.next_clock items.next_catalogue ready.rows order ready.in_order
+      lists_order ready.clock ready.catalogue ready.alike turns refl refl ready.laid

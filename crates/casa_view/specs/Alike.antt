@@ -9,9 +9,10 @@ use Rattle.casa_view.specs.Change.{IsApplied}
 use Rattle.casa_view.specs.View.{IsCurrent}
 
 module _ {V : Type 0} (w x : Versions V) (same : x ≡ w) where
-  pub like_applied : (item_of : V → Item) (stamp_of : V → ℕ) (says : ItemName → Option Content) (n : ℕ) (y : Versions V)
-      → IsApplied item_of stamp_of says n x y → IsApplied item_of stamp_of says n w y
-  like_applied item_of stamp_of says n y = subst (λ (vs : Versions V). IsApplied item_of stamp_of says n vs y) same
+  pub like_applied : (item_of : V → Item) (stamp_of : V → ℕ) (says : Versions V → ItemName → Option Content) (n : ℕ)
+      (y : Versions V) → IsApplied item_of stamp_of (says x) n x y → IsApplied item_of stamp_of (says w) n w y
+  like_applied item_of stamp_of says n y =
+      subst (λ (vs : Versions V). IsApplied item_of stamp_of (says vs) n vs y) same
 
   pub like_state : (item_of : V → Item) (stamp_of : V → ℕ) → board_state item_of stamp_of x ≡ board_state item_of stamp_of w
   like_state item_of stamp_of = ap (board_state item_of stamp_of) same

@@ -9,4 +9,5 @@ pub mod Sets
 pub mod Applied
 pub mod GoodBoard
 pub mod Alike
+pub mod Kept
 pub mod Shown

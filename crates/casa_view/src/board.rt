@@ -8,7 +8,7 @@ use crate::contents::{clock_in, list_in, regulations_in, shared_list_in};
 use crate::current::same_items;
 use crate::items::Items;
 use crate::read_set::may_read_all;
-use crate::staging::fit;
+use crate::staging::{fit, write};
 use crate::view::View;
 use casa_commit::World;
 use casa_flight::{Call, Key, RegId, Regulation, Reply, Row};
@@ -148,7 +148,10 @@ impl<K: Store> World for Board<K> {
     ghost use Rattle.casa_view.specs.BoardState.{BoardState, IsGoodBoard, board_state, opening, after, reply};
     ghost use Rattle.casa_view.specs.View.{IsFor, IsViewOf, IsCurrent, Shows};
     ghost use Rattle.casa_view.specs.Applied.{applied};
+    ghost use Rattle.casa_flight.specs.Listing.{list_of};
+    ghost use Rattle.casa_item.specs.Versions.{list_at};
     ghost use Rattle.casa_view.specs.Alike.{like_applied, like_state, like_views};
+    ghost use Rattle.casa_view.specs.Kept.{says_kept_lists};
     ghost use Rattle.casa_view.specs.GoodBoard.{opening_is_good, after_is_good};
 
     type Call = Call;
@@ -181,13 +184,13 @@ impl<K: Store> World for Board<K> {
 
     ghost shows = { λ s v. Shows K.Version.item_of s.state v };
 
-    ghost changes = { λ s c d. IsChange s.state c (says d) };
+    ghost changes = { λ s c d. IsChange s.state c (says (list_of s.state) d) };
 
     ghost same_but_capacity = { λ w x. versions x.items ≡ versions w.items };
 
-    ghost has_room = { λ w n d. IsApplied K.Version.item_of K.Version.stamp_of (says d) n (versions w.items) (next_versions w.items) };
+    ghost has_room = { λ w n d. IsApplied K.Version.item_of K.Version.stamp_of (says (list_at K.Version.item_of (versions w.items)) d) n (versions w.items) (next_versions w.items) };
 
-    ghost applied = { λ w n d x. IsApplied K.Version.item_of K.Version.stamp_of (says d) n (versions w.items) (versions x.items) };
+    ghost applied = { λ w n d x. IsApplied K.Version.item_of K.Version.stamp_of (says (list_at K.Version.item_of (versions w.items)) d) n (versions w.items) (versions x.items) };
 
     /// What the call reads, with the present versions: on a board that stands well these items, and no others.
     /// `AllocError` where there is no memory for it.
@@ -214,11 +217,27 @@ impl<K: Store> World for Board<K> {
     }
 
     fn fits(&mut self, position: usize, change: &Change) -> Result<(), AllocError> {
-        fit(&mut self.store, &mut self.items, position, change)
+        fit(
+            self.alloc,
+            &mut self.store,
+            &mut self.items,
+            position,
+            change,
+        )
     }
 
     fn apply(&mut self, _position: usize, _change: Change) {
         self.items.adopt();
+    }
+
+    /// Where a call says of one flight how it is to stand in lists, these are changed where they lie, if nobody else has the
+    /// table of them.
+    fn write(&mut self, position: usize, change: Change) -> Result<(), Change> {
+        let (store, items) = (&mut self.store, &mut self.items);
+        match write(self.alloc, store, items, position, &change) {
+            Ok(()) => Ok(()),
+            Err(_) => Err(change),
+        }
     }
 
     fn copy_call(call: &Call) -> Result<Call, AllocError> {
@@ -234,10 +253,12 @@ impl<K: Store> World for Board<K> {
     ghost good_after = { after_is_good };
 
     ghost applied_after = { λ w n c d x well is done.
-        applied K.Version.item_of K.Version.stamp_of (versions w.items) (versions x.items) n c (says d) well is done };
+        applied K.Version.item_of K.Version.stamp_of (versions w.items) (versions x.items) n c (says (list_at K.Version.item_of (versions w.items)) d) well
+        (says_kept_lists d c well is) done };
 
     ghost alike_applied = { λ w x n d y same done.
-        like_applied (versions w.items) (versions x.items) same K.Version.item_of K.Version.stamp_of (says d) n (versions y.items) done };
+        like_applied (versions w.items) (versions x.items) same K.Version.item_of K.Version.stamp_of
+        (λ vs. says (list_at K.Version.item_of vs) d) n (versions y.items) done };
 
     ghost alike_same = { λ w. refl };
 

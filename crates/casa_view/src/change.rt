@@ -1,22 +1,24 @@
 //! What a call writes.
 
-ghost use Rattle.std.specs.Prelude.{◌≡◌, Some, OnOk, OnErr};
+ghost use Rattle.std.specs.Prelude.{◌≡◌, [], Some, OnOk, OnErr};
 ghost use Rattle.casa_filing.specs.Text.{at_name, put, without};
 ghost use Rattle.casa_flight.specs.Good.{AreInOrder};
 ghost use Rattle.casa_plan_spec.specs.Sight.{nothing_written};
 ghost use Rattle.casa_view.specs.Board.{catalogue_written};
 
-use casa_flight::{Key, OfFlight, OfRegulation, RegId, Row};
+use casa_flight::{Key, OfFlight, OfRegulation, RegId, Row, Stance};
 use casa_list::SharedList;
-use casa_named::Few;
-use casa_table::{Catalogue, Item};
+use casa_named::{Few, Sorted};
+use casa_table::{Catalogue, Item, Stand};
 use casa_time::Moment;
 use std::alloc::{AllocError, Global};
 use std::marker::Model;
+use std::mem;
 use std::sync::Arc;
 
 /// The items that a call writes, each at most once: the clock and the catalogue, if it writes them, and rows and lists by
-/// their names, or that there is none. Planners write it, and the board makes the versions of it.
+/// their names, or that there is none; and, of other lists, how a flight is to stand there. Planners write it, and the
+/// board makes the versions of it.
 ///
 /// Contracts see what is written.
 pub struct Change {
@@ -25,6 +27,7 @@ pub struct Change {
     catalogue: Option<Arc<Item>>,
     rows: Few<OfFlight, Option<Row>>,
     lists: Few<OfRegulation, Option<SharedList>>,
+    stands: Sorted<OfRegulation, Stand>,
 }
 
 impl Model for Change {
@@ -38,6 +41,7 @@ impl Model for Change {
       catalogue = catalogue_written d.catalogue;
       rows = d.rows;
       lists = d.lists;
+      stands = d.stands;
     } };
 }
 
@@ -49,6 +53,7 @@ impl Drop for Change {
             catalogue: _,
             rows: _,
             lists: _,
+            stands: _,
         } = self;
     }
 }
@@ -64,6 +69,7 @@ impl Change {
             catalogue: None,
             rows: Few::in_any_order(alloc),
             lists: Few::new(alloc),
+            stands: Sorted::new(alloc),
         }
     }
 
@@ -103,6 +109,17 @@ impl Change {
         self.lists.put(id, list)
     }
 
+    /// Has a flight stand so in a regulation's list, or not at all, as that stands before the change, whatever is written of
+    /// it. `AllocError` where there is no memory for it; nothing has changed then.
+    pub fn stand(&mut self, id: RegId, key: Key, stance: Option<Stance>) -> Result<(), AllocError>
+        ensures unchanged { OnErr result (self.new ≡ self.old) }
+        ensures written { OnOk result (self.new
+            ≡ record self.old { stands = put self.old.stands id (key, stance) }) }
+    {
+        self.stands.put(id, (key, stance))?;
+        Ok(())
+    }
+
     /// Takes out what is written of a regulation's list, if anything is.
     pub fn take_list(&mut self, id: &RegId) -> Option<Option<SharedList>>
         ensures list { result ≡ at_name self.old.lists id.now }
@@ -110,6 +127,14 @@ impl Change {
         ensures ordered { AreInOrder self.old.lists }
     {
         self.lists.take(id)
+    }
+
+    /// Takes out how a flight is to stand in lists, by identifiers: nothing is said of that any more.
+    pub fn take_stands(&mut self) -> Sorted<OfRegulation, Stand>
+        ensures stands { result ≡ self.old.stands }
+        ensures left { self.new ≡ record self.old { stands = [] } }
+    {
+        mem::replace(&mut self.stands, Sorted::new(self.alloc))
     }
 
     /// The clock, if it is written.
@@ -131,6 +156,13 @@ impl Change {
         ensures { result.now ≡ self.now.rows }
     {
         &self.rows
+    }
+
+    /// How a flight is to stand in lists, by identifiers.
+    pub(crate) fn stands(&self) -> &Sorted<OfRegulation, Stand>
+        ensures { result.now ≡ self.now.stands }
+    {
+        &self.stands
     }
 
     /// The lists that are written, or absences, by identifiers.

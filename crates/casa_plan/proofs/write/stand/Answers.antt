@@ -5,8 +5,7 @@ use Rattle.casa_filing.specs.Text.{Text, put}
 use Rattle.casa_flight.specs.Listing.{Listing}
 use Rattle.casa_flight.specs.Good.{AreInOrder}
 use Rattle.casa_laws.proofs.Kept.{put-without}
-use Rattle.casa_plan_spec.specs.Sight.{Sight, Written, list_with}
-use Rattle.casa_plan_spec.specs.Write.{with_flight}
+use Rattle.casa_plan_spec.specs.Sight.{Sight, Written, list_with, with_flight}
 use Rattle.casa_plan.proofs.write.stand.Goals as goal
 
 pub returns : goal.returns

@@ -1,0 +1,11 @@
+use Rattle.std.proofs.Common.{◌∙◌, sym, ap}
+use Rattle.std.specs.BTreeMap.{BTreeMap}
+use Rattle.casa_filing.specs.Text.{Text}
+use Rattle.casa_item.specs.declared.copies.Copied.{Copied}
+use Rattle.casa_item.proofs.InPlace.{in_place-absent}
+use Rattle.casa_item.proofs.stood.taken.Goals as goal
+
+pub returns-in-None-clause-placed : goal.returns-in-None-clause-placed
+returns-in-None-clause-placed c =
+    ap (λ (m : BTreeMap Text Copied). m.entries) c.get_mut.follows.holds-at-none
+    ∙ sym (in_place-absent c.args.id.now c.args.place.now c.args.lists.now.entries (sym c.in-None.ensures.value))
