@@ -133,6 +133,10 @@ HasRead words matches = (fault_of whole_app words ≡ [])
     × (subcommand_rows_of matches ≡ subcommand_of whole_app words)
     × (is_some (subcommand_rows_of matches) ≡ true)
 
+-- they are the name of a subcommand and the values behind it, in words in which clap finds no fault
+abbrev pub IsEntered : Text × List Row → Type 0
+IsEntered entered = (words : List Text) × (fault_of whole_app words ≡ []) × (subcommand_of whole_app words ≡ Some entered)
+
 -- a word is there
 abbrev pub IsThere : Text → List Row → Type 0
 IsThere name rows = is_some (first_of name rows) ≡ true

@@ -408,19 +408,30 @@ check_of rows =
     if bytes_eq (word_of (codes "action") rows) (codes "check")
     then Ok (check_journal (word_of (codes "file") rows)) else Err (wrong_word (codes "action"))
 
+-- a subcommand that asks for messages, for what differs, for lists, or for a page
+abbrev pub printing_request : Text × List Row → Result Request WrongValue
+printing_request (name, rows) =
+    if bytes_eq name (codes "messages") then messages_of rows
+    else if bytes_eq name (codes "compare") then compare_of rows
+    else if bytes_eq name (codes "report") then report_of rows
+    else page_of rows
+
+-- one that asks for these, or for what else stands after command lines
+abbrev pub asking_request : Text × List Row → Result Request WrongValue
+asking_request (name, rows) =
+    if bytes_eq name (codes "load") then load_of rows
+    else if bytes_eq name (codes "summary") then summary_of rows
+    else if bytes_eq name (codes "why") then why_of rows
+    else printing_request (name, rows)
+
+-- any subcommand
 abbrev pub named_request : Text × List Row → Result Request WrongValue
 named_request (name, rows) =
     if bytes_eq name (codes "run") then run_of rows
     else if bytes_eq name (codes "serve") then serve_of rows
     else if bytes_eq name (codes "journal") then check_of rows
     else if bytes_eq name (codes "import") then import_of rows
-    else if bytes_eq name (codes "load") then load_of rows
-    else if bytes_eq name (codes "summary") then summary_of rows
-    else if bytes_eq name (codes "why") then why_of rows
-    else if bytes_eq name (codes "messages") then messages_of rows
-    else if bytes_eq name (codes "compare") then compare_of rows
-    else if bytes_eq name (codes "report") then report_of rows
-    else page_of rows
+    else asking_request (name, rows)
 
 -- what the words ask for, where clap finds no fault in them and they name a subcommand
 abbrev pub request_of : List Text → Option (Result Request WrongValue)

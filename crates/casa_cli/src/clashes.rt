@@ -11,7 +11,7 @@ use clap::error::ErrorKind;
 use std::alloc::{AllocError, Global};
 
 /// Options that do not go together, by their names.
-#[derive(Clone, Copy, PartialEq, Eq, Debug)]
+#[derive(Clone, Copy)]
 pub enum Clash {
     /// One without the one that it needs.
     Needs(&'static str, &'static str),

@@ -3,7 +3,7 @@ use jiff::civil::Date;
 use thiserror::Error;
 
 /// What the words of the command line ask for.
-#[derive(PartialEq, Eq, Debug, Drop)]
+#[derive(Drop)]
 pub enum Task<'a> {
     /// `casa run`: a session on standard input and output.
     Run {
@@ -112,7 +112,7 @@ pub enum Task<'a> {
 }
 
 /// The form in which something is printed.
-#[derive(Clone, Copy, PartialEq, Eq, Debug)]
+#[derive(Clone, Copy)]
 pub enum Format {
     /// A table for readers.
     Table,
@@ -123,7 +123,7 @@ pub enum Format {
 }
 
 /// The order in which `casa report` prints rows.
-#[derive(Clone, Copy, PartialEq, Eq, Debug)]
+#[derive(Clone, Copy)]
 pub enum Sort {
     /// As they stand in their list.
     List,
@@ -133,7 +133,7 @@ pub enum Sort {
 
 /// What `casa import` is asked for. It has a file of flights or one of regulations, or both, and one of crossings at most
 /// beside one of flights.
-#[derive(PartialEq, Eq, Debug, Drop)]
+#[derive(Drop)]
 pub struct Import<'a> {
     /// The path of the file of the flights, as it was given.
     pub flights: Option<&'a str>,
@@ -154,7 +154,7 @@ pub struct Import<'a> {
 }
 
 /// The order of the filings that `casa import` writes.
-#[derive(Clone, Copy, PartialEq, Eq, Debug)]
+#[derive(Clone, Copy)]
 pub enum Order {
     /// As in the file.
     File,
@@ -163,7 +163,7 @@ pub enum Order {
 }
 
 /// What a server that stays is to do. It has a port or a socket, or both; with both at most 500 seats.
-#[derive(Clone, Copy, PartialEq, Eq, Debug)]
+#[derive(Clone, Copy)]
 pub struct Service<'a> {
     /// The port to listen on, 1 to 65,535.
     pub port: Option<u16>,
@@ -184,7 +184,7 @@ pub struct Service<'a> {
 }
 
 /// A socket in the file system.
-#[derive(Clone, Copy, PartialEq, Eq, Debug)]
+#[derive(Clone, Copy)]
 pub struct Socket<'a> {
     /// Its path.
     pub path: &'a str,
@@ -193,7 +193,7 @@ pub struct Socket<'a> {
 }
 
 /// Where a server that stays serves a page of the day.
-#[derive(Clone, Copy, PartialEq, Eq, Debug)]
+#[derive(Clone, Copy)]
 pub struct PagePort<'a> {
     /// The port to listen on for browsers, 1 to 65,535.
     pub port: u16,
@@ -202,7 +202,7 @@ pub struct PagePort<'a> {
 }
 
 /// The file of a day's journal.
-#[derive(Clone, Copy, PartialEq, Eq, Debug)]
+#[derive(Clone, Copy)]
 pub struct Journal<'a> {
     /// Its path, as it was given.
     pub path: &'a str,
@@ -211,7 +211,7 @@ pub struct Journal<'a> {
 }
 
 /// How the clock of a server that stays is moved.
-#[derive(Clone, Copy, PartialEq, Eq, Debug)]
+#[derive(Clone, Copy)]
 pub struct Ticking {
     /// The day from whose midnight UTC the clock counts.
     pub day: Date,

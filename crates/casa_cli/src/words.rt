@@ -1,9 +1,9 @@
 ghost use Rattle.std.specs.Prelude.{◌≡◌, IfErr, IfOk, codes, map};
 ghost use Rattle.clap.specs.Words.{HasKind, fault_of, found_of, rows_of};
 ghost use Rattle.clap.specs.declared.error.Error.{Error};
-ghost use Rattle.casa_cli.specs.Tasks.{AreCompared, AreRefused, Asks, HasRead, IsNumber, IsOutcome};
+ghost use Rattle.casa_cli.specs.Tasks.{AreCompared, AreRefused, Asks, HasRead, IsEntered, IsNumber, IsOutcome};
 ghost use Rattle.casa_usage.specs.Usage.{whole_app};
-ghost use Rattle.casa_cli.specs.Words.{compare_of, load_of, messages_of, page_of, summary_of, why_of};
+ghost use Rattle.casa_cli.specs.Words.{asking_request, compare_of, load_of, messages_of, named_request, page_of, printing_request, summary_of, why_of};
 
 use crate::choices::{format_fault, format_in, messages_format_in, word_fault};
 use crate::imports::import_task;
@@ -33,32 +33,66 @@ pub fn task<'a>(alloc: Global, words: &'a [&'a str]) -> Result<Task<'a>, TaskFau
 {
     let matches = matches_in(alloc, words)?;
     match matches.subcommand() {
-        Some((name, values)) => {
-            if name == "run" {
-                run_task(alloc, values)
-            } else if name == "serve" {
-                serve_task(alloc, values)
-            } else if name == "journal" {
-                journal_task(alloc, values)
-            } else if name == "import" {
-                import_task(alloc, values)
-            } else if name == "load" {
-                load_task(alloc, values)
-            } else if name == "summary" {
-                summary_task(alloc, values)
-            } else if name == "why" {
-                why_task(alloc, values)
-            } else if name == "messages" {
-                messages_task(alloc, values)
-            } else if name == "compare" {
-                compare_task(alloc, values)
-            } else if name == "report" {
-                report_task(alloc, values)
-            } else {
-                page_task(values)
-            }
-        }
+        Some((name, values)) => named_task(alloc, name, values),
         None => unreachable!(),
+    }
+}
+
+/// The task of the subcommand of this name with the values of its options.
+fn named_task<'a>(alloc: Global, name: &str, values: &ArgMatches<'a>) -> Result<Task<'a>, TaskFault>
+    requires { IsEntered (name.now, rows_of (found_of values.now)) }
+    ensures { IsOutcome (named_request (name.now, rows_of (found_of values.now))) result }
+{
+    if name == "run" {
+        run_task(alloc, values)
+    } else if name == "serve" {
+        serve_task(alloc, values)
+    } else if name == "journal" {
+        journal_task(alloc, values)
+    } else if name == "import" {
+        import_task(alloc, values)
+    } else {
+        asking_task(alloc, name, values)
+    }
+}
+
+/// The same of one that asks for what stands after command lines.
+fn asking_task<'a>(
+    alloc: Global,
+    name: &str,
+    values: &ArgMatches<'a>,
+) -> Result<Task<'a>, TaskFault>
+    requires { IsEntered (name.now, rows_of (found_of values.now)) }
+    ensures { IsOutcome (asking_request (name.now, rows_of (found_of values.now))) result }
+{
+    if name == "load" {
+        load_task(alloc, values)
+    } else if name == "summary" {
+        summary_task(alloc, values)
+    } else if name == "why" {
+        why_task(alloc, values)
+    } else {
+        printing_task(alloc, name, values)
+    }
+}
+
+/// The same of one that asks for messages, for what differs, for lists, or for a page.
+fn printing_task<'a>(
+    alloc: Global,
+    name: &str,
+    values: &ArgMatches<'a>,
+) -> Result<Task<'a>, TaskFault>
+    requires { IsEntered (name.now, rows_of (found_of values.now)) }
+    ensures { IsOutcome (printing_request (name.now, rows_of (found_of values.now))) result }
+{
+    if name == "messages" {
+        messages_task(alloc, values)
+    } else if name == "compare" {
+        compare_task(alloc, values)
+    } else if name == "report" {
+        report_task(alloc, values)
+    } else {
+        page_task(values)
     }
 }
 
