@@ -4,7 +4,7 @@ use Rattle.casa_flight.specs.declared.call.Call.{Call}
 use Rattle.casa_flight.specs.declared.reply.Reply.{Reply}
 use Rattle.casa_flight.specs.declared.state.State.{State}
 use Rattle.casa_flight.specs.Listing.{list_of}
-use Rattle.casa_flight.specs.State.{catalogue, empty, row_of}
+use Rattle.casa_flight.specs.State.{catalogue, empty}
 use Rattle.casa_filing.specs.Text.{Text}
 use Rattle.casa_history.specs.declared.entry.Entry.{Entry}
 use Rattle.casa_commit.specs.Legal.{replay}
@@ -21,9 +21,6 @@ state-replayed es = state_replayed es ∙ state-of_calls empty 1 es
 module _ (es : List (Entry Call Reply)) (calls : List Call) (view : calls_in es ≡ calls) (s : BoardState) (is : s ≡ replay after opening es) where
   pub state-shown : s.state ≡ state_after_calls calls
   state-shown = ap (λ (x : BoardState). x.state) is ∙ state-replayed es ∙ ap state_after_calls view
-
-  pub row-shown : (key : Text) → row_of s.state key ≡ row_of (state_after_calls calls) key
-  row-shown key = ap (λ (m : State). row_of m key) state-shown
 
   pub catalogue-shown : IsGoodBoard s → s.catalogue ≡ catalogue (state_after_calls calls)
   catalogue-shown well = sym well.catalogue_is ∙ ap catalogue state-shown

@@ -3,6 +3,7 @@
 ghost use Rattle.std.specs.Prelude.{◌≡◌, ◌≢◌, ◌∷◌, [], ◌++◌, Err, IfOk, OnErr, option_map};
 ghost use Rattle.std.specs.Map.{keys_of};
 ghost use Rattle.std.specs.Option.{option_copied};
+ghost use Rattle.casa_filing.specs.Text.{Text};
 ghost use Rattle.casa_flight.specs.Listing.{list_of};
 ghost use Rattle.casa_flight.specs.State.{catalogue, empty, row_of};
 ghost use Rattle.casa_session.specs.Alone.{lone_sides};
@@ -12,7 +13,7 @@ ghost use Rattle.casa_session.specs.Transcript.{Ends};
 
 use crate::fault::SessionFault;
 use crate::session::run;
-use casa_commit::{CallFault, Desk, Room};
+use casa_commit::{CallFault, Desk, Room, World};
 use casa_flight::{Call, Key, RegId, Regulation, Reply, Row};
 use casa_history::{Receipt, SharedEntry};
 use casa_list::SlotList;
@@ -104,25 +105,37 @@ impl Lone {
         run(alloc, reader, writer, self)
     }
 
+    /// The board as it stands after the calls.
+    fn board(&self) -> &Board<Copies>
+        ensures state { (⟦<Board<Copies> as World>⟧.state result.now).state
+            ≡ state_after_calls self.now }
+        ensures catalogue { (⟦<Board<Copies> as World>⟧.state result.now).catalogue
+            ≡ catalogue (state_after_calls self.now) }
+        ensures lists { (id : Text) → (⟦<Board<Copies> as World>⟧.state result.now).list id
+            ≡ list_of (state_after_calls self.now) id }
+    {
+        self.room.world()
+    }
+
     /// The clock after the calls.
     pub fn clock(&self) -> Moment
         ensures { result ≡ (state_after_calls self.now).clock }
     {
-        self.room.world().clock()
+        self.board().clock()
     }
 
     /// The regulations that are open after the calls, in the order of their identifiers.
     pub fn catalogue(&self) -> &[Regulation]
         ensures { result.now ≡ catalogue (state_after_calls self.now) }
     {
-        self.room.world().catalogue()
+        self.board().catalogue()
     }
 
     /// The flight with this key as it stands after the calls; none where there is no such flight.
     pub fn row(&self, key: &Key) -> Option<&Row>
         ensures { option_copied result ≡ row_of (state_after_calls self.now) key.now }
     {
-        self.room.world().row(key)
+        self.board().row(key)
     }
 
     /// The keys of the flights after the calls. `AllocError` where there is no memory for them.
@@ -156,7 +169,7 @@ impl Lone {
     pub fn list(&self, id: &RegId) -> Option<&SlotList>
         ensures { option_copied result ≡ list_of (state_after_calls self.now) id.now }
     {
-        self.room.world().list(id)
+        self.board().list(id)
     }
 
     /// The entries of the history of the calls: each call with the reply that it got, the first first.

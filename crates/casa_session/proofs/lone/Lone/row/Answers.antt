@@ -1,9 +1,7 @@
-use Rattle.std.proofs.Common.{◌∙◌}
-use Rattle.casa_commit.specs.Rooms.{entries_of}
-use Rattle.casa_session.proofs.Shown.{row-shown}
+use Rattle.std.proofs.Common.{ap, ◌∙◌}
+use Rattle.casa_flight.specs.declared.state.State.{State}
+use Rattle.casa_flight.specs.State.{row_of}
 use Rattle.casa_session.proofs.lone.Lone.row.Goals as goal
 
 pub returns : goal.returns
-returns c =
-    c.row.ensures
-    ∙ row-shown (entries_of c.self.inside.room) c.args.self.now c.self.view_is _ c.world.ensures.replay c.args.key.now
+returns c = c.row.ensures ∙ ap (λ (m : State). row_of m c.args.key.now) c.board.ensures.state
