@@ -9,7 +9,7 @@ use casa_flight::SharedSlice;
 use std::alloc::{AllocError, Global};
 
 /// What differs between two days.
-#[derive(Drop, Debug)]
+#[derive(Drop)]
 pub struct Comparison {
     /// What all regulations of the first day cost together.
     pub base: Totals,

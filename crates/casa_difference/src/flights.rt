@@ -24,7 +24,7 @@ pub trait ShownFlights: ShownRows {
 }
 
 /// A flight with how it stands on two days.
-#[derive(Clone, Copy, PartialEq, Eq, Debug)]
+#[derive(Clone, Copy)]
 pub struct Difference {
     pub key: Key,
     /// How it stands on the first day; `None` where there is no such flight.

@@ -10,7 +10,7 @@ use casa_flight::{Key, RegId, Row};
 use casa_inquiry::{Shown, delay_in};
 
 /// How a flight stands on a day, as far as its slot goes.
-#[derive(Clone, Copy, PartialEq, Eq, Debug)]
+#[derive(Clone, Copy)]
 pub struct Standing {
     /// The regulation that governs it; `None` where nothing does.
     pub reg: Option<RegId>,

@@ -10,7 +10,7 @@ use casa_inquiry::{Cost, Shown};
 use std::alloc::AllocError;
 
 /// How many regulations are open, and what all of them cost together.
-#[derive(Clone, Copy, PartialEq, Eq, Debug)]
+#[derive(Clone, Copy)]
 pub struct Totals {
     pub regulations: usize,
     pub cost: Cost,

@@ -16,7 +16,7 @@ use casa_time::Moment;
 use std::alloc::{AllocError, Global};
 
 /// A flight with which another one could exchange its slot now. Times are in seconds from midnight UTC.
-#[derive(Clone, Copy, PartialEq, Eq, Debug)]
+#[derive(Clone, Copy, PartialEq, Eq)]
 pub struct PossibleExchange {
     /// The flight with which it could.
     pub other: Key,

@@ -15,7 +15,7 @@ use casa_time::Moment;
 use std::alloc::{AllocError, Global};
 
 /// Some time: from a moment to before another, or from a moment on.
-#[derive(Clone, Copy, PartialEq, Eq, Debug)]
+#[derive(Clone, Copy)]
 pub struct Span {
     pub from: Moment,
     /// `None` where it does not end.
@@ -23,7 +23,7 @@ pub struct Span {
 }
 
 /// What is planned over a regulation's location in some time, what the rates give, and what is calculated.
-#[derive(Clone, Copy, PartialEq, Eq, Debug)]
+#[derive(Clone, Copy)]
 pub struct Step {
     pub span: Span,
     /// How many flights have their estimated time over in it.
@@ -35,7 +35,7 @@ pub struct Step {
 }
 
 /// Demand and capacity of a regulation.
-#[derive(Drop, Debug)]
+#[derive(Drop)]
 pub struct Load {
     /// Steps of one length, one after the other, from the start to the end, of which the last may be shorter; and behind
     /// them what is from the end on, where the flights stand for which no slot was left.

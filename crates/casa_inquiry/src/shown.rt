@@ -44,7 +44,7 @@ pub trait ShownRows: Shown {
 }
 
 /// The clock and the open regulations of a state, in the order of their identifiers, with their lists in the same order.
-#[derive(Clone, Copy, Debug)]
+#[derive(Clone, Copy)]
 pub struct ShownLists<'a> {
     pub clock: Moment,
     pub regulations: &'a [Regulation],

@@ -13,7 +13,7 @@ use casa_list::{Member, Place, SlotList};
 
 /// What a regulation costs, or several together: their slots, their flights by how they stand in the lists, and the delays
 /// of the flights that are governed, in seconds.
-#[derive(Clone, Copy, PartialEq, Eq, Debug)]
+#[derive(Clone, Copy, Debug)]
 pub struct Cost {
     /// How many slots the rates give.
     pub slots: u128,
@@ -32,7 +32,7 @@ pub struct Cost {
 }
 
 /// A flight that the regulation of a list governs, as it stands there.
-#[derive(Clone, Copy, PartialEq, Eq, Debug)]
+#[derive(Clone, Copy)]
 struct GovernedFlight {
     issued: bool,
     /// Whether no slot is left for it.

@@ -18,7 +18,7 @@ use casa_time::Moment;
 use std::alloc::{AllocError, Global};
 
 /// Why a flight stands as it does.
-#[derive(Drop, Debug)]
+#[derive(Drop)]
 pub struct Reasons {
     /// The flight as it stands.
     pub flight: FlightReply,
@@ -31,7 +31,7 @@ pub struct Reasons {
 }
 
 /// The rule by which a flight is governed, or not.
-#[derive(Clone, Copy, PartialEq, Eq, Debug)]
+#[derive(Clone, Copy, PartialEq, Eq)]
 pub enum Rule {
     /// Its regulation offers more delay than any other.
     GreatestDelay,
@@ -50,7 +50,7 @@ pub enum Rule {
 }
 
 /// A slot of a list, with a flight that has it.
-#[derive(Clone, Copy, Debug)]
+#[derive(Clone, Copy)]
 pub struct Holding {
     pub slot: usize,
     /// Where the slot begins.

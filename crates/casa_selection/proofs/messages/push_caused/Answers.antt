@@ -1,0 +1,6 @@
+use Rattle.std.proofs.Common.{arith}
+use Rattle.std.proofs.lemmas.Grind.{common_steps}
+use Rattle.casa_selection.proofs.messages.push_caused.Goals as goal
+
+pub loop-message-preserved : goal.loop-message-preserved
+loop-message-preserved c = grind (arith, common_steps)
