@@ -1,3 +1,0 @@
-mod Copied
-mod Equal
-mod LineLaws
