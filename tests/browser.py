@@ -7,7 +7,8 @@ import shutil
 import subprocess
 import tempfile
 import threading
-import time
+
+import checking
 
 NAMES = ("chromium", "chromium-browser", "google-chrome", "google-chrome-stable", "chrome")
 WORDS = ["--headless=new", "--no-sandbox", "--disable-gpu", "--hide-scrollbars", "--no-first-run", "--disable-extensions",
@@ -23,10 +24,10 @@ def chromium():
 
 
 class Browser:
-    """One tab. Everything waits for so many seconds at most."""
+    """One tab. Nothing is waited for in it any more where what it shows has ended, by `has_ended`."""
 
-    def __init__(self, wait=20, size=(1400, 900)):
-        self.wait, self.calls, self.replies, self.events = wait, 0, {}, []
+    def __init__(self, size=(1400, 900), has_ended=lambda: False):
+        self.calls, self.replies, self.has_ended = 0, {}, has_ended
         self.errors, self.requests, self.told = [], [], threading.Condition()
         self.folder = tempfile.mkdtemp(prefix="casa-browser-")
         ours_read, theirs_write = os.pipe()
@@ -81,7 +82,7 @@ class Browser:
             if self.session:
                 message["sessionId"] = self.session
             os.write(self.ours_write, json.dumps(message).encode() + b"\0")
-            if not self.told.wait_for(lambda: number in self.replies, self.wait):
+            if not self.told.wait_for(lambda: number in self.replies, checking.QUIET):
                 raise TimeoutError(method)
             reply = self.replies.pop(number)
         if "error" in reply:
@@ -110,12 +111,12 @@ class Browser:
 
     def until(self, script):
         """Waits until an expression holds, and tells whether it does."""
-        end = time.monotonic() + self.wait
-        while time.monotonic() < end:
-            if self.get(f"!!({script})"):
-                return True
-            time.sleep(0.03)
-        return False
+        def holds():
+            if self.has_ended():
+                raise ConnectionError("what is shown has ended")
+            return self.get(f"!!({script})")
+
+        return checking.until(holds, pause=0.03)
 
     def click(self, selector):
         """Presses what a selector names in its middle, as a mouse does."""
@@ -155,7 +156,7 @@ class Browser:
         try:
             self.session = None
             self.call("Browser.close")
-            self.process.wait(self.wait)
+            self.process.wait(checking.QUIET)
         except (OSError, TimeoutError, RuntimeError, subprocess.TimeoutExpired):
             self.process.kill()
             self.process.wait()

@@ -5,7 +5,6 @@ import collections
 import importlib.machinery
 import importlib.util
 import json
-import pathlib
 import random
 import socket
 import struct
@@ -14,11 +13,10 @@ import threading
 import time
 import traceback
 
+import checking
 import lives
-from lives import NUMBER, WAIT
-
-HERE = pathlib.Path(__file__).resolve().parent
-TOP = HERE.parent
+from checking import HERE, QUIET, TOP, check
+from lives import NUMBER
 
 
 def loaded(name, path):
@@ -33,24 +31,12 @@ def loaded(name, path):
 stay, days, mock = loaded("stay", HERE / "stay"), loaded("page", HERE / "page"), loaded("mock", TOP / "page" / "mock")
 compact = mock.compact
 MOST = 1000  # entries that are told at once of what came of calls
+COMPARED = 4  # of what one who looks was told is compared, each with what a session of its own tells
 FEW = 300  # lines after which tests/opinion, which is slow, is asked in the midst of many
 COMMON = [("cache-control", "no-store"), ("content-security-policy", mock.POLICY),
           ("cross-origin-resource-policy", "same-origin"), ("x-content-type-options", "nosniff")]
 HTML, JSON, LINES = "text/html; charset=utf-8", "application/json", "application/x-ndjson"
 METRICS = "text/plain; version=0.0.4; charset=utf-8"
-passed, failed, counting = 0, 0, threading.Lock()
-
-
-def check(name, holds, seen=""):
-    """Counts whether something holds, and tells where it does not."""
-    global passed, failed
-    with counting:
-        if holds:
-            passed += 1
-        else:
-            failed += 1
-            print(f"browsers: {name}: {seen!r}"[:1500], flush=True)
-    return holds
 
 
 # A browser, as bytes.
@@ -82,7 +68,7 @@ class Browser:
 
     def __init__(self, port, receive_buffer=None):
         self.host, self.socket = f"127.0.0.1:{port}", socket.socket()
-        self.socket.settimeout(WAIT)
+        self.socket.settimeout(QUIET)
         if receive_buffer:
             self.socket.setsockopt(socket.SOL_SOCKET, socket.SO_RCVBUF, receive_buffer)
         self.socket.connect(("127.0.0.1", port))
@@ -152,23 +138,19 @@ class Browser:
         return self.ask("POST", "/try", lines, f"Origin: http://{self.host}")
 
 
-def until_connected(port):
-    """Waits until somebody listens at the port."""
-    until = time.monotonic() + WAIT
-    while time.monotonic() < until:
-        with socket.socket() as probe:
-            if probe.connect_ex(("127.0.0.1", port)) == 0:
-                return
-        time.sleep(0.02)
-
-
 class Server(stay.Server):
     """A server that stays, with a page."""
 
     def __init__(self, program, *words, **more):
-        self.page = stay.free_port()
-        super().__init__(program, "--stay", "--page", str(self.page), *words, **more)
-        until_connected(self.page)
+        self.page = None
+        super().__init__(program, "--stay", *words, **more)
+
+    def ports(self):
+        self.page = checking.free_port()
+        return [*super().ports(), "--page", str(self.page)]
+
+    def is_begun(self):
+        return super().is_begun() and checking.is_listening(self.page)
 
     def __enter__(self):
         return self
@@ -345,7 +327,7 @@ class Asker(Peer):
 
     def __init__(self, port, seed, day):
         super().__init__(port, seed)
-        self.day, self.exchanges, self.stale, self.looker = day, [], [], None
+        self.day, self.exchanges, self.stale, self.looks, self.looker = day, [], [], 0, None
 
     def work(self, browser):
         lines = [self.day.line(self.dice) for _ in range(self.dice.randrange(1, 9))]
@@ -353,6 +335,7 @@ class Asker(Peer):
         self.exchanges += zip(lines, replies, strict=True)
         last = max((int(n) for reply in replies for n in NUMBER.findall(reply)), default=0)
         self.looker = self.looker or Browser(self.port)
+        self.looks += 1
         if (seen := self.looker.get("/state").value()["n"]) < last:
             self.stale.append((last, seen))
 
@@ -369,15 +352,17 @@ class Trier(Peer):
         self.told.append((body, browser.try_lines(body)))
         self.is_to_stop = self.is_to_stop or len(self.told) == self.count
 
-    def judge(self, name, program, lines):
-        """What it was told is what would have come behind the first calls of these lines."""
+    def judge(self, name, program, lines, most=COMPARED):
+        """What it was told is what would have come behind the first calls of these lines. Gives how much of it was compared."""
         told = [(json.loads(answer.body.splitlines()[-1])["before"]["n"], body, answer) for body, answer in self.told
                 if answer.status == 200]
         stood = [n for n, _, _ in told]
         check(f"{name}: no more is told than there is", max(stood, default=0) <= len(lines), stood[-3:])
         check(f"{name}: it never goes back", stood == sorted(stood), stood)
-        for n, body, answer in self.dice.sample(told, min(4, len(told))):
+        some = self.dice.sample(told, min(most, len(told)))
+        for n, body, answer in some:
             same(f"{name}: {body[:60]} behind {n}", answer, LINES, would_be(program, lines[:n], body))
+        return len(some)
 
 
 class Watcher(Peer):
@@ -409,7 +394,8 @@ class Watcher(Peer):
         return self.polls[-1][0] < self.position
 
     def judge(self, name, program, lines):
-        """What it saw is what stands after the first calls of these lines, and what it was told is what came of them."""
+        """What it saw is what stands after the first calls of these lines, and what it was told is what came of them. Gives how
+        much of what it saw was compared."""
         numbers = [n for n, _, _ in self.seen]
         most = max(numbers + [self.position])
         check(f"{name}: no more is seen than there is", most <= len(lines), (most, len(lines)))
@@ -417,17 +403,18 @@ class Watcher(Peer):
         check(f"{name}: no poll has too much", all(old <= new <= old + MOST for old, new in self.polls), self.polls)
         came = [{**news, "desk": 0} for news in self.news]
         check(f"{name}: what came of calls", came == days.Session(program, b"".join(lines[:self.position])).news)
-        for n, target, body in self.dice.sample(self.seen, min(4, len(self.seen))):
+        some = self.dice.sample(self.seen, min(COMPARED, len(self.seen)))
+        for n, target, body in some:
             check(f"{name}: {target} at {n}", Told(program, lines[:n]).is_at(target, body), body)
+        return len(some)
 
 
 def stopped(*threads):
     for thread in threads:
         thread.is_to_stop = True
     for thread in threads:
-        thread.join(WAIT)
-        fault = getattr(thread, "fault", None)
-        check("who is told to stop ends", not thread.is_alive() and fault is None, fault)
+        has_ended, fault = checking.joined([thread]), getattr(thread, "fault", None)
+        check("who is told to stop ends", has_ended and fault is None, fault)
 
 
 def numbered(exchanges):

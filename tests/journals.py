@@ -1,6 +1,7 @@
 """What becomes of a small journal that is cut, torn or damaged, and of one that can't be opened: scenes of tests/crash."""
 
 import concurrent.futures
+import itertools
 import json
 import os
 import pathlib
@@ -9,8 +10,10 @@ import shutil
 import subprocess
 import tempfile
 
+import checking
 import lives
-from lives import WAIT, Day, Server, check, kept_of, replies_to, whole_end
+from checking import check
+from lives import Day, Server, kept_of, replies_to, whole_end
 
 CALLS = 60  # of the small journal
 CUTS = 2000  # how many of its last bytes it is cut at
@@ -30,10 +33,10 @@ def check_refused(name, fault, path, before, status, said, line=None):
 def ended(words, lines=b"", **kind):
     """How a program ends that is given these lines: its status, its output, and what it says on standard error."""
     try:
-        done = subprocess.run(words, input=lines, capture_output=True, timeout=WAIT, **kind)
+        done = checking.run(words, input=lines, capture_output=True, **kind)
         return done.returncode, done.stdout, done.stderr.decode()
     except subprocess.TimeoutExpired:
-        return None, b"", f"it does not end in {WAIT} seconds"
+        return None, b"", "it does not end"
 
 
 def answered(program, path, *words, lines=LOOK, **kind):
@@ -63,7 +66,8 @@ class Small:
 
     def __init__(self, program):
         place = "/dev/shm" if os.access("/dev/shm", os.W_OK) else None
-        self.program, self.folder, self.count = program, tempfile.TemporaryDirectory(prefix="crash", dir=place), 0
+        self.program, self.folder = program, tempfile.TemporaryDirectory(prefix="crash", dir=place)
+        self.numbers = itertools.count(1)  # which threads take in turn
         path = self.put(b"")
         self.calls = [line for line in Day().lines(2 * CALLS, 4) if line != b"{}\n"][:CALLS]
         self.status, self.replies, self.said = answered(program, path, lines=b"".join(self.calls))
@@ -78,8 +82,7 @@ class Small:
 
     def put(self, text):
         """A file of its own with this text."""
-        self.count += 1
-        path = pathlib.Path(self.folder.name) / f"day{self.count}"
+        path = pathlib.Path(self.folder.name) / f"day{next(self.numbers)}-"
         path.write_bytes(text)
         return path
 

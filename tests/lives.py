@@ -4,9 +4,7 @@ A journal is a file of lines, one for each committed call, in their order, with 
 whole lines: those that are ended by a line feed and stand before its first NUL.
 """
 
-import collections
 import contextlib
-import itertools
 import json
 import os
 import pathlib
@@ -17,31 +15,14 @@ import signal
 import socket
 import struct
 import subprocess
-import sys
 import threading
 import time
 
-HERE = pathlib.Path(__file__).resolve().parent
-TEST = pathlib.Path(sys.argv[0]).name
-WAIT = 20  # seconds
+import checking
+from checking import MUCH, QUIET, check, free_port, until
+
 MOST_TORN = 1 << 20  # bytes, of one batch
 NUMBER = re.compile(rb'"n":(\d+)')
-PORTS = itertools.cycle(range(12_000 + os.getpid() % 1000 * 20, 32_700))
-passed, failed, counting, told_often = 0, 0, threading.Lock(), collections.Counter()
-
-
-def check(name, holds, seen=""):
-    """Counts whether something holds, and tells where it does not, three times of each name."""
-    global passed, failed
-    with counting:
-        if holds:
-            passed += 1
-            return True
-        failed += 1
-        told_often[name] += 1
-        if told_often[name] <= 3:
-            print(f"{TEST}: {name}: {seen[-600:] if isinstance(seen, str) else repr(seen)[-600:]}", flush=True)
-        return False
 
 
 # The file, as this test reads it.
@@ -95,7 +76,7 @@ def call_of(line):
 
 def replies_to(program, text):
     """The lines with which `casa run` answers these lines, alone and with no journal."""
-    session = subprocess.run([program, "run"], input=text, stdout=subprocess.PIPE, timeout=10 * WAIT)
+    session = checking.run([program, "run"], input=text, stdout=subprocess.PIPE)
     return session.stdout.splitlines(keepends=True)
 
 
@@ -223,8 +204,7 @@ class Desks:
         """What they were told, when they have ended: by its number, each line with its reply."""
         told, twice = {}, []
         for desk in self.desks:
-            desk.join(WAIT)
-            check("a desk ends", not desk.is_alive())
+            check("a desk ends", checking.joined([desk], self.count))
             for line, reply in desk.exchanges:
                 number = NUMBER.search(reply)
                 if number is None:
@@ -286,7 +266,7 @@ class Server:
     def connect(self, at_socket=False):
         at_socket = at_socket and self.path is not None
         connection = socket.socket(socket.AF_UNIX if at_socket else socket.AF_INET)
-        connection.settimeout(WAIT)
+        connection.settimeout(QUIET)
         try:
             connection.connect(self.path if at_socket else ("127.0.0.1", self.port))
             if not at_socket:
@@ -299,39 +279,38 @@ class Server:
     def first(self):
         """A connection over which a line was answered that is no call, as soon as there is one; none if the server ends before
         that. Then it has opened its journal."""
-        until = time.monotonic() + WAIT
-        while time.monotonic() < until and self.process.poll() is None:
-            try:
+        found = []
+
+        def is_over():
+            with contextlib.suppress(OSError):
                 connection = self.connect()
                 if asked_of(connection, [b"{}\n"]) == [b'{"fault":"NoCommand"}\n']:
-                    return connection
-                connection.close()
-            except OSError:
-                time.sleep(0.002)
-        return None
+                    found.append(connection)
+                else:
+                    connection.close()
+            return found or self.process.poll() is not None
+
+        until(is_over, pause=0.002)
+        return found[0] if found else None
 
     def has_said(self, part):
-        """Whether it says this before long."""
-        until = time.monotonic() + WAIT
-        while not (has := any(part in line for line in self.said)) and time.monotonic() < until:
-            time.sleep(0.002)
-        return has
+        """Whether it says this before it says nothing more for long."""
+        return until(lambda: any(part in line for line in self.said), lambda: min(len(self.said), MUCH), pause=0.002)
 
     def kill(self):
         """Kills it in the middle of what it does."""
         self.process.kill()
-        self.process.wait(WAIT)
-        self.reader.join(WAIT)
+        self.process.wait(QUIET)
+        self.reader.join(QUIET)
         RUNNING.discard(self)
 
-    def ended(self, seconds=WAIT):
-        """How it ends by itself: its status, and what it says; none where it does not."""
-        try:
-            self.process.wait(seconds)
-        except subprocess.TimeoutExpired:
+    def ended(self, count=lambda: 0):
+        """How it ends by itself: its status, and what it says; none where it does not, though nothing goes on any more, of which
+        this is the count, or very much has."""
+        if not until(lambda: self.process.poll() is not None, lambda: min(count() + len(self.said), MUCH), pause=0.002):
             self.kill()
             return None, "".join(self.said)
-        self.reader.join(WAIT)
+        self.reader.join(QUIET)
         RUNNING.discard(self)
         return self.process.returncode, "".join(self.said)
 
@@ -344,24 +323,13 @@ def limited(size):
     return limit
 
 
-def free_port():
-    """A port on which nobody listens, and none that a connection gets by itself: another one each time. A program that another
-    thread is about to start holds this socket too for a moment, and a server may bind the port nevertheless."""
-    while True:
-        with counting, socket.socket() as asked, contextlib.suppress(OSError):
-            port = next(PORTS)
-            asked.setsockopt(socket.SOL_SOCKET, socket.SO_REUSEADDR, 1)
-            asked.bind(("127.0.0.1", port))
-            return port
-
-
 def stuff(connection):
     """Sends lines that are no calls, and reads none of the replies, until no more are taken."""
     connection.settimeout(0.3)
     with contextlib.suppress(TimeoutError):
         while True:
             connection.send(b"x\n" * 4096)
-    connection.settimeout(WAIT)
+    connection.settimeout(QUIET)
     return connection
 
 

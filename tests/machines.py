@@ -14,15 +14,15 @@ import sys
 import threading
 import time
 
-import lives
+import checking
+from checking import QUIET, TOP, until
 
-CLUSTER = lives.HERE.parent / "cluster"
+CLUSTER = TOP / "cluster"
 sys.path.insert(0, str(CLUSTER))
 
 import etcd
 import sessions
 
-WAIT = 60  # seconds
 PROCESSES, JOURNALS = [], set()
 
 
@@ -31,7 +31,7 @@ def kill_all():
     for process in PROCESSES:
         with contextlib.suppress(ProcessLookupError):
             process.kill()
-            process.wait(WAIT)
+            process.wait(QUIET)
     for journal in JOURNALS:
         shutil.rmtree(sessions.folder_of_twin(journal), ignore_errors=True)
 
@@ -48,10 +48,12 @@ def begin(words, log, **pipes):
 
 class Proxy:
     """Leads what connects to one port to another one. It can be cut, so that connections end and none is made, and stalled, so
-    that they stay and nothing comes through: for all, or for those of one server, which says in its requests who it is."""
+    that they stay and nothing comes through: for all, or for those of one server, which says in its requests who it is. It counts
+    what met that: connections that were ended or not made, and what was held back."""
 
     def __init__(self, target):
-        self.port, self.target, self.cut, self.stalled, self.ends = lives.free_port(), target, set(), set(), {}
+        self.port, self.target, self.cut, self.stalled, self.ends = checking.free_port(), target, set(), set(), {}
+        self.met = {"cut": 0, "stall": 0}
 
     async def listen(self):
         self.server = await asyncio.start_server(self.meet, "127.0.0.1", self.port)
@@ -62,7 +64,9 @@ class Proxy:
             head = await reader.readuntil(b"\r\n\r\n")
             found = re.search(rb"X-Server-From: (\w+)", head)
             source = int(found[1], 16) if found else None
-            if not self.cut & {source, "all"}:
+            if self.cut & {source, "all"}:
+                self.met["cut"] += 1
+            else:
                 other_reader, other_writer = await asyncio.open_connection("127.0.0.1", self.target)
                 ends.append(other_writer.transport)
                 self.ends[writer] = source, ends
@@ -74,6 +78,7 @@ class Proxy:
 
     async def pump(self, reader, writer, source):
         while data := await reader.read(1 << 16):
+            self.met["stall"] += bool(self.stalled & {source, "all"})
             while self.stalled & {source, "all"}:
                 await asyncio.sleep(0.02)
             writer.write(data)
@@ -90,6 +95,7 @@ class Proxy:
             self.cut.add(whom)
             for source, ends in list(self.ends.values()):
                 if whom in ("all", source):
+                    self.met["cut"] += 1
                     for end in ends:
                         end.abort()
 
@@ -104,7 +110,7 @@ class Proxies:
     def between(self, target):
         """One more."""
         proxy = Proxy(target)
-        asyncio.run_coroutine_threadsafe(proxy.listen(), self.loop).result(WAIT)
+        asyncio.run_coroutine_threadsafe(proxy.listen(), self.loop).result(QUIET)
         return proxy
 
     def let(self, proxies, *deed):
@@ -122,7 +128,7 @@ class Server:
 
     def __init__(self, number, folder, proxies):
         self.number, self.folder, self.process, self.member = number, folder, None, None
-        self.port, self.peer = lives.free_port(), lives.free_port()
+        self.port, self.peer = checking.free_port(), checking.free_port()
         self.proxy = proxies.between(self.peer)
         folder.mkdir()
 
@@ -138,7 +144,7 @@ class Server:
 
     def kill(self):
         self.process.kill()
-        self.process.wait(WAIT)
+        self.process.wait(QUIET)
 
 
 # Replicas.
@@ -160,21 +166,27 @@ class Replica:
     def kill(self):
         """What it was working on is cut off anywhere; its casa ends a little later, by itself."""
         self.process.kill()
-        return self.process.wait(WAIT)
+        return self.process.wait(QUIET)
 
     def end(self):
         self.process.send_signal(signal.SIGTERM)
-        return self.process.wait(WAIT)
+        return self.process.wait(QUIET)
+
+    def casa(self):
+        """The number of the casa that has the journal, if there is one."""
+        for child in checking.below(self.process.pid):
+            with contextlib.suppress(OSError):
+                if b"--journal" in pathlib.Path(f"/proc/{child}/cmdline").read_bytes():
+                    return child
+        return None
 
     def kill_casa(self):
         """Kills the casa that has the journal, if there is one: the replica ends."""
-        pid = self.process.pid
+        if (child := self.casa()) is None:
+            return None
         with contextlib.suppress(OSError):
-            for child in pathlib.Path(f"/proc/{pid}/task/{pid}/children").read_text().split():
-                if b"--journal" in pathlib.Path(f"/proc/{child}/cmdline").read_bytes():
-                    os.kill(int(child), signal.SIGKILL)
-                    return self.process.wait(WAIT)
-        return None
+            os.kill(child, signal.SIGKILL)
+        return self.process.wait(QUIET)
 
     def said(self):
         return self.log.read_text() if self.log.exists() else ""
@@ -224,11 +236,13 @@ class Desk:
             self.is_closed = True
 
     def kill(self):
-        """Kills it, and begins it again from its first line on."""
-        if self.process.poll() is None:
-            self.process.kill()
-            self.process.wait(WAIT)
-            self.start()
+        """Kills it, and begins it again from its first line on. Gives whether it was there to be killed."""
+        if self.process.poll() is not None:
+            return False
+        self.process.kill()
+        self.process.wait(QUIET)
+        self.start()
+        return True
 
 
 # The whole.
@@ -249,7 +263,7 @@ class Cluster:
         self.servers = [Server(number, folder / f"server{number}", self.proxies) for number in range(3)]
         for server in self.servers:
             server.start(self.servers)
-        for server, stand in zip(self.servers, self.stands(WAIT)):
+        for server, stand in zip(self.servers, self.stands()):
             server.member = stand
         self.replicas = [self.replica(f"r{number}", folder / f"replica{number}", program, number) for number in range(3)]
         self.desk_proxies = [self.proxies.between(server.port) for server in self.servers]
@@ -267,8 +281,8 @@ class Cluster:
     def link(self):
         return etcd.Link([f"127.0.0.1:{server.port}" for server in self.servers])
 
-    def stands(self, seconds):
-        """The member number of each server, when all three know what all know, and who leads; none if they do not so long."""
+    def stands(self):
+        """The member number of each server, when all three know what all know, and who leads; none if they do not for long."""
         async def stand_of(server):
             connection = etcd.Connection(f"127.0.0.1:{server.port}")
             try:
@@ -281,9 +295,13 @@ class Cluster:
 
         async def run():
             return await asyncio.gather(*map(stand_of, self.servers))
-        until = time.monotonic() + seconds
-        while None in (stands := asyncio.run(run())) and time.monotonic() < until:
-            time.sleep(0.2)
+        stands = []
+
+        def are_known():
+            stands[:] = asyncio.run(run())
+            return None not in stands
+
+        until(are_known, pause=0.2)
         return stands
 
     def entries(self, prefix, server=None):
