@@ -119,8 +119,8 @@ SCRIPTS = [
     ]),
     Script("calls", ["allocator::"], [
         edited("flights are issued a second early", r"^test .* FAILED", ("crates/casa_time/src/clock.rt", "= 7_200;", "= 7_201;")),
-        edited("a test has lost its mark", "tests ran, and there are at least",
-               ("tests/rattle/calls/allocator/time.rattle", "#[test]\nfn two_days", "fn two_days"), words=["two_days_have_moments"]),
+        edited("a test wants another text of a time", r"^test .*times_show_as_hour_and_minute .* FAILED",
+               ("tests/rattle/calls/allocator/time.rattle", '(36_005, b"1000")', '(36_005, b"1001")')),
     ], program=""),
     Script("growths", ["PLANTED"], [
         written("a refusal of memory is passed over", "no refusal stops it", "output", "ok, refused", "ok, without",
