@@ -8,7 +8,7 @@ use crate::front::Front;
 use crate::line::Line;
 use crate::opened::{Opened, cut};
 use crate::rule::{Asked, Cuts, Finds, Law, Named, Nothing, Writes};
-use casa_history::SharedEntry;
+use casa_history::Entry;
 use logbook::{Offer, Pen, Seen, Word};
 use std::marker::{Model, PhantomData};
 
@@ -78,7 +78,7 @@ impl<C, R, J: Named> Keeper<C, R, J> {
     }
 
     /// Adds an entry behind all others. The front, which had seen a beginning, has then seen all.
-    pub fn push(&mut self, front: &mut Front<C, R, J>, entry: &SharedEntry<C, R>)
+    pub fn push(&mut self, front: &mut Front<C, R, J>, entry: &Entry<C, R>)
         ensures pushed { self.new ≡ self.old ++ entry.now ∷ [] }
         ensures seen { front.new ≡ self.new }
         ensures known { IsPrefix front.old self.old }

@@ -14,4 +14,4 @@ pub use front::Front;
 pub use keeper::Keeper;
 pub use line::Line;
 pub use opened::Opened;
-pub use rule::{Law, Named};
+pub use rule::{Law, Named, Notes};

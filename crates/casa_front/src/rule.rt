@@ -1,9 +1,9 @@
 //! The rule of a book, what its steps tell, and what names a history.
 
 use crate::line::Line;
-use casa_history::SharedEntry;
+use casa_history::Entry;
 use logbook::{Gain, Pen, Plain, Play, Rule};
-use std::marker::Brand;
+use std::marker::{Brand, PhantomData};
 
 /// The rule of the book: each baton by which a line was written is used up.
 pub struct Law;
@@ -74,7 +74,7 @@ impl<C, R> Play<Line<C, R>, u64> for Finds {
 /// The line that a step writes: of this entry, with the baton `from`, and with `next` for the line after it.
 #[derive(Drop)]
 pub struct Asked<'a, C, R> {
-    pub entry: &'a SharedEntry<C, R>,
+    pub entry: &'a Entry<C, R>,
     pub from: &'a Pen,
     pub next: &'a Pen,
 }
@@ -93,10 +93,26 @@ pub trait Named {
 
     /// The history's name.
     ghost history: { HistoryName };
+
+    /// That of its notes, a history of their own: what was kept of it, and when.
+    ghost notes: { HistoryName };
 }
 
 impl Named for Brand {
     ghost use Rattle.casa_front.specs.Names.{no_name};
 
     ghost history = { no_name };
+
+    ghost notes = { no_name };
+}
+
+/// Names the notes of the history that J names, as a history.
+pub struct Notes<J> {
+    of: PhantomData<J>,
+}
+
+impl<J: Named> Named for Notes<J> {
+    ghost history = { J.notes };
+
+    ghost notes = { J.notes };
 }
