@@ -16,7 +16,7 @@ use Rattle.casa_day.proofs.Following.{get_middle, not_refused, right_take}
 use Rattle.casa_engine.specs.Fronts.{IsSeenIn}
 use Rattle.casa_day.specs.declared.event.OpenFault.{OpenFault}
 use Rattle.casa_keeper.specs.declared.recovery.RecoveryFault.{RecoveryFault}
-use Rattle.casa_keeper.specs.declared.recovery.RecoveryFault.TheVariants.{Refused, NotAlone, NotSetAside}
+use Rattle.casa_keeper.specs.declared.recovery.RecoveryFault.TheVariants.{Refused, NotAlone, MoreThanTorn, NotSetAside}
 use Rattle.casa_keeper.specs.Recoveries.{IfRefused}
 
 last_of : {A : Type 0} → (old new rest : List A) (e : A) → old ++ rest ≡ new → length new ≡ length old + 1 → slice_get new (length old) ≡ Some e → new ≡ old ++ e ∷ []
@@ -54,6 +54,7 @@ module _ {W C V D R : Type 0} (world : WorldOf W C V D R) (old new : List (Entry
 pub refused_for : (P Q : OpenFault → Type 0) (fault : RecoveryFault) → ((why : OpenFault) → P why → Q why) → IfRefused P fault → IfRefused Q fault
 refused_for P Q (Refused why) step is = step why is
 refused_for P Q NotAlone step is = is
+refused_for P Q (MoreThanTorn lines bytes) step is = is
 refused_for P Q NotSetAside step is = is
 
 -- a file that keeps a legal history is not refused for its lines

@@ -1,3 +1,3 @@
-pub mod Keepings
-pub mod Turns
+pub mod Openings
 pub mod Recoveries
+pub mod Torn

@@ -3,12 +3,12 @@
 ghost use Rattle.std.specs.Prelude.{◌≡◌};
 
 use crate::sealed::Sealed;
-use crate::shared::{SharedJournal, Unkept};
-use crate::synced::Synced;
+use crate::shared::SharedJournal;
 use casa_commit::Gate;
 use casa_day::Script;
 use casa_engine::{Engine, EngineName};
 use casa_flight::{Call, Reply};
+use casa_kept::{Synced, Unkept};
 use casa_tape::Tape;
 use casa_view::{Board, Store};
 use std::io;

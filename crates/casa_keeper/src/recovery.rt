@@ -11,8 +11,8 @@ ghost use Rattle.casa_engine.specs.Fronts.{front_of};
 ghost use Rattle.casa_day.specs.declared.event.OpenFault.TheVariants.{NoMemory, NotRead};
 ghost use Rattle.casa_day.specs.Faults.{open_fault};
 ghost use Rattle.casa_day.specs.Refusals.{IsRefused, IsRefusedAt};
-ghost use Rattle.casa_keeper.specs.declared.recovery.RecoveryFault.TheVariants.{NotSetAside, Refused};
-ghost use Rattle.casa_keeper.specs.Recoveries.{IfRefused};
+ghost use Rattle.casa_keeper.specs.declared.recovery.RecoveryFault.TheVariants.{Refused};
+ghost use Rattle.casa_keeper.specs.Recoveries.{IfRefused, IsOfEnd};
 
 use casa_commit::{Gate, World};
 use casa_day::{OpenFault, Script};
@@ -33,6 +33,9 @@ pub enum RecoveryFault {
     /// Somebody else asks the engine, too.
     #[error("somebody else asks the engine, too")]
     NotAlone,
+    /// More than a torn line stands behind the whole ones: so many bytes behind so many lines.
+    #[error("more than a torn line stands behind the {0} whole lines of the journal: {1} bytes")]
+    MoreThanTorn(usize, usize),
     /// What stands behind the whole lines could not be set aside.
     #[error("what stands behind the journal's whole lines could not be set aside")]
     NotSetAside,
@@ -74,7 +77,7 @@ pub fn replay<K: Store, L: EngineName, G: Gate<Board<K>>, S: Script<Call, Reply>
     ensures refused { IfErr result (IfRefused (λ why. (lines : List (List ℕ)) → AreLines lines
         → text.now ≡ journal_of lines
         → IsRefused S.Script ⟦<Board<K> as World>⟧ lines why)) }
-    ensures nothing_set_aside { ¬ (IsErrOf result NotSetAside) }
+    ensures of_lines { IfErr result (λ fault. ¬ (IsOfEnd fault)) }
     ensures nothing_read { ¬ (IsErrOf result (Refused NotRead)) }
 {
     let mut front = desk.front();
@@ -100,7 +103,7 @@ fn answer_all<K: Store, L: EngineName, G: Gate<Board<K>>, S: Script<Call, Reply>
     ensures refused { IfErr result (IfRefused (λ why. (lines : List (List ℕ)) → AreLines lines
         → text.now ≡ journal_of lines
         → IsRefused S.Script ⟦<Board<K> as World>⟧ lines why)) }
-    ensures nothing_set_aside { ¬ (IsErrOf result NotSetAside) }
+    ensures of_lines { IfErr result (λ fault. ¬ (IsOfEnd fault)) }
     ensures nothing_read { ¬ (IsErrOf result (Refused NotRead)) }
 {
     let mut rest = text;
@@ -130,7 +133,7 @@ fn answer_again<K: Store, L: EngineName, G: Gate<Board<K>>, S: Script<Call, Repl
         ⟦<Board<K> as World>⟧.opening (front_of desk.new)) }
     ensures refused { IfErr result (IfRefused (IsRefusedAt S.Script ⟦<Board<K> as World>⟧
         (front_of desk.old) position line.now)) }
-    ensures nothing_set_aside { ¬ (IsErrOf result NotSetAside) }
+    ensures of_lines { IfErr result (λ fault. ¬ (IsOfEnd fault)) }
     ensures nothing_read { ¬ (IsErrOf result (Refused NotRead)) }
 {
     let Some(call) = script.read(alloc, position, line)? else {

@@ -1,124 +1,114 @@
 //! The journal behind a lock.
 
-ghost use Rattle.std.specs.Prelude.{◌≡◌, ◌+◌, ◌≤◌, List, ℕ, length, IfOk, IfSome};
+ghost use Rattle.std.specs.Prelude.{◌≡◌, false, length, IfOk, IfSome};
 ghost use mathlib.Core.List.{IsPrefix};
-ghost use Rattle.casa_tape.specs.Journals.{IsSettled};
-ghost use Rattle.casa_day.specs.Scripts.{Say};
-ghost use Rattle.casa_keeper.specs.Keepings.{Has};
+ghost use Rattle.casa_kept.specs.Notes.{IsKeptFor};
 
-use crate::synced::Synced;
 use casa_commit::Gate;
-use casa_day::{Script, text_of};
+use casa_day::Script;
 use casa_engine::{Engine, EngineName};
 use casa_flight::{Call, Reply};
 use casa_front::{Front, Named};
-use casa_tape::{Tape, append};
+use casa_kept::{Kept, Synced, Unkept};
+use casa_tape::Tape;
 use casa_view::{Board, Store};
 use std::alloc::Global;
-use std::marker::{Model, PhantomData};
+use std::snapshot::Snapshot;
 use std::sync::{Condvar, Mutex, Wait};
-use thiserror::Error;
 
-/// Why the disk does not have what was answered.
-#[derive(Clone, Copy, PartialEq, Eq, Debug, Error)]
-pub enum Unkept {
-    /// The journal's file has failed, now or earlier.
-    #[error("the journal could not be written")]
-    Failed,
-    /// There is no memory for what would be written now.
-    #[error("there is no memory for what the journal lacks")]
-    NoMemory,
-}
-
-/// What the lock holds: the file, where it is neither taken by who writes it nor gone since it failed, and what it has on the
-/// disk, so many entries. Contracts see these.
-struct Keeping<C, R, S: Script<C, R>, L: Named, T: Tape> {
-    tape: Option<T>,
-    /// Whether the file has failed, so that it is gone.
-    is_broken: bool,
-    synced: Synced<C, R, L, T>,
+/// What the lock holds: the file, where nobody writes it now, and what it had on the disk when it was put there last, so many
+/// entries.
+struct Keeping<S: Script<Call, Reply>, L: Named, T: Tape> {
+    kept: Option<Kept<Call, Reply, S, L, T>>,
+    synced: Synced<Call, Reply, L, T>,
     count: usize,
-    script: PhantomData<S>,
+    ghost counted: { count ≡ length synced.front },
 }
 
-impl<C, R, S: Script<C, R>, L: Named, T: Tape> Model for Keeping<C, R, S, L, T> {
-    ghost use Rattle.std.specs.Prelude.{◌≡◌, List, length, IfSome};
-    ghost use Rattle.casa_history.specs.declared.entry.Entry.{Entry};
-    ghost use Rattle.casa_keeper.specs.Keepings.{Has};
-
-    ghost Value = { List (Entry C R) };
-
-    ghost view = { λ k. k.synced };
-
-    ghost invariant = { λ k. (k.count ≡ length k.synced)
-        × IfSome k.tape (Has S.Script T.Tape k.synced) };
-}
-
-impl<C, R, S: Script<C, R>, L: Named, T: Tape + Drop> Drop for Keeping<C, R, S, L, T> {
+impl<S: Script<Call, Reply>, L: Named, T: Tape + Drop> Drop for Keeping<S, L, T> {
     fn drop(self) {
         let Keeping {
-            tape: _,
-            is_broken: _,
+            kept: _,
             synced: _,
             count: _,
-            script: _,
         } = self;
     }
 }
 
-/// Whose turn it is: the disk has enough, which is this; or who asked is to write the file, which has this. With the number
-/// of entries.
-enum Turn<C, R, L: Named, T: Tape> {
-    Done(Synced<C, R, L, T>, usize),
-    Mine(T, Synced<C, R, L, T>, usize),
-}
-
-impl<C, R, S: Script<C, R>, L: Named, T: Tape + Drop> Keeping<C, R, S, L, T> {
+impl<S: Script<Call, Reply>, L: Named, T: Tape + Drop> Keeping<S, L, T> {
     /// How many entries the disk has.
     fn count(&self) -> usize
-        ensures { result ≡ length self.now }
+        ensures { result ≡ length self.now.synced.front }
     {
         self.count
     }
 
     /// Whether somebody writes the journal.
     fn is_taken(&self) -> bool {
-        self.tape.is_none() && !self.is_broken
+        self.kept.is_none()
     }
 
     /// What the disk has.
-    fn synced(&self) -> Synced<C, R, L, T>
-        ensures { result ≡ self.now }
+    fn synced(&self) -> Synced<Call, Reply, L, T>
+        ensures { result ≡ self.now.synced }
     {
         self.synced.again()
     }
 
-    /// Takes the file where nobody has it.
-    fn take(&mut self) -> Option<T>
-        ensures has { IfSome result (λ tape. Has S.Script T.Tape self.old tape) }
-        ensures same { self.new ≡ self.old }
+    /// Takes the file where nobody has it, and no write has failed.
+    fn take(&mut self) -> Option<Kept<Call, Reply, S, L, T>>
+        ensures { IfSome result (λ kept. kept.is_broken ≡ false) }
     {
-        self.tape.take()
+        let kept = self.kept.take()?;
+        if kept.is_broken() {
+            self.kept = Some(kept);
+            return None;
+        }
+        Some(kept)
     }
 
-    /// Puts the file back, and what it has, so many entries; or nothing, where it has failed.
-    fn put_back(&mut self, tape: Option<T>, synced: Synced<C, R, L, T>, count: usize)
-        requires count { count ≡ length synced }
-        requires has { IfSome tape (Has S.Script T.Tape synced) }
+    /// Puts the file back. What it has now is what the disk has, where no write has failed.
+    fn put_back(&mut self, kept: Kept<Call, Reply, S, L, T>) {
+        if !kept.is_broken() {
+            self.count = kept.count();
+            self.synced = kept.synced();
+        }
+        self.kept = Some(kept);
+    }
+
+    /// As `keeps` of the journal.
+    fn keeps(
+        &mut self,
+        synced: &Synced<Call, Reply, L, T>,
+    ) -> Option<(Front<Call, Reply, L>, Snapshot<T>)>
+        ensures { IfSome result (λ now. IsKeptFor S.Script T.Tape now.0 now.1.value synced.now) }
     {
-        self.is_broken = tape.is_none();
-        self.tape = tape;
-        self.synced = synced;
-        self.count = count;
+        match &mut self.kept {
+            Some(kept) => Some(kept.keeps(synced)),
+            None => None,
+        }
     }
 }
 
-/// The journal of an engine, for the desks of all threads. Its lines are of the script S, and its file is T.
+/// Whose turn it is: what the disk has, so many entries; and, where that is too few and who asked is to write them, the file, of
+/// which no write has failed.
+struct Turn<S: Script<Call, Reply>, L: Named, T: Tape> {
+    synced: Synced<Call, Reply, L, T>,
+    count: usize,
+    mine: Option<Kept<Call, Reply, S, L, T>>,
+}
+
+/// The journal of an engine, for the desks of all threads. Its lines are of the script S, its file is T, and L names the
+/// engine's history, and the notes of what the file had of it, and when.
+///
+/// Each comes of `open`. A crash at any moment since a `Synced` was noted leaves a file that keeps all of it, whoever has it
+/// and whoever wrote since, also where a write failed (`keeps`). Nothing is cut from the file: nobody gets the tape back.
 pub struct SharedJournal<S: Script<Call, Reply>, L: Named, T: Tape> {
-    keeping: Mutex<Keeping<Call, Reply, S, L, T>>,
+    keeping: Mutex<Keeping<S, L, T>>,
     changed: Condvar,
     script: S,
     alloc: Global,
+    opening: Synced<Call, Reply, L, T>,
 }
 
 impl<S: Script<Call, Reply> + Drop, L: Named, T: Tape + Drop> Drop for SharedJournal<S, L, T> {
@@ -128,38 +118,50 @@ impl<S: Script<Call, Reply> + Drop, L: Named, T: Tape + Drop> Drop for SharedJou
             changed: _,
             script: _,
             alloc: _,
+            opening: _,
         } = self;
     }
 }
 
 impl<S: Script<Call, Reply> + Drop, L: EngineName, T: Tape + Drop> SharedJournal<S, L, T> {
-    ghost use Rattle.casa_keeper.specs.Turns.{IsTurn};
-
-    /// The journal in this file, whose lines say what the front has seen, so many entries, and are on the disk.
-    pub fn new(
-        alloc: Global,
-        script: S,
-        tape: T,
-        front: &Front<Call, Reply, L>,
-        count: usize,
-    ) -> Self
-        requires said { (lines : List (List ℕ)) × IsSettled T.Tape tape lines × Say S.Script 1 lines front.now }
-        requires count { count ≡ length front.now }
+    /// The journal in this file.
+    pub(crate) fn of(alloc: Global, script: S, kept: Kept<Call, Reply, S, L, T>) -> Self
+        requires { kept.is_broken ≡ false }
+        ensures front { result.opening.front ≡ kept.front }
+        ensures notes { result.opening.notes ≡ kept.notes }
     {
-        let synced = Synced::of(&script, &tape, front);
+        let opening = kept.synced();
         let keeping = Keeping {
-            tape: Some(tape),
-            is_broken: false,
-            synced,
-            count,
-            script: PhantomData,
+            synced: kept.synced(),
+            count: kept.count(),
+            kept: Some(kept),
         };
         SharedJournal {
             keeping: Mutex::new(keeping),
             changed: Condvar::new(),
             script,
             alloc,
+            opening,
         }
+    }
+
+    /// What it had when it was opened.
+    pub fn opening(&self) -> Synced<Call, Reply, L, T>
+        ensures { result ≡ self.now.opening }
+    {
+        self.opening.again()
+    }
+
+    /// What the file has of the history, and the file as it stands; `None` while somebody writes it. A crash at any moment
+    /// since it was noted that it has what was handed out here leaves a file that keeps all of that.
+    pub fn keeps<R: Wait>(
+        &self,
+        rt: &R,
+        synced: &Synced<Call, Reply, L, T>,
+    ) -> Option<(Front<Call, Reply, L>, Snapshot<T>)>
+        ensures { IfSome result (λ now. IsKeptFor S.Script T.Tape now.0 now.1.value synced.now) }
+    {
+        self.keeping.lock(rt).keeps(synced)
     }
 
     /// Waits until the disk has all entries that the engine has now, and writes them where nobody else does. What the disk
@@ -175,14 +177,12 @@ impl<S: Script<Call, Reply> + Drop, L: EngineName, T: Tape + Drop> SharedJournal
         engine: &Engine<K, L, G>,
         front: &Front<Call, Reply, L>,
     ) -> Result<Synced<Call, Reply, L, T>, Unkept>
-        ensures { IfOk result (λ synced. IsPrefix front.now synced) }
+        ensures { IfOk result (λ synced. IsPrefix front.now synced.front) }
     {
         let mut seen = front.again();
         let needed = engine.see(rt, &mut seen);
-        let (synced, count) = match self.turn(rt, needed)? {
-            Turn::Done(synced, count) => (synced, count),
-            Turn::Mine(tape, had, count) => self.write(rt, engine, tape, had, count)?,
-        };
+        let turn = self.turn(rt, needed)?;
+        let (synced, count) = self.write_in_turn(rt, engine, turn)?;
         if count < needed {
             return Err(Unkept::Failed);
         }
@@ -190,72 +190,88 @@ impl<S: Script<Call, Reply> + Drop, L: EngineName, T: Tape + Drop> SharedJournal
         Ok(synced)
     }
 
-    /// Waits while somebody writes and the disk has fewer entries than these.
-    fn turn<R: Wait>(&self, rt: &R, needed: usize) -> Result<Turn<Call, Reply, L, T>, Unkept>
-        ensures { IfOk result (IsTurn S.Script T.Tape) }
+    /// Waits while somebody writes and the disk has fewer entries than these. `Failed` where a write has failed, and it has
+    /// fewer.
+    fn turn<R: Wait>(&self, rt: &R, needed: usize) -> Result<Turn<S, L, T>, Unkept>
+        ensures count { IfOk result (λ turn. turn.count ≡ length turn.synced.front) }
+        ensures mine { IfOk result (λ turn. IfSome turn.mine (λ kept. kept.is_broken ≡ false)) }
     {
         let keeping = self.keeping.lock(rt);
-        let mut keeping = self.changed.wait_while(
-            rt,
-            keeping,
-            |k: &mut Keeping<Call, Reply, S, L, T>| -> bool { k.count() < needed && k.is_taken() },
-        );
+        let mut keeping = self
+            .changed
+            .wait_while(rt, keeping, |k: &mut Keeping<S, L, T>| -> bool {
+                k.count() < needed && k.is_taken()
+            });
         let count = keeping.count();
         let synced = keeping.synced();
         if count >= needed {
-            return Ok(Turn::Done(synced, count));
+            return Ok(Turn {
+                synced,
+                count,
+                mine: None,
+            });
         }
-        match keeping.take() {
-            Some(tape) => Ok(Turn::Mine(tape, synced, count)),
-            None => Err(Unkept::Failed),
+        let Some(kept) = keeping.take() else {
+            return Err(Unkept::Failed);
+        };
+        Ok(Turn {
+            synced,
+            count,
+            mine: Some(kept),
+        })
+    }
+
+    /// Writes, where it is the turn of who asks. What the disk has then, so many entries. Errors as of `write`.
+    fn write_in_turn<K: Store, G: Gate<Board<K>>, R: Wait>(
+        &self,
+        rt: &R,
+        engine: &Engine<K, L, G>,
+        turn: Turn<S, L, T>,
+    ) -> Result<(Synced<Call, Reply, L, T>, usize), Unkept>
+        requires count { turn.count ≡ length turn.synced.front }
+        requires mine { IfSome turn.mine (λ kept. kept.is_broken ≡ false) }
+        ensures { IfOk result (λ r. r.1 ≡ length r.0.front) }
+    {
+        let Turn {
+            synced,
+            count,
+            mine,
+        } = turn;
+        match mine {
+            None => Ok((synced, count)),
+            Some(kept) => self.write(rt, engine, kept),
         }
     }
 
-    /// Writes the entries that the file lacks, and puts it back. What the disk has then, so many entries.
+    /// Writes the entries that the file lacks, and puts it back. What the disk has then, so many entries. `NoMemory` where
+    /// there is none for the entries or their text, and `Failed` where the file could not be written or synced.
     fn write<K: Store, G: Gate<Board<K>>, R: Wait>(
         &self,
         rt: &R,
         engine: &Engine<K, L, G>,
-        tape: T,
-        had: Synced<Call, Reply, L, T>,
-        count: usize,
+        kept: Kept<Call, Reply, S, L, T>,
     ) -> Result<(Synced<Call, Reply, L, T>, usize), Unkept>
-        requires has { Has S.Script T.Tape had tape }
-        requires count { count ≡ length had }
-        ensures { IfOk result (λ r. r.1 ≡ length r.0) }
+        requires { kept.is_broken ≡ false }
+        ensures { IfOk result (λ r. r.1 ≡ length r.0.front) }
     {
-        let mut tape = tape;
-        let mut all = had.front();
-        let Ok(behind) = engine.entries_behind(rt, &mut all, count) else {
-            self.put_back(rt, Some(tape), had, count);
+        let mut kept = kept;
+        let mut all = kept.synced().front();
+        let Ok(behind) = engine.entries_behind(rt, &mut all, kept.count()) else {
+            self.put_back(rt, kept);
             return Err(Unkept::NoMemory);
         };
-        let Ok(text) = text_of(self.alloc, &self.script, count, &behind) else {
-            self.put_back(rt, Some(tape), had, count);
-            return Err(Unkept::NoMemory);
-        };
-        let Ok(()) = append(&mut tape, &text) else {
-            self.put_back(rt, None, had, count);
-            return Err(Unkept::Failed);
-        };
-        let count = count + behind.len();
-        let synced = Synced::of(&self.script, &tape, &all);
-        self.put_back(rt, Some(tape), synced.again(), count);
+        if let Err(fault) = kept.write(self.alloc, &self.script, &all, &behind) {
+            self.put_back(rt, kept);
+            return Err(fault);
+        }
+        let (synced, count) = (kept.synced(), kept.count());
+        self.put_back(rt, kept);
         Ok((synced, count))
     }
 
-    /// Puts the file back, or nothing where it has failed, and wakes who waits for it.
-    fn put_back<R: Wait>(
-        &self,
-        rt: &R,
-        tape: Option<T>,
-        synced: Synced<Call, Reply, L, T>,
-        count: usize,
-    )
-        requires count { count ≡ length synced }
-        requires has { IfSome tape (Has S.Script T.Tape synced) }
-    {
-        self.keeping.lock(rt).put_back(tape, synced, count);
+    /// Puts the file back, and wakes who waits for it.
+    fn put_back<R: Wait>(&self, rt: &R, kept: Kept<Call, Reply, S, L, T>) {
+        self.keeping.lock(rt).put_back(kept);
         self.changed.notify_all();
     }
 }

@@ -1,9 +1,8 @@
 //! What a journal has.
 
 use crate::fault::{ServiceFault, Trouble};
-use crate::torn::is_torn_line;
 use casa_commit::Desk;
-use casa_keeper::FileFault;
+use casa_keeper::{FileFault, is_torn_line};
 use casa_script::{RULES, call_at, line_vouches_for};
 use casa_session::{Lone, SessionFault, send};
 use casa_tape::{first_line, whole_end};

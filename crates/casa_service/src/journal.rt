@@ -1,6 +1,7 @@
 //! The journal of a service's engine.
 
-ghost use Rattle.std.specs.Prelude.{IfErr};
+ghost use Rattle.std.specs.Prelude.{◌≡◌, IfErr};
+ghost use Rattle.casa_front.specs.Openings.{history_name};
 ghost use Rattle.casa_service.specs.Faults.{IsOfJournal};
 
 use crate::fault::{ServiceFault, Trouble};
@@ -8,19 +9,24 @@ use crate::log::Log;
 use crate::torn::TornFiles;
 use casa_cli::Journal;
 use casa_commit::Gate;
-use casa_day::OpenFault;
+use casa_day::{OpenFault, Told};
 use casa_engine::{DeskPass, Engine, EngineName};
+use casa_front::Opened;
 use casa_keeper::{FileTape, LastError, RecoveryFault, SharedJournal, open};
 use casa_script::CallScript;
 use casa_view::{Board, Store};
 use std::alloc::Global;
 use std::fs::{File, Files};
+use std::io;
 use std::io::{Eprint, ErrorKind};
 use std::sync::Wait;
 use std::time::{Clock, Instant};
 
 /// The journal of an engine in a file of the system.
 pub(crate) type FileJournal<L> = SharedJournal<CallScript, L, FileTape>;
+
+/// The notes of what a journal's file has had, before a type names them.
+pub(crate) type BlankNotes = Opened<Told<FileTape>, ()>;
 
 /// Opens the journal of an engine that nobody has asked anything: the calls of its file are answered again, by this desk. How
 /// many they were and how long it took is said, and so is what was set aside. Where the file fails later, that is noted.
@@ -40,7 +46,9 @@ pub(crate) fn open_journal<
     desk: &mut DeskPass<K, L>,
     file: &Journal,
     last: &LastError,
+    notes: BlankNotes,
 ) -> Result<FileJournal<L>, ServiceFault>
+    requires { history_name notes ≡ L.notes }
     ensures { IfErr result IsOfJournal }
 {
     let path = file.path;
@@ -57,15 +65,16 @@ pub(crate) fn open_journal<
         alloc,
         log,
         path,
-        force: file.force,
-        trouble: None,
+        error: None,
     };
-    match open(rt, alloc, engine, desk, CallScript, tape, &mut aside) {
+    match open(
+        rt, alloc, engine, desk, CallScript, tape, &mut aside, file.force, notes,
+    ) {
         Ok((journal, count)) => {
             tell_opened(rt, log, path, count, begun);
             Ok(journal)
         }
-        Err((fault, _)) => Err(refusal_of(alloc, path, fault, aside.trouble, last)),
+        Err((fault, _)) => Err(refusal_of(alloc, path, fault, aside.error, last)),
     }
 }
 
@@ -94,7 +103,7 @@ fn refusal_of(
     alloc: Global,
     path: &str,
     fault: RecoveryFault,
-    trouble: Option<Trouble>,
+    error: Option<io::Error>,
     last: &LastError,
 ) -> ServiceFault
     ensures { IsOfJournal result }
@@ -105,16 +114,16 @@ fn refusal_of(
         RecoveryFault::NotAlone => Trouble::NotAlone,
         RecoveryFault::Refused(OpenFault::BadLine(line)) => Trouble::BadLine(line),
         RecoveryFault::Refused(OpenFault::ReplayDiffers(line)) => Trouble::ReplayDiffers(line),
-        RecoveryFault::NotSetAside => match trouble {
-            Some(Trouble::MoreThanTorn(line, bytes)) => Trouble::MoreThanTorn(line, bytes),
-            Some(Trouble::NotSetAside(error)) => {
-                if error.kind() == ErrorKind::OutOfMemory {
-                    return ServiceFault::NoMemory;
-                }
-                Trouble::NotSetAside(error)
+        RecoveryFault::MoreThanTorn(lines, bytes) => {
+            Trouble::MoreThanTorn(lines.saturating_add(1), bytes)
+        }
+        RecoveryFault::NotSetAside => {
+            let error = error.unwrap_or(io::Error::from(ErrorKind::Other));
+            if error.kind() == ErrorKind::OutOfMemory {
+                return ServiceFault::NoMemory;
             }
-            _ => Trouble::NotAlone,
-        },
+            Trouble::NotSetAside(error)
+        }
     };
     ServiceFault::of_journal(alloc, path, trouble)
 }

@@ -8,13 +8,14 @@ ghost use Rattle.casa_service.specs.Faults.{IsOfJournal};
 ghost use Rattle.casa_service.specs.Running.{HasRun, IsAnswered};
 
 use crate::fault::{JournalFault, ServiceFault, Trouble};
-use crate::journal::{FileJournal, open_journal};
+use crate::journal::{BlankNotes, FileJournal, open_journal};
 use crate::log::Log;
 use casa_cli::Journal;
 use casa_commit::Gate;
 use casa_engine::{
     Blank, DeskPass, Engine, EngineDesk, EngineName, blank, legal_histories_are_sequential,
 };
+use casa_front::Opened;
 use casa_keeper::{Held, JournalKeeper, Keeper, LastError, Unkept};
 use casa_plan::RecallingShared;
 use casa_session::{SessionFault, run};
@@ -53,7 +54,8 @@ pub fn run_journaled<R: Files<File = File> + Wait + Clock + Eprint + Sync, I: Re
         Ok(shelf) => shelf,
         Err(_) => return (Err(ServiceFault::NoMemory), writer),
     };
-    run_on::<Brand, Brand, R, I, O>(rt, alloc, &shelf, blank(), file, reader, writer)
+    let notes = Opened::new();
+    run_on::<Brand, Brand, R, I, O>(rt, alloc, &shelf, blank(), notes, file, reader, writer)
 }
 
 /// A shelf for the positions of versions. `AllocError` where there is no memory for it.
@@ -64,8 +66,8 @@ fn new_shelf(alloc: Global) -> Result<Arc<Seals>, AllocError> {
     }
 }
 
-/// Answers the lines by a desk of a new engine, whose ledger and history are these, and whose versions have their positions on
-/// this shelf.
+/// Answers the lines by a desk of a new engine, whose ledger, history and notes are these, and whose versions have their
+/// positions on this shelf.
 fn run_on<
     V: Shelving + Send + Sync,
     L: EngineName + Send + Sync,
@@ -77,6 +79,7 @@ fn run_on<
     alloc: Global,
     shelf: &Arc<Seals>,
     blank: Blank,
+    notes: BlankNotes,
     file: &Journal,
     reader: &mut I,
     writer: O,
@@ -84,6 +87,7 @@ fn run_on<
     requires shelf { arc_value shelf.now ≡ V.shelves }
     requires ledger { IsBlankOf L.name L.parts blank.ledger.name blank.ledger.parts }
     requires history { history_name blank.history ≡ L.history }
+    requires notes { history_name notes ≡ L.notes }
     ensures { HasRun (record {
       input = I.remaining reader.old;
       input_left = I.remaining reader.new;
@@ -94,7 +98,7 @@ fn run_on<
     let shelf: Shelf<V, R> = Shelf::new(shelf, rt);
     let gate = RecallingShared::new(alloc);
     match Engine::<Shelf<V, R>, L, RecallingShared>::new(alloc, shelf, blank, ENGINE, gate) {
-        Ok(engine) => run_kept(rt, alloc, &engine, file, reader, writer),
+        Ok(engine) => run_kept(rt, alloc, &engine, notes, file, reader, writer),
         Err(_) => (Err(ServiceFault::NoMemory), writer),
     }
 }
@@ -110,10 +114,12 @@ fn run_kept<
     rt: &R,
     alloc: Global,
     engine: &Engine<K, L, RecallingShared>,
+    notes: BlankNotes,
     file: &Journal,
     reader: &mut I,
     writer: O,
 ) -> (Result<(), ServiceFault>, O)
+    requires { history_name notes ≡ L.notes }
     ensures { HasRun (record {
       input = I.remaining reader.old;
       input_left = I.remaining reader.new;
@@ -121,7 +127,7 @@ fn run_kept<
       output_now = O.contents result.1;
     }) result.0 }
 {
-    let (pass, kept) = match open_kept(rt, alloc, engine, file) {
+    let (pass, kept) = match open_kept(rt, alloc, engine, notes, file) {
         Ok(opened) => opened,
         Err(fault) => return (Err(fault), writer),
     };
@@ -169,8 +175,10 @@ fn open_kept<
     rt: &R,
     alloc: Global,
     engine: &Engine<K, L, G>,
+    notes: BlankNotes,
     file: &Journal,
 ) -> Result<(DeskPass<K, L>, KeptJournal<L>), ServiceFault>
+    requires { history_name notes ≡ L.notes }
     ensures { IfErr result IsOfJournal }
 {
     let path = format!(in alloc; "{}", file.path)?;
@@ -179,7 +187,7 @@ fn open_kept<
     let Ok(mut pass) = engine.desk(rt) else {
         return Err(ServiceFault::NoMemory);
     };
-    let journal = open_journal(rt, alloc, &log, engine, &mut pass, file, &last)?;
+    let journal = open_journal(rt, alloc, &log, engine, &mut pass, file, &last, notes)?;
     let kept = KeptJournal {
         journal,
         path,

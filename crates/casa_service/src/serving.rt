@@ -8,12 +8,13 @@ ghost use Rattle.casa_engine.specs.Ledgers.{IsBlankOf};
 use crate::door::{Entrance, OpenDoor, Standing};
 use crate::ending::EndingKeeper;
 use crate::fault::{ServiceFault, Trouble};
-use crate::journal::open_journal;
+use crate::journal::{BlankNotes, open_journal};
 use crate::log::Log;
 use casa_cli::Journal;
 use casa_day::Script;
 use casa_engine::{Blank, Engine, EngineName, blank};
 use casa_flight::{Call, Reply};
+use casa_front::Opened;
 use casa_keeper::{JournalKeeper, Keeper, LastError, NoKeeper, SharedJournal, Syncs, Unkept};
 use casa_plan::RecallingShared;
 use casa_server::{DayClock, ServeFault, Served, moment_at, serve, serve_with_timer};
@@ -121,11 +122,12 @@ pub fn serve_desks<
         connections,
         timing,
     };
-    serve_on::<Brand, Brand, R>(rt, alloc, listener, &shelf, blank(), span, journal)
+    let notes = Opened::new();
+    serve_on::<Brand, Brand, R>(rt, alloc, listener, &shelf, blank(), notes, span, journal)
 }
 
-/// Serves the connections of this listener on a new engine, whose ledger and history are these, and whose versions have
-/// their positions on this shelf.
+/// Serves the connections of this listener on a new engine, whose ledger, history and notes are these, and whose versions
+/// have their positions on this shelf.
 fn serve_on<
     V: Shelving + Send + Sync,
     L: EngineName + Send + Sync,
@@ -136,19 +138,21 @@ fn serve_on<
     listener: Arc<Listener>,
     shelf: &Arc<Seals>,
     blank: Blank,
+    notes: BlankNotes,
     span: Span,
     journal: Option<Journal>,
 ) -> Result<Served, ServiceFault>
     requires shelf { arc_value shelf.now ≡ V.shelves }
     requires ledger { IsBlankOf L.name L.parts blank.ledger.name blank.ledger.parts }
     requires history { history_name blank.history ≡ L.history }
+    requires notes { history_name notes ≡ L.notes }
     ensures { IfOk result (λ served. served.sessions ≡ span.connections) }
 {
     let shelf: Shelf<V, R> = Shelf::new(shelf, rt);
     let gate = RecallingShared::new(alloc);
     let engine = Engine::<Shelf<V, R>, L, RecallingShared>::new(alloc, shelf, blank, ENGINE, gate)?;
     match journal {
-        Some(file) => serve_kept(rt, alloc, listener, &engine, span, &file),
+        Some(file) => serve_kept(rt, alloc, listener, &engine, notes, span, &file),
         None => serve_without(rt, alloc, listener, &engine, span),
     }
 }
@@ -163,16 +167,18 @@ fn serve_kept<
     alloc: Global,
     listener: Arc<Listener>,
     engine: &Engine<K, L, RecallingShared>,
+    notes: BlankNotes,
     span: Span,
     file: &Journal,
 ) -> Result<Served, ServiceFault>
+    requires { history_name notes ≡ L.notes }
     ensures { IfOk result (λ served. served.sessions ≡ span.connections) }
 {
     let (log, last) = (Log::new(rt, false), LastError::new(alloc)?);
     let Ok(mut desk) = engine.desk(rt) else {
         return Err(ServiceFault::NoMemory);
     };
-    let journal = open_journal(rt, alloc, &log, engine, &mut desk, file, &last)?;
+    let journal = open_journal(rt, alloc, &log, engine, &mut desk, file, &last, notes)?;
     let served = serve_written(rt, alloc, listener, engine, span, &log, &journal);
     // What the timer has done since the last reply.
     match journal.sync_all(rt, engine) {

@@ -10,13 +10,14 @@ use crate::browsers::{PageDoor, seat_browsers};
 use crate::door::{Door, Entrance, Standing};
 use crate::ending::EndingKeeper;
 use crate::fault::{ServiceFault, Trouble};
-use crate::journal::open_journal;
+use crate::journal::{BlankNotes, open_journal};
 use crate::log::Log;
 use crate::whole_day::WholeDay;
 use casa_cli::{Journal, Service};
 use casa_day::Script;
 use casa_engine::{Blank, Engine, EngineName, blank};
 use casa_flight::{Call, Reply};
+use casa_front::Opened;
 use casa_keeper::{JournalKeeper, Keeper, LastError, NoKeeper, SharedJournal, Syncs, Unkept};
 use casa_plan::RecallingShared;
 use casa_server::{Sat, SeatFault, ServeFault, Stayed, stay, stay_with_timer};
@@ -61,13 +62,23 @@ pub fn stay_desks<
     let Ok(shelf) = Arc::new(alloc, boxcar::Vec::new(alloc)?) else {
         return Err(ServiceFault::NoMemory);
     };
-    let sats = stay_on::<Brand, Brand, R>(rt, alloc, &log, &addresses, &shelf, blank(), service)?;
+    let notes = Opened::new();
+    let sats = stay_on::<Brand, Brand, R>(
+        rt,
+        alloc,
+        &log,
+        &addresses,
+        &shelf,
+        blank(),
+        notes,
+        service,
+    )?;
     tell_sum(&log, sats.as_slice());
     Ok(())
 }
 
-/// Answers the connections at these addresses on a new engine, whose ledger and history are these, and whose versions have
-/// their positions on this shelf.
+/// Answers the connections at these addresses on a new engine, whose ledger, history and notes are these, and whose
+/// versions have their positions on this shelf.
 fn stay_on<
     V: Shelving + Send + Sync,
     L: EngineName + Send + Sync,
@@ -79,17 +90,19 @@ fn stay_on<
     addresses: &Addresses,
     shelf: &Arc<Seals>,
     blank: Blank,
+    notes: BlankNotes,
     service: &Service,
 ) -> Result<Vec<Sat>, ServiceFault>
     requires shelf { arc_value shelf.now ≡ V.shelves }
     requires ledger { IsBlankOf L.name L.parts blank.ledger.name blank.ledger.parts }
     requires history { history_name blank.history ≡ L.history }
+    requires notes { history_name notes ≡ L.notes }
 {
     let shelf: Shelf<V, R> = Shelf::new(shelf, rt);
     let gate = RecallingShared::new(alloc);
     let engine = Engine::<Shelf<V, R>, L, RecallingShared>::new(alloc, shelf, blank, ENGINE, gate)?;
     match &service.journal {
-        Some(file) => stay_kept(rt, alloc, log, addresses, &engine, service, file),
+        Some(file) => stay_kept(rt, alloc, log, addresses, &engine, notes, service, file),
         None => stay_without(rt, alloc, log, addresses, &engine, service),
     }
 }
@@ -105,14 +118,17 @@ fn stay_kept<
     log: &Log<R>,
     addresses: &Addresses,
     engine: &Engine<K, L, RecallingShared>,
+    notes: BlankNotes,
     service: &Service,
     file: &Journal,
-) -> Result<Vec<Sat>, ServiceFault> {
+) -> Result<Vec<Sat>, ServiceFault>
+    requires { history_name notes ≡ L.notes }
+{
     let last = LastError::new(alloc)?;
     let Ok(mut desk) = engine.desk(rt) else {
         return Err(ServiceFault::NoMemory);
     };
-    let journal = open_journal(rt, alloc, log, engine, &mut desk, file, &last)?;
+    let journal = open_journal(rt, alloc, log, engine, &mut desk, file, &last, notes)?;
     let stayed = stay_written(rt, alloc, log, addresses, engine, service, &journal);
     // What the clock has done since the last reply.
     match journal.sync_all(rt, engine) {

@@ -1,6 +1,5 @@
 //! Where what a crash left of a line is kept.
 
-use crate::fault::Trouble;
 use crate::log::Log;
 use casa_keeper::{Aside, sync_name};
 use std::alloc::Global;
@@ -8,9 +7,6 @@ use std::fs::{File, Files};
 use std::io::{Eprint, ErrorKind, Write};
 use std::time::Clock;
 use std::{fs, io};
-
-/// How many bytes there are of a torn line, at most: more than the longest line has.
-const LONGEST_TEAR: usize = 1_048_576;
 
 /// How many torn ends are kept beside a journal, at most.
 const MOST_TORN: u32 = 1_000_000;
@@ -24,10 +20,8 @@ pub(crate) struct TornFiles<'t, 'g, 'r, 'p, R> {
     pub(crate) log: &'g Log<'r, R>,
     /// The path of the journal.
     pub(crate) path: &'p str,
-    /// Whether more than a torn line may be set aside, too.
-    pub(crate) force: bool,
     /// Why something was not set aside.
-    pub(crate) trouble: Option<Trouble>,
+    pub(crate) error: Option<io::Error>,
 }
 
 /// Of what is set aside no clause knows more than that it was asked for.
@@ -37,18 +31,14 @@ impl<'t, 'g, 'r, 'p, R: Files<File = File> + Eprint + Clock> Aside
 
     ghost has_refused = { λ _. Unit {0} };
 
-    fn set_aside(&mut self, lines: usize, torn: &[u8]) -> bool {
+    fn set_aside(&mut self, _lines: usize, torn: &[u8]) -> bool {
         if torn.is_empty() {
             return true;
-        }
-        if !self.force && !is_torn_line(torn) {
-            self.trouble = Some(Trouble::MoreThanTorn(lines.saturating_add(1), torn.len()));
-            return false;
         }
         match self.keep(torn) {
             Ok(()) => true,
             Err(error) => {
-                self.trouble = Some(Trouble::NotSetAside(error));
+                self.error = Some(error);
                 false
             }
         }
@@ -97,9 +87,4 @@ fn write_whole(file: File, bytes: &[u8]) -> io::Result<()> {
     let mut file = file;
     file.write_all(bytes)?;
     file.sync_all()
-}
-
-/// Whether this is a part of one line, or nothing: it has no line's end, and is no longer than a line may be.
-pub(crate) fn is_torn_line(torn: &[u8]) -> bool {
-    torn.len() <= LONGEST_TEAR && !torn.contains(&b'\n')
 }

@@ -1,8 +1,11 @@
-use Rattle.std.proofs.Common.{◌≡◌, Err, ap, rules}
-use Rattle.casa_tape.specs.Lines.{whole_lines}
+use Rattle.std.proofs.Common.{◌≡◌, ◌++◌, false, length, Err, refl, sym, ◌∙◌, ap, rules}
+use Rattle.casa_tape.specs.Lines.{journal_of, whole_lines}
 use Rattle.casa_tape.specs.Recovery.{lines_found}
 use Rattle.casa_tape.proofs.WholeLines.{parts}
 use Rattle.casa_day.proofs.Restoring.{if_err, refused_same, stands_on}
+use Rattle.casa_day.proofs.Saying.{say_length}
+use Rattle.casa_engine.specs.Fronts.{front_of}
+use Rattle.casa_keeper.specs.Torn.{IsTornLine}
 use Rattle.casa_keeper.proofs.Answered.{refused_for}
 use Rattle.casa_keeper.proofs.opening.restore.Goals as goal
 
@@ -37,3 +40,22 @@ returns-clause-restored g c =
       said = said.0;
       all = said.1;
     }
+
+pub returns-then-not-is_torn_line-clause-more_than_torn : goal.returns-then-not-is_torn_line-clause-more_than_torn
+returns-then-not-is_torn_line-clause-more_than_torn g c =
+    let found = c.in_ok-found.found in
+    let torn = c.torn-torn.result.now in
+    let unforced : c.args.force ≡ false = search rules in
+    let more : IsTornLine torn → ⊥ = search rules in
+    let said = c.in_ok-count.ensures.said (lines_found found) (parts found.bytes.items).are c.lines.ensures in (
+      unforced,
+      λ xs held.
+          let is : found.bytes.items ≡ xs = c.in_ok-found.ensures.found xs ((c.look.ensures.held xs).1 held) in
+          record {
+            torn = torn;
+            is = sym is ∙ sym c.torn-torn.ensures ∙ ap (λ ys. journal_of (whole_lines ys) ++ torn) is;
+            lines_are = ap (λ ys. length (whole_lines ys)) (sym is) ∙ say_length g.S.Script 1 (lines_found found) (front_of c.replay.new.desk) said.0 ∙ sym said.1;
+            bytes_are = refl;
+            more = more;
+          },
+    )

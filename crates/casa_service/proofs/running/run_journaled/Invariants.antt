@@ -9,4 +9,4 @@ abbrev pub ghosts-run_on-L-Ledger : goal.ghosts-run_on-L-Ledger
 ghosts-run_on-L-Ledger g a = record { name = a.blank.ledger.name; parts = a.blank.ledger.parts }
 
 abbrev pub ghosts-run_on-L-Named : goal.ghosts-run_on-L-Named
-ghosts-run_on-L-Named g a = record { history = history_name a.blank.history }
+ghosts-run_on-L-Named g a = record { history = history_name a.blank.history; notes = history_name a.notes }

@@ -9,4 +9,4 @@ abbrev pub ghosts-stay_on-L-Ledger : goal.ghosts-stay_on-L-Ledger
 ghosts-stay_on-L-Ledger g a = record { name = a.blank.ledger.name; parts = a.blank.ledger.parts }
 
 abbrev pub ghosts-stay_on-L-Named : goal.ghosts-stay_on-L-Named
-ghosts-stay_on-L-Named g a = record { history = history_name a.blank.history }
+ghosts-stay_on-L-Named g a = record { history = history_name a.blank.history; notes = history_name a.notes }
