@@ -228,6 +228,7 @@ impl<K: Store, L: EngineName> CountedRoom<Board<K>, L> {
         ensures sequential { OnOk result (IsSequential front.new) }
         ensures longer { OnOk result (IsPrefix front.old front.new) }
         ensures same_front { OnErr result (front.new ≡ front.old) }
+        ensures same { self.new.room ≡ self.old.room }
     {
         let lists = self.lists(alloc)?;
         self.see(front);

@@ -1,30 +1,25 @@
 //! Engines: shared rooms of boards.
 
-ghost use Rattle.std.specs.Prelude.{◌≡◌, ℕ, List, ⊤, IfOk, OnOk, OnErr};
-ghost use Rattle.std.proofs.Math.Logic.{∥∥₁_map};
+ghost use Rattle.std.specs.Prelude.{◌≡◌, List, IfOk, OnOk, OnErr};
 ghost use mathlib.Core.List.{IsPrefix};
 ghost use Rattle.casa_flight.specs.declared.call.Call.{Call};
 ghost use Rattle.casa_flight.specs.declared.reply.Reply.{Reply};
 ghost use Rattle.casa_history.specs.declared.entry.Entry.{Entry};
-ghost use Rattle.casa_history.specs.Entries.{receipts, desk_of};
 ghost use Rattle.casa_front.specs.Openings.{history_name};
 ghost use Rattle.casa_footprint.specs.Stamps.{state_after};
 ghost use Rattle.casa_plan.specs.Rooms.{IsSequential};
 ghost use Rattle.casa_engine.specs.Delays.{lists_in, IsAuditOf};
 ghost use Rattle.casa_engine.specs.Equality.{call_equality, reply_equality};
 ghost use Rattle.casa_engine.specs.Ledgers.{IsBlankOf};
-ghost use Rattle.casa_engine.specs.Passes.{pass_of};
-ghost use Rattle.casa_engine.specs.Receipts.{AreReceiptsOf};
 
 use crate::audit::{Audit, audit_shared};
 use crate::desk::SharedDesk;
 use crate::name::{Blank, EngineName};
 use crate::pass::CountedPass;
 use crate::shared::{Shareable, SharedRoom};
-use casa_commit::{CallFault, Desk, Gate, World};
+use casa_commit::Gate;
 use casa_flight::{Call, Reply};
 use casa_front::Front;
-use casa_history::Receipt;
 use casa_view::{Board, Store};
 use std::alloc::{AllocError, Global};
 use std::sync::Wait;
@@ -69,20 +64,19 @@ impl<K: Store, L: EngineName, G: Gate<Board<K>> + Drop> SharedRoom<Board<K>, L, 
     /// How many regulations are open, and the sum of the delays of the flights that they govern, after some history of a
     /// single thread. `AllocError` where there is no memory for it.
     ///
-    /// The lists are shared under the lock and their delays added without it, by several threads. That the history is the
-    /// engine's own, `audit_seen` says.
+    /// It is the engine's own history as it is then, which a front of its own sees: `audit_seen` says so of any front.
     pub fn audit<R: Threads + Wait + Sync>(&self, rt: &R) -> Result<Audit, AllocError>
         ensures { IfOk result (λ audit. (history : List (Entry Call Reply)) × IsSequential history
             × IsAuditOf (lists_in (state_after history)) audit) }
     {
-        let alloc = self.alloc;
-        let shared = self.hold(rt).lists(alloc);
-        let lists = shared?;
-        audit_shared(rt, alloc, lists.as_slice())
+        let mut front = self.front(rt);
+        self.audit_seen(rt, &mut front)
     }
 
     /// The same after the engine's own history as it is then, which the front sees from then on, and which begins with what
     /// it had seen. So who looks after a reply sees that reply's call. At `AllocError` the front is as it was.
+    ///
+    /// The lists are shared under the lock and their delays added without it, by several threads.
     pub fn audit_seen<R: Threads + Wait + Sync>(
         &self,
         rt: &R,
@@ -100,25 +94,5 @@ impl<K: Store, L: EngineName, G: Gate<Board<K>> + Drop> SharedRoom<Board<K>, L, 
         let audit = audit_shared(rt, alloc, lists.as_slice())?;
         *front = now;
         Ok(audit)
-    }
-}
-
-/// A desk of an engine has answered what its pass has receipts of: all of one desk, and each next after those before it
-/// in a legal history. Memory comes from the engine's allocator.
-impl<'a, K: Store, L: EngineName, G: Gate<Board<K>>, R: Wait> Desk for EngineDesk<'a, K, L, G, R> {
-    type Call = Call;
-
-    type Reply = Reply;
-
-    ghost answered = { λ desk. receipts (pass_of desk.pass) };
-
-    ghost lawful = { λ given. ∥ ((desk : ℕ) × AreReceiptsOf ⟦<Board<K> as World>⟧ desk given) ∥₁ };
-
-    ghost may_be_foreign = { ⊤ };
-
-    ghost always = { λ desk. ∥∥₁_map desk.pass.stand (λ stand. (desk_of (pass_of desk.pass), stand)) };
-
-    fn answer(&mut self, _alloc: Global, call: &Call) -> Result<Receipt<Call, Reply>, CallFault> {
-        EngineDesk::answer(self, call)
     }
 }

@@ -19,8 +19,11 @@ mod pass;
 mod shared;
 
 pub use audit::{Audit, audit_lists, audit_shared};
+pub use desk::SharedDesk;
 pub use engine::{DeskPass, Engine, EngineDesk};
 pub use laws::legal_histories_are_sequential;
 pub use look::{Look, look_on};
 pub use name::{Blank, EngineName};
 pub use parts::blank;
+pub use pass::CountedPass;
+pub use shared::{Shareable, SharedRoom};

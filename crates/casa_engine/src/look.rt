@@ -141,6 +141,7 @@ impl<K: Store, L: EngineName> CountedRoom<Board<K>, L> {
         ensures sequential { OnOk result (IsSequential front.new) }
         ensures longer { OnOk result (IsPrefix front.old front.new) }
         ensures same_front { OnErr result (front.new ≡ front.old) }
+        ensures same { self.new.room ≡ self.old.room }
     {
         let look = look_of(alloc, self.room())?;
         self.see(front);
@@ -162,6 +163,7 @@ impl<K: Store, L: EngineName> CountedRoom<Board<K>, L> {
         ensures sequential { OnOk result (IsSequential front.new) }
         ensures longer { OnOk result (IsPrefix front.old front.new) }
         ensures same_front { OnErr result (front.new ≡ front.old) }
+        ensures same { self.new.room ≡ self.old.room }
     {
         let view = view_of(self.room(), call)?;
         let calls = self.see(front);
@@ -182,6 +184,7 @@ impl<K: Store, L: EngineName> CountedRoom<Board<K>, L> {
         ensures sequential { OnOk result (IsSequential front.new) }
         ensures longer { OnOk result (IsPrefix front.old front.new) }
         ensures same_front { OnErr result (front.new ≡ front.old) }
+        ensures same { self.new.room ≡ self.old.room }
     {
         let _board = board_of(self.room());
         let found = shared_behind(alloc, self.room().history().entries(), position, most)?;

@@ -7,11 +7,17 @@ use Rattle.casa_flight.specs.declared.reply.Reply.{Reply}
 use Rattle.casa_history.specs.declared.entry.Entry.{Entry}
 use Rattle.casa_history.specs.declared.pass.Pass.{Pass}
 use Rattle.casa_history.specs.Entries.{receipts, receipts_of}
+use Rattle.casa_commit.specs.declared.world.World.{Ghosts as WorldOf}
+use Rattle.casa_commit.specs.Legal.{IsLegal}
 use Rattle.casa_plan.specs.Rooms.{IsSequential}
 use Rattle.casa_session.specs.declared.fault.SessionFault.{SessionFault}
 use Rattle.casa_session.specs.declared.fault.SessionFault.TheVariants.{LineTooLong, ReadFailed, WriteFailed, ForeignPass, NoMemory}
 use Rattle.casa_session.specs.Receipts.{Receipts}
 use Rattle.casa_session.specs.Transcript.{Ends}
+
+-- inner: each history that is legal in this world is one of a single thread
+abbrev pub AreSequential : {W V D : Type 0} → WorldOf W Call V D Reply → Type 0
+AreSequential world = (es : List (Entry Call Reply)) → IsLegal world.after world.reply world.opening es → IsSequential es
 
 -- the receipts of a desk that may not have been opened yet
 abbrev pub given_by : {P : Type 0} → (P → Pass Call Reply) → Option P → Receipts

@@ -3,12 +3,16 @@
 ghost use Rattle.std.specs.Prelude.{◌≡◌, IfOk, OnErr, None, Some};
 ghost use Rattle.casa_history.specs.Entries.{receipts};
 ghost use Rattle.casa_engine.specs.Passes.{pass_of};
-ghost use Rattle.casa_live.specs.Answered.{IsAnswered, text_told};
+ghost use Rattle.casa_live.specs.Answered.{AreSequential, IsAnswered, text_told};
 
 use casa_commit::Gate;
-use casa_engine::{DeskPass, Engine, EngineDesk, EngineName, legal_histories_are_sequential};
+use casa_engine::{
+    CountedPass, DeskPass, Engine, EngineName, Shareable, SharedDesk, SharedRoom,
+    legal_histories_are_sequential,
+};
 use casa_flight::{Call, Reply};
 use casa_front::Front;
+use casa_plan::Direct;
 use casa_session::{SessionFault, run};
 use casa_view::{Board, Store};
 use std::alloc::{AllocError, Global};
@@ -31,12 +35,31 @@ pub(crate) fn answer_lines<K: Store, L: EngineName, G: Gate<Board<K>> + Drop, R:
         (receipts (pass_of pass)) (receipts (pass_of result.1)) front.old front.new) }
 {
     legal_histories_are_sequential::<K>();
+    answer_in(rt, alloc, engine, pass, lines, front)
+}
+
+/// The same in any room, where legal histories are of one thread.
+fn answer_in<W: Shareable<Call = Call, Reply = Reply>, L: EngineName, G: Gate<W>, R: Wait>(
+    rt: &R,
+    alloc: Global,
+    room: &SharedRoom<W, L, G>,
+    pass: CountedPass<W, L>,
+    lines: &[u8],
+    front: &mut Front<Call, Reply, L>,
+) -> (Result<Vec<u8>, AllocError>, CountedPass<W, L>)
+where
+    Direct: Gate<W>,
+    ensures ok { IfOk result.0 (λ text. AreSequential W.World → IsAnswered lines.now (Some text.items)
+        (receipts (pass_of pass)) (receipts (pass_of result.1)) front.old front.new) }
+    ensures err { OnErr result.0 (AreSequential W.World → IsAnswered lines.now None
+        (receipts (pass_of pass)) (receipts (pass_of result.1)) front.old front.new) }
+{
     let mut reader = lines;
     let mut text = Vec::new(alloc);
-    let mut desk = EngineDesk::new(engine, rt, pass);
+    let mut desk = SharedDesk::new(room, rt, pass);
     let ended = run(alloc, &mut reader, &mut text, &mut desk);
     let mut seen = front.joined(&desk.front());
-    engine.see(rt, &mut seen);
+    room.see(rt, &mut seen);
     *front = seen;
     (told(ended, text), desk.into_pass())
 }

@@ -4,13 +4,13 @@ ghost use Rattle.casa_engine.specs.Passes.{pass_of};
 ghost use Rattle.casa_session.specs.Transcript.{Ends};
 ghost use Rattle.casa_server.specs.Serving.{IsSession};
 
-use casa_commit::{Gate, World};
-use casa_engine::{DeskPass, Engine, EngineDesk, EngineName};
+use casa_commit::Gate;
+use casa_engine::{CountedPass, EngineName, Shareable, SharedDesk, SharedRoom};
 use casa_flight::{Call, Reply};
 use casa_front::Front;
 use casa_history::Holds;
+use casa_plan::Direct;
 use casa_session::{SessionFault, run};
-use casa_view::{Board, Store};
 use std::alloc::Global;
 use std::io::{Read, Write};
 use std::sync::Wait;
@@ -33,37 +33,48 @@ pub(crate) type Ended<L> = (Result<u64, SessionFault>, Front<Call, Reply, L>);
 pub(crate) fn answer<
     I: Read + Drop,
     O: Write + Drop,
-    K: Store,
+    W: Shareable<Call = Call, Reply = Reply>,
     L: EngineName,
-    G: Gate<Board<K>>,
+    G: Gate<W>,
     R: Wait,
 >(
     rt: &R,
     alloc: Global,
-    engine: &Engine<K, L, G>,
-    connection: Connection<I, O, DeskPass<K, L>>,
+    room: &SharedRoom<W, L, G>,
+    connection: Connection<I, O, CountedPass<W, L>>,
 ) -> Ended<L>
-    ensures { IsSession ⟦<Board<K> as World>⟧ L.Named I.remaining O.contents result.1
+where
+    Direct: Gate<W>,
+    ensures { IsSession W.World L.Named I.remaining O.contents result.1
         connection.ends result.0 }
 {
     let Connection {
         ends: (mut reader, mut writer),
         pass,
     } = connection;
-    let (ended, pass) = session(rt, alloc, engine, pass, &mut reader, &mut writer);
+    let (ended, pass) = session(rt, alloc, room, pass, &mut reader, &mut writer);
     let front = pass.front();
     (ended, front)
 }
 
 /// Answers the lines of a reader at a writer by the desk of this pass, as every session does. Gives the pass back.
-pub(crate) fn session<K: Store, L: EngineName, G: Gate<Board<K>>, R: Wait, I: Read, O: Write>(
+pub(crate) fn session<
+    W: Shareable<Call = Call, Reply = Reply>,
+    L: EngineName,
+    G: Gate<W>,
+    R: Wait,
+    I: Read,
+    O: Write,
+>(
     rt: &R,
     alloc: Global,
-    engine: &Engine<K, L, G>,
-    pass: DeskPass<K, L>,
+    room: &SharedRoom<W, L, G>,
+    pass: CountedPass<W, L>,
     reader: &mut I,
     writer: &mut O,
-) -> (Result<u64, SessionFault>, DeskPass<K, L>)
+) -> (Result<u64, SessionFault>, CountedPass<W, L>)
+where
+    Direct: Gate<W>,
     ensures { Ends ⊤ result.0 (record {
       input = I.remaining reader.old;
       input_left = I.remaining reader.new;
@@ -73,7 +84,7 @@ pub(crate) fn session<K: Store, L: EngineName, G: Gate<Board<K>>, R: Wait, I: Re
       output_now = O.contents writer.new;
     }) }
 {
-    let mut desk = EngineDesk::new(engine, rt, pass);
+    let mut desk = SharedDesk::new(room, rt, pass);
     let ended = run(alloc, reader, writer, &mut desk);
     (ended, desk.into_pass())
 }

@@ -6,9 +6,10 @@ ghost use Rattle.casa_server.specs.Ticks.{IsTicked, ClockGives, Ticked, TicksTo}
 
 use crate::fault::TimerFault;
 use casa_commit::{Desk, Gate, World};
-use casa_engine::{Engine, EngineDesk, EngineName};
+use casa_engine::{Engine, EngineName, Shareable, SharedDesk, SharedRoom};
 use casa_flight::{Call, Reply};
 use casa_front::Front;
+use casa_plan::Direct;
 use casa_time::Moment;
 use casa_view::{Board, Store};
 use std::alloc::Global;
@@ -44,21 +45,29 @@ pub fn timer<K: Store, L: EngineName, G: Gate<Board<K>>, C: DayClock, R: Wait>(
 }
 
 /// The same, with what the timer's pass has seen.
-pub(crate) fn timer_seen<K: Store, L: EngineName, G: Gate<Board<K>>, C: DayClock, R: Wait>(
+pub(crate) fn timer_seen<
+    W: Shareable<Call = Call, Reply = Reply>,
+    L: EngineName,
+    G: Gate<W>,
+    C: DayClock,
+    R: Wait,
+>(
     rt: &R,
     alloc: Global,
     clock: &mut C,
-    engine: &Engine<K, L, G>,
+    room: &SharedRoom<W, L, G>,
     turns: u32,
 ) -> (Result<u32, TimerFault>, Front<Call, Reply, L>)
-    ensures { IfOk result.0 (IsTicked ⟦<Board<K> as World>⟧ L.Named result.1
+where
+    Direct: Gate<W>,
+    ensures { IfOk result.0 (IsTicked W.World L.Named result.1
         (C.coming clock.old) turns) }
 {
-    let pass = match engine.desk(rt) {
+    let pass = match room.desk(rt) {
         Ok(pass) => pass,
-        Err(fault) => return (Err(TimerFault::from(fault)), engine.front(rt)),
+        Err(fault) => return (Err(TimerFault::from(fault)), room.front(rt)),
     };
-    let mut desk = EngineDesk::new(engine, rt, pass);
+    let mut desk = SharedDesk::new(room, rt, pass);
     let accepted = keep_time(alloc, clock, &mut desk, turns);
     (accepted, desk.front())
 }

@@ -9,11 +9,11 @@ use crate::fault::ServeFault;
 use crate::source::Connections;
 use crate::watcher::Watcher;
 use casa_commit::{Gate, World};
-use casa_engine::{DeskPass, Engine, EngineName};
+use casa_engine::{CountedPass, EngineName, Shareable, SharedRoom};
 use casa_flight::{Call, Reply};
 use casa_front::Front;
 use casa_history::Holds;
-use casa_view::{Board, Store};
+use casa_plan::Direct;
 use std::alloc::Global;
 use std::marker::PhantomData;
 use std::snapshot::Snapshot;
@@ -61,19 +61,21 @@ impl<S: Connections, W: World<Call = Call, Reply = Reply>, L: EngineName> Promis
 /// `u64::MAX` were answered.
 pub(crate) fn sit<
     S: Connections + Drop,
-    K: Store,
+    W: Shareable<Call = Call, Reply = Reply>,
     L: EngineName,
-    G: Gate<Board<K>>,
+    G: Gate<W>,
     T: Watcher<S::Reader, S::Writer>,
     R: Wait,
 >(
     rt: &R,
     alloc: Global,
-    engine: &Engine<K, L, G>,
+    room: &SharedRoom<W, L, G>,
     watcher: &T,
-    seat: Seat<S, DeskPass<K, L>>,
+    seat: Seat<S, CountedPass<W, L>>,
 ) -> Left<L>
-    ensures { HasSat ⟦<Board<K> as World>⟧ L.Named S.Reader.remaining S.Writer.contents result.1
+where
+    Direct: Gate<W>,
+    ensures { HasSat W.World L.Named S.Reader.remaining S.Writer.contents result.1
         (S.coming seat.source) result.0 }
 {
     let Seat {
@@ -85,7 +87,7 @@ pub(crate) fn sit<
         faulted: 0,
     };
     'sitting: for _ in 0..u64::MAX {
-        let (answered, now) = answer_next(rt, alloc, engine, watcher, &mut source, pass);
+        let (answered, now) = answer_next(rt, alloc, room, watcher, &mut source, pass);
         pass = now;
         let Ok(is_faulted) = answered else {
             let front = pass.front();
@@ -104,19 +106,21 @@ pub(crate) fn sit<
 /// The source's fault where that gives no connection; nothing is answered then.
 fn answer_next<
     S: Connections,
-    K: Store,
+    W: Shareable<Call = Call, Reply = Reply>,
     L: EngineName,
-    G: Gate<Board<K>>,
+    G: Gate<W>,
     T: Watcher<S::Reader, S::Writer>,
     R: Wait,
 >(
     rt: &R,
     alloc: Global,
-    engine: &Engine<K, L, G>,
+    room: &SharedRoom<W, L, G>,
     watcher: &T,
     source: &mut S,
-    pass: DeskPass<K, L>,
-) -> (Result<bool, ServeFault>, DeskPass<K, L>)
+    pass: CountedPass<W, L>,
+) -> (Result<bool, ServeFault>, CountedPass<W, L>)
+where
+    Direct: Gate<W>,
     ensures answered { IfOk result.0 (λ is_faulted. (visit : Visit S.Reader S.Writer)
         × Gives (S.coming source.old) (S.coming source.new) (visit.0 ∷ [])
         × Answers S.Reader.remaining S.Writer.contents (receipts (pass_of pass))
@@ -129,7 +133,7 @@ fn answer_next<
         Ok(ends) => ends,
         Err(fault) => return (Err(fault), pass),
     };
-    let (ended, pass) = session(rt, alloc, engine, pass, &mut reader, &mut writer);
+    let (ended, pass) = session(rt, alloc, room, pass, &mut reader, &mut writer);
     let is_faulted = ended.is_err();
     watcher.ended(reader, writer, ended);
     (Ok(is_faulted), pass)

@@ -13,9 +13,10 @@ use crate::seat::{Left, Sat, Seat, SeatOf, sit};
 use crate::source::Connections;
 use crate::watcher::Watcher;
 use casa_commit::{Gate, World};
-use casa_engine::{Engine, EngineName};
+use casa_engine::{Engine, EngineName, Shareable, SharedRoom};
 use casa_flight::{Call, Reply};
 use casa_front::Front;
+use casa_plan::Direct;
 use casa_view::{Board, Store};
 use std::alloc::Global;
 use std::marker::PhantomData;
@@ -241,7 +242,7 @@ pub fn stay_with_timer<
     let ((stayed, answered), (accepted, seen)) = thread::join(
         rt,
         || stay_seen(rt, alloc, sources, engine, watcher),
-        || timer_told::<S::Reader, S::Writer, K, L, G, T, C, R>(
+        || timer_told::<S::Reader, S::Writer, Board<K>, L, G, T, C, R>(
             rt, alloc, clock, engine, watcher, turns,
         ),
     );
@@ -254,9 +255,9 @@ pub fn stay_with_timer<
 fn timer_told<
     I,
     O,
-    K: Store,
+    W: Shareable<Call = Call, Reply = Reply>,
     L: EngineName,
-    G: Gate<Board<K>>,
+    G: Gate<W>,
     T: Watcher<I, O>,
     C: DayClock,
     R: Wait,
@@ -264,14 +265,16 @@ fn timer_told<
     rt: &R,
     alloc: Global,
     clock: &mut C,
-    engine: &Engine<K, L, G>,
+    room: &SharedRoom<W, L, G>,
     watcher: &T,
     turns: u32,
 ) -> (Result<u32, TimerFault>, Front<Call, Reply, L>)
-    ensures { IfOk result.0 (IsTicked ⟦<Board<K> as World>⟧ L.Named result.1
+where
+    Direct: Gate<W>,
+    ensures { IfOk result.0 (IsTicked W.World L.Named result.1
         (C.coming clock.old) turns) }
 {
-    let (accepted, seen) = timer_seen(rt, alloc, clock, engine, turns);
+    let (accepted, seen) = timer_seen(rt, alloc, clock, room, turns);
     watcher.ticked(accepted);
     (accepted, seen)
 }
